@@ -1,0 +1,65 @@
+-- A world: its limits, its declared segments and its callers.
+use Rattle.std.specs.Prelude.{◌≡◌, ℕ, Bool, ◌&&◌, List, [], ◌∷◌, ◌++◌, Result, Ok, Err, if◌then◌else◌, nat_lt, ◌==◌, count_by}
+use Rattle.std.specs.List.{list_any}
+use Rattle.gaspi_types.specs.Ranges.{is_between}
+use Rattle.gaspi_types.specs.declared.shapes.Limits.{Limits}
+use Rattle.gaspi_types.specs.declared.shapes.Declared.{Declared}
+use Rattle.gaspi_types.specs.declared.shapes.CallerId.{CallerId}
+use Rattle.gaspi_types.specs.declared.shapes.ShapeFault.{ShapeFault}
+use Rattle.gaspi_types.specs.declared.shapes.ShapeFault.TheVariants as faults
+
+-- what a program starts from: the limits, the segments that are there from the start, and the threads that have
+-- a script, in the order in which they were declared
+pub record World : Type 0 where
+  pub limits : Limits
+  pub segments : List Declared
+  pub callers : List CallerId
+
+-- own choice: how large a world may be
+abbrev pub are_limits : Limits → Bool
+are_limits l =
+    is_between 1 16 l.ranks && (is_between 1 8 l.queues && (is_between 1 256 l.depth
+    && (is_between 1 1024 l.notes && (is_between 1 64 l.inbox && is_between 1 65536 l.events))))
+
+abbrev pub is_segment_size : ℕ → Bool
+is_segment_size size = is_between 1 1048576 size
+
+-- the world of these limits with nothing declared
+abbrev pub world_of : Limits → Result World ShapeFault
+world_of limits = if are_limits limits then Ok (record { limits = limits; segments = []; callers = [] }) else Err faults.Limit
+
+-- the segment of that rank and number
+abbrev pub is_segment : ℕ → ℕ → Declared → Bool
+is_segment rank segment d = (d.rank == rank) && (d.segment == segment)
+
+-- a segment declared: within the limits, and once
+abbrev pub segment_added : World → ℕ → ℕ → ℕ → Result World ShapeFault
+segment_added w rank segment size =
+    if nat_lt rank w.limits.ranks && (nat_lt segment 32 && is_segment_size size)
+    then (if list_any (is_segment rank segment) w.segments
+    then Err faults.Twice
+    else Ok (record { limits = w.limits; segments = w.segments ++ record { rank = rank; segment = segment; size = size } ∷ []; callers = w.callers }))
+    else Err faults.Limit
+
+abbrev pub is_caller : ℕ → ℕ → CallerId → Bool
+is_caller rank thread c = (c.rank == rank) && (c.thread == thread)
+
+-- a caller declared: within the limits, once, and no rank has more callers than it may record events, since each
+-- of them records its end
+abbrev pub caller_added : World → ℕ → ℕ → Result World ShapeFault
+caller_added w rank thread =
+    if nat_lt rank w.limits.ranks && nat_lt thread 4
+    then (if list_any (is_caller rank thread) w.callers
+    then Err faults.Twice
+    else (if nat_lt (count_by (λ c. c.rank == rank) w.callers) w.limits.events
+    then Ok (record { limits = w.limits; segments = w.segments; callers = w.callers ++ record { rank = rank; thread = thread } ∷ [] })
+    else Err faults.Threads))
+    else Err faults.Limit
+
+-- the world after a declaration that was tried: changed as the outcome says, and unchanged where it was refused
+abbrev pub Declares : Result (Unit {0}) ShapeFault → World → World → Result World ShapeFault → Type 0
+Declares (Ok done) old new outcome = outcome ≡ Ok new
+Declares (Err faults.NoMemory) old new outcome = new ≡ old
+Declares (Err faults.Limit) old new outcome = (outcome ≡ Err faults.Limit) × (new ≡ old)
+Declares (Err faults.Twice) old new outcome = (outcome ≡ Err faults.Twice) × (new ≡ old)
+Declares (Err faults.Threads) old new outcome = (outcome ≡ Err faults.Threads) × (new ≡ old)

@@ -1,0 +1,285 @@
+//! Ranks, threads, segments, queues and notification slots by their numbers.
+//!
+//! A contract sees each id as its number, which is below the limit of its kind.
+
+ghost use Rattle.std.specs.Prelude.{◌≡◌, ◌<◌, SomeIff};
+
+use crate::shapes::Shape;
+use std::marker::Model;
+
+/// The number of a rank, from 0. It is below 16.
+#[derive(Clone, Copy, Debug, PartialEq, Eq)]
+pub struct RankId {
+    number: u32,
+}
+
+impl Model for RankId {
+    ghost use Rattle.std.specs.Prelude.{ℕ, ◌<◌};
+
+    ghost Value = { ℕ };
+
+    ghost view = { λ id. id.number };
+
+    ghost invariant = { λ id. id.number < 16 };
+
+    ghost inverse = { λ n. record { number = n } };
+}
+
+impl RankId {
+    /// The id with a number in its range.
+    pub fn of(number: u32) -> RankId
+        requires { number < 16 }
+        ensures { result ≡ number }
+    {
+        RankId { number }
+    }
+
+    /// The rank with a number, exactly where it is below the number of ranks.
+    pub fn new(n: u64, shape: &Shape) -> Option<RankId>
+        ensures { SomeIff result (n < shape.now.limits.ranks) n }
+    {
+        if n < u64::from(shape.limits().ranks) {
+            Some(RankId { number: n as u32 })
+        } else {
+            None
+        }
+    }
+
+    /// Its number.
+    pub fn number(self) -> u32
+        ensures value { result ≡ self }
+        ensures bound { result < 16 }
+    {
+        self.number
+    }
+
+    /// Its number, as an index.
+    pub fn index(self) -> usize
+        ensures value { result ≡ self }
+        ensures bound { result < 16 }
+    {
+        self.number as usize
+    }
+}
+
+/// The number of a thread of a rank, from 0. It is below 4.
+#[derive(Clone, Copy, Debug, PartialEq, Eq)]
+pub struct ThreadId {
+    number: u32,
+}
+
+impl Model for ThreadId {
+    ghost use Rattle.std.specs.Prelude.{ℕ, ◌<◌};
+
+    ghost Value = { ℕ };
+
+    ghost view = { λ id. id.number };
+
+    ghost invariant = { λ id. id.number < 4 };
+
+    ghost inverse = { λ n. record { number = n } };
+}
+
+impl ThreadId {
+    /// The id with a number in its range.
+    pub fn of(number: u32) -> ThreadId
+        requires { number < 4 }
+        ensures { result ≡ number }
+    {
+        ThreadId { number }
+    }
+
+    /// The thread with a number, exactly where it is below 4.
+    pub fn new(n: u64, shape: &Shape) -> Option<ThreadId>
+        ensures { SomeIff result (n < 4) n }
+    {
+        let _ = shape;
+        if n < 4 {
+            Some(ThreadId { number: n as u32 })
+        } else {
+            None
+        }
+    }
+
+    /// Its number.
+    pub fn number(self) -> u32
+        ensures value { result ≡ self }
+        ensures bound { result < 4 }
+    {
+        self.number
+    }
+
+    /// Its number, as an index.
+    pub fn index(self) -> usize
+        ensures value { result ≡ self }
+        ensures bound { result < 4 }
+    {
+        self.number as usize
+    }
+}
+
+/// The number of a segment of a rank, from 0. It is below 32. (GASPI: segments)
+#[derive(Clone, Copy, Debug, PartialEq, Eq)]
+pub struct SegId {
+    number: u32,
+}
+
+impl Model for SegId {
+    ghost use Rattle.std.specs.Prelude.{ℕ, ◌<◌};
+
+    ghost Value = { ℕ };
+
+    ghost view = { λ id. id.number };
+
+    ghost invariant = { λ id. id.number < 32 };
+
+    ghost inverse = { λ n. record { number = n } };
+}
+
+impl SegId {
+    /// The id with a number in its range.
+    pub fn of(number: u32) -> SegId
+        requires { number < 32 }
+        ensures { result ≡ number }
+    {
+        SegId { number }
+    }
+
+    /// The segment with a number, exactly where it is below 32.
+    pub fn new(n: u64, shape: &Shape) -> Option<SegId>
+        ensures { SomeIff result (n < 32) n }
+    {
+        let _ = shape;
+        if n < 32 {
+            Some(SegId { number: n as u32 })
+        } else {
+            None
+        }
+    }
+
+    /// Its number.
+    pub fn number(self) -> u32
+        ensures value { result ≡ self }
+        ensures bound { result < 32 }
+    {
+        self.number
+    }
+
+    /// Its number, as an index.
+    pub fn index(self) -> usize
+        ensures value { result ≡ self }
+        ensures bound { result < 32 }
+    {
+        self.number as usize
+    }
+}
+
+/// The number of a queue, from 0. It is below 8. (GASPI: one-sided communication)
+#[derive(Clone, Copy, Debug, PartialEq, Eq)]
+pub struct QueueId {
+    number: u32,
+}
+
+impl Model for QueueId {
+    ghost use Rattle.std.specs.Prelude.{ℕ, ◌<◌};
+
+    ghost Value = { ℕ };
+
+    ghost view = { λ id. id.number };
+
+    ghost invariant = { λ id. id.number < 8 };
+
+    ghost inverse = { λ n. record { number = n } };
+}
+
+impl QueueId {
+    /// The id with a number in its range.
+    pub fn of(number: u32) -> QueueId
+        requires { number < 8 }
+        ensures { result ≡ number }
+    {
+        QueueId { number }
+    }
+
+    /// The queue with a number, exactly where it is below the number of queues.
+    pub fn new(n: u64, shape: &Shape) -> Option<QueueId>
+        ensures { SomeIff result (n < shape.now.limits.queues) n }
+    {
+        if n < u64::from(shape.limits().queues) {
+            Some(QueueId { number: n as u32 })
+        } else {
+            None
+        }
+    }
+
+    /// Its number.
+    pub fn number(self) -> u32
+        ensures value { result ≡ self }
+        ensures bound { result < 8 }
+    {
+        self.number
+    }
+
+    /// Its number, as an index.
+    pub fn index(self) -> usize
+        ensures value { result ≡ self }
+        ensures bound { result < 8 }
+    {
+        self.number as usize
+    }
+}
+
+/// The number of a notification slot of a segment, from 0. It is below 1,024. (GASPI: notifications)
+#[derive(Clone, Copy, Debug, PartialEq, Eq)]
+pub struct NoteId {
+    number: u32,
+}
+
+impl Model for NoteId {
+    ghost use Rattle.std.specs.Prelude.{ℕ, ◌<◌};
+
+    ghost Value = { ℕ };
+
+    ghost view = { λ id. id.number };
+
+    ghost invariant = { λ id. id.number < 1024 };
+
+    ghost inverse = { λ n. record { number = n } };
+}
+
+impl NoteId {
+    /// The id with a number in its range.
+    pub fn of(number: u32) -> NoteId
+        requires { number < 1024 }
+        ensures { result ≡ number }
+    {
+        NoteId { number }
+    }
+
+    /// The slot with a number, exactly where it is below the number of slots.
+    pub fn new(n: u64, shape: &Shape) -> Option<NoteId>
+        ensures { SomeIff result (n < shape.now.limits.notes) n }
+    {
+        if n < u64::from(shape.limits().notes) {
+            Some(NoteId { number: n as u32 })
+        } else {
+            None
+        }
+    }
+
+    /// Its number.
+    pub fn number(self) -> u32
+        ensures value { result ≡ self }
+        ensures bound { result < 1024 }
+    {
+        self.number
+    }
+
+    /// Its number, as an index.
+    pub fn index(self) -> usize
+        ensures value { result ≡ self }
+        ensures bound { result < 1024 }
+    {
+        self.number as usize
+    }
+}

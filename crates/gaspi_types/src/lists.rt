@@ -1,0 +1,141 @@
+//! Lists that contracts see as lists: no capacity and no pointer stands in an equation about them.
+
+ghost use Rattle.std.specs.Prelude.{◌≡◌, ◌+◌, ◌<◌, ◌≤◌, ◌↔◌, ◌++◌, ◌∷◌, [], length, slice_set, slice_get, IsTrue, OnOk, OnErr, IfOk, IsOk, Some};
+ghost use Rattle.std.specs.Borrow.{sem};
+ghost use Rattle.std.specs.Cmp.Lexicographic.{pointwise, lists_per, lists_equiv};
+
+use crate::memory::NoMemory;
+use std::alloc::Global;
+use std::marker::Model;
+
+/// A list of items, which contracts see as the list alone.
+#[derive(Debug, Drop)]
+pub struct Rows<T> {
+    items: Vec<T>,
+}
+
+/// A list of bytes.
+pub type Bytes = Rows<u8>;
+
+impl<T> Model for Rows<T> {
+    ghost use Rattle.std.specs.Prelude.{List};
+
+    ghost Value = { List T };
+
+    ghost view = { λ rows. rows.items.items };
+}
+
+impl<T> Rows<T> {
+    ghost use Rattle.gaspi_types.specs.Lending.{LendsItem};
+
+    /// The empty list. It takes no memory.
+    pub fn new(alloc: Global) -> Rows<T>
+        ensures { result ≡ [] }
+    {
+        Rows {
+            items: Vec::new(alloc),
+        }
+    }
+
+    /// The same items, without taking memory.
+    pub fn from_vec(items: Vec<T>) -> Rows<T>
+        ensures { result ≡ items.items }
+    {
+        Rows { items }
+    }
+
+    /// The same items, without taking memory.
+    pub fn into_vec(self) -> Vec<T>
+        ensures { result.items ≡ self }
+    {
+        let Rows { items } = self;
+        items
+    }
+
+    /// The items, lent.
+    pub fn as_slice(&self) -> &[T]
+        ensures { result.now ≡ self.now }
+    {
+        self.items.as_slice()
+    }
+
+    /// How many items there are.
+    pub fn len(&self) -> usize
+        ensures { result ≡ length self.now }
+    {
+        self.items.len()
+    }
+
+    /// Whether there is no item.
+    pub fn is_empty(&self) -> bool
+        ensures { IsTrue result ↔ (self.now ≡ []) }
+    {
+        self.items.is_empty()
+    }
+
+    /// The item at a place.
+    pub fn at(&self, place: usize) -> &T
+        requires { place < length self.now }
+        ensures { slice_get self.now place ≡ Some result.now }
+    {
+        &self.items[place]
+    }
+
+    /// The item at a place, to be written.
+    pub fn at_mut(&mut self, place: usize) -> &mut T
+        requires { place < length self.old }
+        ensures* writes_back { sem 𝓛 (LendsItem T.row self.entry place result) }
+        ensures value { slice_get self.old place ≡ Some result.now }
+    {
+        &mut self.items[place]
+    }
+
+    /// Adds an item at the end. Without memory nothing changes but that the item is dropped.
+    pub fn push(&mut self, item: T) -> Result<(), NoMemory>
+    where
+        T: Drop,
+        ensures ok { OnOk result (self.new ≡ self.old ++ item ∷ []) }
+        ensures err { OnErr result (self.new ≡ self.old) }
+    {
+        self.items.push(item)?;
+        Ok(())
+    }
+}
+
+impl<T: Copy> Rows<T> {
+    /// A list of the same items. It takes no memory where there are none.
+    pub fn copied_from(alloc: Global, items: &[T]) -> Result<Rows<T>, NoMemory>
+        ensures ok { IfOk result (λ rows. rows ≡ items.now) }
+        ensures empty { items.now ≡ [] → IsOk result }
+    {
+        if items.is_empty() {
+            return Ok(Rows::new(alloc));
+        }
+        Ok(Rows {
+            items: Vec::from_slice(alloc, items)?,
+        })
+    }
+
+    /// Adds items at the end. Without memory nothing changes.
+    pub fn append(&mut self, items: &[T]) -> Result<(), NoMemory>
+        ensures ok { OnOk result (self.new ≡ self.old ++ items.now) }
+        ensures err { OnErr result (self.new ≡ self.old) }
+    {
+        self.items.extend_from_slice(items)?;
+        Ok(())
+    }
+}
+
+impl<T: PartialEq> PartialEq for Rows<T> {
+    ghost eq = { λ a b. pointwise T.eq a b };
+
+    ghost laws = { lists_per T.laws };
+
+    fn eq(&self, other: &Self) -> bool {
+        self.items == other.items
+    }
+}
+
+impl<T: Eq> Eq for Rows<T> {
+    ghost laws = { lists_equiv T.Eq.laws };
+}

@@ -1,0 +1,268 @@
+//! The shape of a world: its limits, its declared segments and its callers.
+
+ghost use Rattle.std.specs.Prelude.{◌≡◌, ◌+◌, ◌<◌, ◌≤◌, IsTrue, IfOk, IfErr, OnOk, OnErr, MatchResult, Ok, Err, true};
+ghost use Rattle.std.specs.Prelude.{count_by, ◌==◌};
+ghost use Rattle.std.specs.List.{list_any};
+ghost use Rattle.gaspi_types.specs.Ranges.{is_between};
+ghost use Rattle.gaspi_types.specs.World.{is_segment, is_caller};
+
+use crate::ids::{RankId, SegId, ThreadId};
+use crate::lists::Rows;
+use crate::memory::NoMemory;
+use std::alloc::Global;
+use std::marker::Model;
+use thiserror::Error;
+
+/// The limits of a world.
+#[derive(Clone, Copy, Debug, PartialEq, Eq)]
+pub struct Limits {
+    /// How many ranks there are, 1 to 16.
+    pub ranks: u32,
+    /// How many queues a rank has, 1 to 8.
+    pub queues: u32,
+    /// How many entries a queue holds, 1 to 256.
+    pub depth: u32,
+    /// How many notification slots a segment has, 1 to 1,024.
+    pub notes: u32,
+    /// How many messages an inbox holds, 1 to 64.
+    pub inbox: u32,
+    /// How many events a rank records at most, 1 to 65,536.
+    pub events: u32,
+}
+
+/// A thread of a rank, which makes calls.
+#[derive(Clone, Copy, Debug, PartialEq, Eq)]
+pub struct CallerId {
+    pub rank: RankId,
+    pub thread: ThreadId,
+}
+
+/// A segment that is there from the start, and known to every rank. (GASPI: segments)
+#[derive(Clone, Copy, Debug, PartialEq, Eq)]
+pub struct Declared {
+    pub rank: RankId,
+    pub segment: SegId,
+    /// Its bytes, 1 to 1,048,576.
+    pub size: u32,
+}
+
+/// Why a shape is refused.
+#[derive(Debug, Drop, Error)]
+pub enum ShapeFault {
+    /// A number is outside its limits, or names no rank.
+    #[error("a number is outside its limits")]
+    Limit,
+    /// The segment or the caller is there.
+    #[error("declared twice")]
+    Twice,
+    /// The rank's callers would be more than the events that it may record.
+    #[error("more threads than events")]
+    Threads,
+    /// Want of memory.
+    #[error("out of memory")]
+    NoMemory,
+}
+
+/// Whether a number is from low to high.
+fn is_between(low: u64, high: u64, n: u64) -> bool
+    ensures { result ≡ is_between low high n }
+{
+    low <= n && n <= high
+}
+
+/// The limits of a world, its declared segments and its callers.
+#[derive(Debug, Drop)]
+pub struct Shape {
+    limits: Limits,
+    segments: Rows<Declared>,
+    callers: Rows<CallerId>,
+}
+
+impl Model for Shape {
+    ghost use Rattle.std.specs.Prelude.{◌≡◌, true};
+    ghost use Rattle.gaspi_types.specs.World.{World, are_limits};
+
+    ghost Value = { World };
+
+    ghost view = { λ s. record { limits = s.limits; segments = s.segments; callers = s.callers } };
+
+    ghost invariant = { λ s. are_limits s.limits ≡ true };
+}
+
+impl Shape {
+    ghost use Rattle.gaspi_types.specs.World.{are_limits, world_of, segment_added, caller_added, Declares};
+
+    /// The shape of these limits, with nothing declared. It takes no memory.
+    pub fn new(
+        alloc: Global,
+        ranks: u64,
+        queues: u64,
+        depth: u64,
+        notes: u64,
+        inbox: u64,
+        events: u64,
+    ) -> Result<Shape, ShapeFault>
+        ensures { result ≡ world_of (record { ranks = ranks; queues = queues; depth = depth; notes = notes; inbox = inbox; events = events }) }
+    {
+        let within = is_between(1, 16, ranks)
+            && is_between(1, 8, queues)
+            && is_between(1, 256, depth)
+            && is_between(1, 1024, notes)
+            && is_between(1, 64, inbox)
+            && is_between(1, 65536, events);
+        if !within {
+            return Err(ShapeFault::Limit);
+        }
+        Ok(Shape {
+            limits: Limits {
+                ranks: ranks as u32,
+                queues: queues as u32,
+                depth: depth as u32,
+                notes: notes as u32,
+                inbox: inbox as u32,
+                events: events as u32,
+            },
+            segments: Rows::new(alloc),
+            callers: Rows::new(alloc),
+        })
+    }
+
+    /// The limits.
+    pub fn limits(&self) -> Limits
+        ensures value { result ≡ self.now.limits }
+        ensures within { are_limits result ≡ true }
+    {
+        self.limits
+    }
+
+    /// How many ranks there are, 1 to 16.
+    pub fn ranks(&self) -> u32
+        ensures { result ≡ self.now.limits.ranks }
+    {
+        self.limits.ranks
+    }
+
+    /// How many queues a rank has, 1 to 8.
+    pub fn queues(&self) -> u32
+        ensures { result ≡ self.now.limits.queues }
+    {
+        self.limits.queues
+    }
+
+    /// How many entries a queue holds, 1 to 256.
+    pub fn depth(&self) -> u32
+        ensures { result ≡ self.now.limits.depth }
+    {
+        self.limits.depth
+    }
+
+    /// How many notification slots a segment has, 1 to 1,024.
+    pub fn notes(&self) -> u32
+        ensures { result ≡ self.now.limits.notes }
+    {
+        self.limits.notes
+    }
+
+    /// How many messages an inbox holds, 1 to 64.
+    pub fn inbox(&self) -> u32
+        ensures { result ≡ self.now.limits.inbox }
+    {
+        self.limits.inbox
+    }
+
+    /// How many events a rank records at most, 1 to 65,536.
+    pub fn events(&self) -> u32
+        ensures { result ≡ self.now.limits.events }
+    {
+        self.limits.events
+    }
+
+    /// The declared segments, in the order in which they were declared.
+    pub fn segments(&self) -> &[Declared]
+        ensures { result.now ≡ self.now.segments }
+    {
+        self.segments.as_slice()
+    }
+
+    /// The callers, in the order in which they were declared.
+    pub fn callers(&self) -> &[CallerId]
+        ensures { result.now ≡ self.now.callers }
+    {
+        self.callers.as_slice()
+    }
+
+    /// Declares a segment. A number outside its limits comes before a segment that is there. A refused call
+    /// changes nothing.
+    pub fn add_segment(&mut self, rank: u64, seg: u64, size: u64) -> Result<(), ShapeFault>
+        ensures { Declares result self.old self.new (segment_added self.old rank seg size) }
+    {
+        let within = rank < u64::from(self.limits.ranks)
+            && seg < 32
+            && is_between(1, 1_048_576, size);
+        if !within {
+            return Err(ShapeFault::Limit);
+        }
+        if has_segment(self.segments.as_slice(), rank, seg) {
+            return Err(ShapeFault::Twice);
+        }
+        let declared = Declared {
+            rank: RankId::of(rank as u32),
+            segment: SegId::of(seg as u32),
+            size: size as u32,
+        };
+        match self.segments.push(declared) {
+            Ok(()) => Ok(()),
+            Err(NoMemory) => Err(ShapeFault::NoMemory),
+        }
+    }
+
+    /// Declares a caller. A number outside its limits comes before a caller that is there, and that before too
+    /// many threads. A refused call changes nothing.
+    pub fn add_caller(&mut self, rank: u64, thread: u64) -> Result<(), ShapeFault>
+        ensures { Declares result self.old self.new (caller_added self.old rank thread) }
+    {
+        if rank >= u64::from(self.limits.ranks) || thread >= 4 {
+            return Err(ShapeFault::Limit);
+        }
+        if has_caller(self.callers.as_slice(), rank, thread) {
+            return Err(ShapeFault::Twice);
+        }
+        if threads_of(self.callers.as_slice(), rank) >= self.limits.events as usize {
+            return Err(ShapeFault::Threads);
+        }
+        let caller = CallerId {
+            rank: RankId::of(rank as u32),
+            thread: ThreadId::of(thread as u32),
+        };
+        match self.callers.push(caller) {
+            Ok(()) => Ok(()),
+            Err(NoMemory) => Err(ShapeFault::NoMemory),
+        }
+    }
+}
+
+/// Whether the segment is declared.
+fn has_segment(segments: &[Declared], rank: u64, seg: u64) -> bool
+    ensures { result ≡ list_any (is_segment rank seg) segments.now }
+{
+    segments.iter().any(|d| u64::from(d.rank.number()) == rank
+        && u64::from(d.segment.number()) == seg)
+}
+
+/// Whether the caller is declared.
+fn has_caller(callers: &[CallerId], rank: u64, thread: u64) -> bool
+    ensures { result ≡ list_any (is_caller rank thread) callers.now }
+{
+    callers.iter().any(|c| u64::from(c.rank.number()) == rank
+        && u64::from(c.thread.number()) == thread)
+}
+
+/// How many callers a rank has.
+fn threads_of(callers: &[CallerId], rank: u64) -> usize
+    ensures { result ≡ count_by (λ c. c.rank == rank) callers.now }
+{
+    callers
+        .iter()
+        .filter(|c| u64::from(c.rank.number()) == rank)
+        .count()
+}
