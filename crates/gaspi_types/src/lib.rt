@@ -1,12 +1,18 @@
-//! The types of the GASPI runtime.
+//! The types of the GASPI runtime: the shape of a world, its calls, replies and events.
 #![tactic(auto)]
 
+mod calls;
+mod events;
 mod ids;
 mod lists;
 mod memory;
+mod replies;
 mod shapes;
 
+pub use calls::{Call, Timeout, need};
+pub use events::{Event, Outcome, Transfer};
 pub use ids::{NoteId, QueueId, RankId, SegId, ThreadId};
 pub use lists::{Bytes, Rows};
 pub use memory::NoMemory;
+pub use replies::{Ready, Refusal, Reply};
 pub use shapes::{CallerId, Declared, Limits, Shape, ShapeFault};

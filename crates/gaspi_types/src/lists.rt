@@ -106,7 +106,7 @@ impl<T: Copy> Rows<T> {
     /// A list of the same items. It takes no memory where there are none.
     pub fn copied_from(alloc: Global, items: &[T]) -> Result<Rows<T>, NoMemory>
         ensures ok { IfOk result (λ rows. rows ≡ items.now) }
-        ensures empty { items.now ≡ [] → IsOk result }
+        ensures empty { length items.now ≡ 0 → IsOk result }
     {
         if items.is_empty() {
             return Ok(Rows::new(alloc));

@@ -1,0 +1,31 @@
+-- What is copied without memory.
+use Rattle.std.specs.Prelude.{Bool, true, ◌&&◌, length, ◌==◌}
+use Rattle.gaspi_types.specs.declared.calls.Call.{Call}
+use Rattle.gaspi_types.specs.declared.calls.Call.TheVariants.{Store, Load, WriteNotify, Wait, Waitsome, Reset, End}
+use Rattle.gaspi_types.specs.declared.replies.Reply.{Reply}
+use Rattle.gaspi_types.specs.declared.replies.Reply.TheVariants as replies
+use Rattle.gaspi_types.specs.declared.events.Event.{Event}
+use Rattle.gaspi_types.specs.declared.events.Event.TheVariants.{Called, Take, Put}
+
+-- no list in it has an item
+abbrev pub is_listless_call : Call → Bool
+is_listless_call (Store seg offset bytes) = length bytes == 0
+is_listless_call (Load seg offset size) = true
+is_listless_call (WriteNotify seg offset rank rseg roffset size note value queue) = true
+is_listless_call (Wait queue) = true
+is_listless_call (Waitsome seg begin num) = true
+is_listless_call (Reset seg note) = true
+is_listless_call End = true
+
+abbrev pub is_listless_reply : Reply → Bool
+is_listless_reply replies.Done = true
+is_listless_reply (replies.Value n) = true
+is_listless_reply (replies.Id n) = true
+is_listless_reply (replies.Bytes bytes) = length bytes == 0
+is_listless_reply replies.Timeout = true
+is_listless_reply (replies.Refused refusal) = true
+
+abbrev pub is_listless_event : Event → Bool
+is_listless_event (Called caller call reply) = is_listless_call call && is_listless_reply reply
+is_listless_event (Take origin queue target number outcome) = true
+is_listless_event (Put origin queue target number outcome) = true

@@ -1,0 +1,62 @@
+//! The events of the machine.
+
+ghost use Rattle.std.specs.Prelude.{◌≡◌, IfOk, IsOk, true};
+ghost use Rattle.gaspi_types.specs.Copies.{is_listless_event};
+
+use crate::calls::Call;
+use crate::ids::{QueueId, RankId};
+use crate::memory::NoMemory;
+use crate::replies::Reply;
+use crate::shapes::CallerId;
+use std::alloc::Global;
+
+/// How a transfer ends. (GASPI: state vector)
+#[derive(Clone, Copy, Debug, PartialEq, Eq)]
+pub enum Outcome {
+    Applied,
+    /// The target's segment is gone.
+    Failed,
+}
+
+/// One event of the machine.
+#[derive(Debug, PartialEq, Eq, Drop)]
+pub enum Event {
+    /// A caller's call with its reply.
+    Called(CallerId, Call, Reply),
+    /// The entry with that number of that origin, queue and target takes its bytes.
+    Take(RankId, QueueId, RankId, u32, Outcome),
+    /// That entry puts them, or sets its slot.
+    Put(RankId, QueueId, RankId, u32, Outcome),
+}
+
+/// A transfer that may come next: a `Take`, or where `put` a `Put`.
+#[derive(Clone, Copy, Debug, PartialEq, Eq)]
+pub struct Transfer {
+    pub origin: RankId,
+    pub queue: QueueId,
+    pub target: RankId,
+    pub number: u32,
+    pub put: bool,
+}
+
+impl Event {
+    /// An equal event. It takes no memory where no list in the event has an item.
+    pub fn copy(&self, alloc: Global) -> Result<Event, NoMemory>
+        ensures ok { IfOk result (λ event. event ≡ self.now) }
+        ensures listless { is_listless_event self.now ≡ true → IsOk result }
+    {
+        match self {
+            Event::Called(caller, call, reply) => Ok(Event::Called(
+                *caller,
+                call.copy(alloc)?,
+                reply.copy(alloc)?,
+            )),
+            Event::Take(origin, queue, target, number, outcome) => {
+                Ok(Event::Take(*origin, *queue, *target, *number, *outcome))
+            }
+            Event::Put(origin, queue, target, number, outcome) => {
+                Ok(Event::Put(*origin, *queue, *target, *number, *outcome))
+            }
+        }
+    }
+}
