@@ -1,5 +1,11 @@
+pub mod Checks
 pub mod Copies
+pub mod Lanes
 pub mod Lending
 pub mod Need
+pub mod Posts
 pub mod Ranges
+pub mod Replies
+pub mod SegmentBytes
+pub mod Slots
 pub mod World

@@ -1,5 +1,5 @@
 -- A world: its limits, its declared segments and its callers.
-use Rattle.std.specs.Prelude.{◌≡◌, ℕ, Bool, ◌&&◌, List, [], ◌∷◌, ◌++◌, Result, Ok, Err, if◌then◌else◌, nat_lt, ◌==◌, count_by}
+use Rattle.std.specs.Prelude.{◌≡◌, ℕ, ◌≤◌, Bool, true, ◌&&◌, List, [], ◌∷◌, ◌++◌, Result, Ok, Err, if◌then◌else◌, nat_lt, ◌==◌, count_by}
 use Rattle.std.specs.List.{list_any}
 use Rattle.gaspi_types.specs.Ranges.{is_between}
 use Rattle.gaspi_types.specs.declared.shapes.Limits.{Limits}
@@ -55,6 +55,11 @@ caller_added w rank thread =
     then Ok (record { limits = w.limits; segments = w.segments; callers = w.callers ++ record { rank = rank; thread = thread } ∷ [] })
     else Err faults.Threads))
     else Err faults.Limit
+
+-- what holds of every world that was declared so
+pub record IsWorld (w : World) : Type 0 where
+  pub limits : are_limits w.limits ≡ true
+  pub callers : (rank : ℕ) → count_by (λ c. c.rank == rank) w.callers ≤ w.limits.events
 
 -- the world after a declaration that was tried: changed as the outcome says, and unchanged where it was refused
 abbrev pub Declares : Result (Unit {0}) ShapeFault → World → World → Result World ShapeFault → Type 0

@@ -2,6 +2,7 @@
 #![tactic(auto)]
 
 mod calls;
+mod entries;
 mod events;
 mod ids;
 mod lists;
@@ -10,6 +11,7 @@ mod replies;
 mod shapes;
 
 pub use calls::{Call, Timeout, need};
+pub use entries::{ByteRange, Entry, Extent, Kind, NoteSlot, Phase};
 pub use events::{Event, Outcome, Transfer};
 pub use ids::{NoteId, QueueId, RankId, SegId, ThreadId};
 pub use lists::{Bytes, Rows};

@@ -5,6 +5,7 @@ ghost use Rattle.std.specs.Prelude.{count_by, ◌==◌};
 ghost use Rattle.std.specs.List.{list_any};
 ghost use Rattle.gaspi_types.specs.Ranges.{is_between};
 ghost use Rattle.gaspi_types.specs.World.{is_segment, is_caller};
+ghost use Rattle.gaspi_types.specs.declared.shapes.ShapeFault.TheVariants.{NoMemory};
 
 use crate::ids::{RankId, SegId, ThreadId};
 use crate::lists::Rows;
@@ -63,6 +64,14 @@ pub enum ShapeFault {
     NoMemory,
 }
 
+impl From<NoMemory> for ShapeFault {
+    ghost from_gives = { λ _ fault. fault ≡ NoMemory };
+
+    fn from(_error: NoMemory) -> ShapeFault {
+        ShapeFault::NoMemory
+    }
+}
+
 /// Whether a number is from low to high.
 fn is_between(low: u64, high: u64, n: u64) -> bool
     ensures { result ≡ is_between low high n }
@@ -79,18 +88,17 @@ pub struct Shape {
 }
 
 impl Model for Shape {
-    ghost use Rattle.std.specs.Prelude.{◌≡◌, true};
-    ghost use Rattle.gaspi_types.specs.World.{World, are_limits};
+    ghost use Rattle.gaspi_types.specs.World.{World, IsWorld};
 
     ghost Value = { World };
 
     ghost view = { λ s. record { limits = s.limits; segments = s.segments; callers = s.callers } };
 
-    ghost invariant = { λ s. are_limits s.limits ≡ true };
+    ghost invariant = { λ s. IsWorld (record { limits = s.limits; segments = s.segments; callers = s.callers }) };
 }
 
 impl Shape {
-    ghost use Rattle.gaspi_types.specs.World.{are_limits, world_of, segment_added, caller_added, Declares};
+    ghost use Rattle.gaspi_types.specs.World.{are_limits, IsWorld, world_of, segment_added, caller_added, Declares};
 
     /// The shape of these limits, with nothing declared. It takes no memory.
     pub fn new(
@@ -131,6 +139,7 @@ impl Shape {
     pub fn limits(&self) -> Limits
         ensures value { result ≡ self.now.limits }
         ensures within { are_limits result ≡ true }
+        ensures world { IsWorld self.now }
     {
         self.limits
     }
@@ -210,10 +219,8 @@ impl Shape {
             segment: SegId::of(seg as u32),
             size: size as u32,
         };
-        match self.segments.push(declared) {
-            Ok(()) => Ok(()),
-            Err(NoMemory) => Err(ShapeFault::NoMemory),
-        }
+        self.segments.push(declared)?;
+        Ok(())
     }
 
     /// Declares a caller. A number outside its limits comes before a caller that is there, and that before too
@@ -234,10 +241,8 @@ impl Shape {
             rank: RankId::of(rank as u32),
             thread: ThreadId::of(thread as u32),
         };
-        match self.callers.push(caller) {
-            Ok(()) => Ok(()),
-            Err(NoMemory) => Err(ShapeFault::NoMemory),
-        }
+        self.callers.push(caller)?;
+        Ok(())
     }
 }
 

@@ -1,0 +1,47 @@
+-- Histories worked by hand: what the definitions say of them, by computing.
+use Rattle.std.proofs.Common.{◌≡◌, true, List, [], ◌∷◌, Err, refl}
+use Rattle.gaspi_types.specs.World.{World}
+use Rattle.gaspi_types.specs.declared.events.Event.{Event}
+use Rattle.gaspi_types.specs.declared.events.Event.TheVariants.{Called, Take, Put}
+use Rattle.gaspi_types.specs.declared.events.Outcome.TheVariants.{Applied}
+use Rattle.gaspi_types.specs.declared.calls.Call.TheVariants.{Store, Load, WriteNotify, Wait, Waitsome, Reset, End}
+use Rattle.gaspi_types.specs.declared.replies.Reply.TheVariants as replies
+use Rattle.gaspi_types.specs.declared.replies.Refusal.TheVariants.{CallerEnded}
+use Rattle.gaspi_model.specs.Step.{is_legal, reached}
+use Rattle.gaspi_model.specs.declared.states.Why.TheVariants as whys
+
+-- two ranks with a segment of four bytes and eight slots each
+abbrev pub two_ranks : World
+two_ranks = record {
+  limits = record { ranks = 2; queues = 1; depth = 4; notes = 8; inbox = 4; events = 1000 };
+  segments = record { rank = 0; segment = 0; size = 16 } ∷ record { rank = 1; segment = 0; size = 16 } ∷ [];
+  callers = record { rank = 0; thread = 0 } ∷ record { rank = 1; thread = 0 } ∷ [];
+}
+
+abbrev pub notified_write : List Event
+notified_write =
+    Called (record { rank = 0; thread = 0 }) (Store 0 0 (1 ∷ 2 ∷ [])) replies.Done
+    ∷ Called (record { rank = 0; thread = 0 }) (WriteNotify 0 0 1 0 4 2 3 7 0) replies.Done
+    ∷ Take 0 0 1 0 Applied ∷ Take 0 0 1 1 Applied ∷ Put 0 0 1 0 Applied ∷ Put 0 0 1 1 Applied
+    ∷ Called (record { rank = 0; thread = 0 }) (Wait 0) replies.Done
+    ∷ Called (record { rank = 0; thread = 0 }) End replies.Done
+    ∷ Called (record { rank = 1; thread = 0 }) (Waitsome 0 0 8) (replies.Id 3)
+    ∷ Called (record { rank = 1; thread = 0 }) (Reset 0 3) (replies.Value 7)
+    ∷ Called (record { rank = 1; thread = 0 }) (Load 0 4 2) (replies.Bytes (1 ∷ 2 ∷ []))
+    ∷ Called (record { rank = 1; thread = 0 }) End replies.Done ∷ []
+
+notified_write-is_legal : is_legal two_ranks notified_write ≡ true
+notified_write-is_legal = refl
+
+-- the notification is put before the write of its lane
+notification_first-is_refused : reached two_ranks (
+    Called (record { rank = 0; thread = 0 }) (WriteNotify 0 0 1 0 4 2 3 7 0) replies.Done
+    ∷ Take 0 0 1 0 Applied ∷ Take 0 0 1 1 Applied ∷ Put 0 0 1 1 Applied ∷ []) ≡ Err whys.Put
+notification_first-is_refused = refl
+
+-- a caller that has ended is refused, its end too
+ended_caller-is_refused : is_legal two_ranks (
+    Called (record { rank = 0; thread = 0 }) End replies.Done
+    ∷ Called (record { rank = 0; thread = 0 }) (Reset 0 3) (replies.Refused CallerEnded)
+    ∷ Called (record { rank = 0; thread = 0 }) End (replies.Refused CallerEnded) ∷ []) ≡ true
+ended_caller-is_refused = refl

@@ -1,0 +1,207 @@
+-- What a call answers, and what it leaves. A call of a rank `me` reads and changes that rank's posts and memory.
+use Rattle.std.specs.Prelude.{ℕ, ◌+◌, ◌*◌, nat_le, nat_lt, List, [], ◌++◌, length, Option, None, Some, Result, Ok, Err, if◌then◌else◌, slice_get, slice_set, slice_index}
+use Rattle.std.specs.List.{list_any}
+use Rattle.std.specs.Option.{option_map}
+use Rattle.gaspi_types.specs.Checks.{◌>>=◌, check, found, absent}
+use Rattle.gaspi_types.specs.SegmentBytes.{is_transfer_size, is_within, range_of, with_range}
+use Rattle.gaspi_types.specs.Slots.{is_slot_range, first_set}
+use Rattle.gaspi_types.specs.Posts.{extent_in, write_notify_kinds}
+use Rattle.gaspi_types.specs.Lanes.{has_posted, posted_entries}
+use Rattle.gaspi_types.specs.Replies.{is_done, is_idle}
+use Rattle.gaspi_types.specs.declared.entries.Kind.{Kind}
+use Rattle.gaspi_types.specs.declared.entries.Entry.{Entry}
+use Rattle.gaspi_types.specs.declared.shapes.Limits.{Limits}
+use Rattle.gaspi_types.specs.declared.calls.Call.{Call}
+use Rattle.gaspi_types.specs.declared.calls.Call.TheVariants.{Store, Load, WriteNotify, Wait, Waitsome, Reset, End}
+use Rattle.gaspi_types.specs.declared.replies.Refusal.{Refusal}
+use Rattle.gaspi_types.specs.declared.replies.Refusal.TheVariants.{BadRank, NoSegment, BadRange, BadSize, BadQueue, QueueFull, QueueBroken, BadNote, CallerEnded}
+use Rattle.gaspi_types.specs.declared.replies.Reply.{Reply}
+use Rattle.gaspi_types.specs.declared.replies.Reply.TheVariants as replies
+use Rattle.gaspi_types.specs.declared.replies.Ready.{Ready}
+use Rattle.gaspi_types.specs.declared.replies.Ready.TheVariants as ready
+use Rattle.gaspi_model.specs.State.{segment_at, thread_at, is_running}
+use Rattle.gaspi_model.specs.declared.states.Queue.{Queue}
+use Rattle.gaspi_model.specs.declared.states.ThreadState.{ThreadState}
+use Rattle.gaspi_model.specs.declared.states.ThreadState.TheVariants as threads
+use Rattle.gaspi_model.specs.declared.states.Posts.{Posts}
+use Rattle.gaspi_model.specs.declared.states.Segment.{Segment}
+use Rattle.gaspi_model.specs.declared.states.Memory.{Memory}
+
+-- the bytes and the slots of a segment; of one that is not there, none
+abbrev pub bytes_in : Option Segment → List ℕ
+bytes_in None = []
+bytes_in (Some s) = s.bytes
+
+abbrev pub slots_in : Option Segment → List ℕ
+slots_in None = []
+slots_in (Some s) = s.slots
+
+abbrev pub bytes_of : Memory → ℕ → List ℕ
+bytes_of memory segment = bytes_in (segment_at memory segment)
+
+abbrev pub slots_of : Memory → ℕ → List ℕ
+slots_of memory segment = slots_in (segment_at memory segment)
+
+-- a memory with the bytes, or the slots, of a segment replaced
+abbrev pub with_bytes : Memory → ℕ → List ℕ → Memory
+with_bytes memory segment bytes = record {
+  segments = slice_set memory.segments segment
+      (option_map (λ (s : Segment). record s { bytes = bytes }) (segment_at memory segment));
+}
+
+abbrev pub with_slots : Memory → ℕ → List ℕ → Memory
+with_slots memory segment slots = record {
+  segments = slice_set memory.segments segment
+      (option_map (λ (s : Segment). record s { slots = slots }) (segment_at memory segment));
+}
+
+-- What a call finds: its refusal, or a reply, or that it is not ready. The lines stand in the order of the checks.
+
+-- own choice
+abbrev pub store_finds : Posts → ℕ → ℕ → List ℕ → Result (Option Reply) Refusal
+store_finds posts seg offset bytes = do
+  mine ← found (extent_in posts.own seg) NoSegment
+  sized ← check (is_transfer_size (length bytes)) BadSize
+  within ← check (is_within offset (length bytes) mine.size) (BadRange mine.size)
+  Ok (Some replies.Done)
+
+-- own choice
+abbrev pub load_finds : Posts → Memory → ℕ → ℕ → ℕ → Result (Option Reply) Refusal
+load_finds posts memory seg offset size = do
+  mine ← found (extent_in posts.own seg) NoSegment
+  sized ← check (is_transfer_size size) BadSize
+  within ← check (is_within offset size mine.size) (BadRange mine.size)
+  Ok (Some (replies.Bytes (range_of (bytes_of memory seg) offset size)))
+
+-- a post is taken where its queue is not broken, and has room for all its entries
+abbrev pub post_finds : Limits → Queue → List Kind → Result (Option Reply) Refusal
+post_finds limits q kinds = do
+  whole ← absent q.broken QueueBroken
+  room ← check (nat_le (q.open_count + length kinds) limits.depth) (QueueFull q.open_count (length kinds))
+  Ok (Some replies.Done)
+
+-- (one-sided communication: write_notify)
+abbrev pub write_notify_finds : Limits → ℕ → Posts → ℕ → ℕ → ℕ → ℕ → ℕ → ℕ → ℕ → ℕ → ℕ → Result (Option Reply) Refusal
+write_notify_finds limits me posts seg offset rank rseg roffset size note value queue = do
+  ranked ← check (nat_lt rank limits.ranks) BadRank
+  q ← found (slice_get posts.queues queue) BadQueue
+  kinds ← write_notify_kinds limits.notes me posts.own posts.known seg offset rank rseg roffset size note value
+  post_finds limits q kinds
+
+-- ready where no entry of the queue is posted (wait)
+abbrev pub wait_finds : Posts → ℕ → Result (Option Reply) Refusal
+wait_finds posts queue = do
+  q ← found (slice_get posts.queues queue) BadQueue
+  whole ← absent q.broken QueueBroken
+  Ok (if list_any has_posted q.lanes then None else Some replies.Done)
+
+-- ready where a slot of the range is set: the least such (notifications: notify_waitsome)
+abbrev pub waitsome_finds : Limits → Posts → Memory → ℕ → ℕ → ℕ → Result (Option Reply) Refusal
+waitsome_finds limits posts memory seg begin num = do
+  mine ← found (extent_in posts.own seg) NoSegment
+  noted ← check (is_slot_range begin num limits.notes) BadNote
+  Ok (option_map replies.Id (first_set (slots_of memory seg) begin num))
+
+-- (notifications: notify_reset)
+abbrev pub reset_finds : Limits → Posts → Memory → ℕ → ℕ → Result (Option Reply) Refusal
+reset_finds limits posts memory seg note = do
+  mine ← found (extent_in posts.own seg) NoSegment
+  noted ← check (nat_lt note limits.notes) BadNote
+  Ok (Some (replies.Value (slice_index (slots_of memory seg) note)))
+
+abbrev pub call_finds : Limits → ℕ → Posts → Memory → Call → Result (Option Reply) Refusal
+call_finds limits me posts memory (Store seg offset bytes) = store_finds posts seg offset bytes
+call_finds limits me posts memory (Load seg offset size) = load_finds posts memory seg offset size
+call_finds limits me posts memory (WriteNotify seg offset rank rseg roffset size note value queue) =
+    write_notify_finds limits me posts seg offset rank rseg roffset size note value queue
+call_finds limits me posts memory (Wait queue) = wait_finds posts queue
+call_finds limits me posts memory (Waitsome seg begin num) = waitsome_finds limits posts memory seg begin num
+call_finds limits me posts memory (Reset seg note) = reset_finds limits posts memory seg note
+call_finds limits me posts memory End = Ok (Some replies.Done)
+
+abbrev pub ready_of : Result (Option Reply) Refusal → Ready
+ready_of (Ok None) = ready.NotReady
+ready_of (Ok (Some reply)) = ready.Reply reply
+ready_of (Err refusal) = ready.Reply (replies.Refused refusal)
+
+-- what a look at a call answers: that the caller has ended comes before everything else
+abbrev pub answer : Limits → ℕ → Posts → Memory → ℕ → Call → Ready
+answer limits me posts memory thread call =
+    if is_running (thread_at posts thread)
+    then ready_of (call_finds limits me posts memory call)
+    else ready.Reply (replies.Refused CallerEnded)
+
+-- the one reply with which the call may be recorded: what it answers, or where it is not ready a timeout (timeouts)
+abbrev pub recorded_reply : Ready → Reply
+recorded_reply (ready.Reply reply) = reply
+recorded_reply ready.NotReady = replies.Timeout
+
+-- What a call leaves.
+
+-- a table with one item changed
+abbrev pub changed_at : {A : Type 0} → List A → ℕ → (A → A) → List A
+changed_at {A} table place change = set_to (slice_get table place)
+  where
+    set_to : Option A → List A
+    set_to None = table
+    set_to (Some x) = slice_set table place (change x)
+
+-- a queue with entries added to a lane
+abbrev pub with_entries : ℕ → List Entry → Queue → Queue
+with_entries target entries q = record q {
+  open_count = q.open_count + length entries;
+  lanes = changed_at q.lanes target (λ lane. lane ++ entries);
+}
+
+-- an accepted post appends its entries to one lane, numbered on from the rank's next number
+abbrev pub with_post : Posts → ℕ → ℕ → Result (List Kind) Refusal → Posts
+with_post posts queue target (Err refusal) = posts
+with_post posts queue target (Ok kinds) = record posts {
+  queues = changed_at posts.queues queue (with_entries target (posted_entries posts.next kinds));
+  next = posts.next + length kinds;
+}
+
+-- the posts after a call that was answered neither with a refusal nor with a timeout
+abbrev pub posts_done : Limits → ℕ → Posts → ℕ → Call → Posts
+posts_done limits me posts thread (Store seg offset bytes) = posts
+posts_done limits me posts thread (Load seg offset size) = posts
+posts_done limits me posts thread (WriteNotify seg offset rank rseg roffset size note value queue) =
+    with_post posts queue rank (write_notify_kinds limits.notes me posts.own posts.known seg offset rank rseg roffset size note value)
+posts_done limits me posts thread (Wait queue) =
+    record posts { queues = changed_at posts.queues queue (λ (q : Queue). record q { open_count = 0 }) }
+posts_done limits me posts thread (Waitsome seg begin num) = posts
+posts_done limits me posts thread (Reset seg note) = posts
+posts_done limits me posts thread End = record posts { threads = slice_set posts.threads thread threads.Ended }
+
+-- the memory after such a call
+abbrev pub memory_done : Memory → Call → Memory
+memory_done memory (Store seg offset bytes) = with_bytes memory seg (with_range (bytes_of memory seg) offset bytes)
+memory_done memory (Load seg offset size) = memory
+memory_done memory (WriteNotify seg offset rank rseg roffset size note value queue) = memory
+memory_done memory (Wait queue) = memory
+memory_done memory (Waitsome seg begin num) = memory
+memory_done memory (Reset seg note) = with_slots memory seg (slice_set (slots_of memory seg) note 0)
+memory_done memory End = memory
+
+-- the posts with one event more recorded
+abbrev pub counted : Posts → Posts
+counted posts = record posts { events = posts.events + 1 }
+
+-- a refusal or a timeout changes nothing but the count of events
+abbrev pub posts_after : Limits → ℕ → Posts → ℕ → Call → Reply → Posts
+posts_after limits me posts thread call reply =
+    counted (if is_idle reply then posts else posts_done limits me posts thread call)
+
+abbrev pub memory_after : Memory → Call → Reply → Memory
+memory_after memory call reply = if is_idle reply then memory else memory_done memory call
+
+-- own choice: what the event takes of the rank's room: nothing for the end of a caller that has not ended, itself and
+-- the two transfers of each entry for a post that is done, and else itself
+abbrev pub charge : ThreadState → Call → Reply → ℕ
+charge t (Store seg offset bytes) reply = 1
+charge t (Load seg offset size) reply = 1
+charge t (WriteNotify seg offset rank rseg roffset size note value queue) reply = if is_done reply then 1 + 2 * 2 else 1
+charge t (Wait queue) reply = 1
+charge t (Waitsome seg begin num) reply = 1
+charge t (Reset seg note) reply = 1
+charge t End reply = if is_running t then 0 else 1

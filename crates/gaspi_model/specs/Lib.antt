@@ -1,0 +1,5 @@
+pub mod State
+pub mod Calls
+pub mod Transfers
+pub mod Step
+pub mod Sound

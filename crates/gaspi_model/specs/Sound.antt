@@ -1,0 +1,19 @@
+-- What holds in every state of a legal history, and is used by whoever runs the machine.
+use Rattle.std.specs.Prelude.{◌≡◌, ℕ, ◌+◌, ◌*◌, ◌≤◌, true, length, slice_get, Some}
+use Rattle.gaspi_types.specs.World.{are_limits}
+use Rattle.gaspi_types.specs.declared.shapes.Limits.{Limits}
+use Rattle.gaspi_model.specs.State.{owed}
+use Rattle.gaspi_model.specs.declared.states.Queue.{Queue}
+use Rattle.gaspi_model.specs.declared.states.Posts.{Posts}
+use Rattle.gaspi_model.specs.declared.states.State.{State}
+
+-- The posts of a rank: each queue has a lane to each rank; what is recorded and owed has room; and no event gave more
+-- than 256 numbers to entries.
+pub record IsSoundPosts (limits : Limits) (posts : Posts) : Type 0 where
+  pub lanes : (queue : ℕ) (q : Queue) → slice_get posts.queues queue ≡ Some q → length q.lanes ≡ limits.ranks
+  pub room : posts.events + owed posts ≤ limits.events
+  pub numbers : posts.next ≤ 256 * posts.events
+
+pub record IsSound (s : State) : Type 0 where
+  pub limits : are_limits s.limits ≡ true
+  pub posts : (rank : ℕ) (posts : Posts) → slice_get s.posts rank ≡ Some posts → IsSoundPosts s.limits posts

@@ -1,0 +1,90 @@
+-- The state of the machine: what a rank has at the start, and what is read of it.
+use Rattle.std.specs.Prelude.{ℕ, ◌+◌, Bool, true, false, List, [], replicate, map, find, sum_by, count_by, Option, None, Some, if◌then◌else◌, slice_get, option_and_then}
+use Rattle.std.specs.List.{list_any, range_with_len}
+use Rattle.std.specs.Option.{option_map}
+use Rattle.gaspi_types.specs.World.{World, is_segment, is_caller}
+use Rattle.gaspi_types.specs.Lanes.{lane_owed}
+use Rattle.gaspi_types.specs.declared.entries.Extent.{Extent}
+use Rattle.gaspi_model.specs.declared.states.Queue.{Queue}
+use Rattle.gaspi_model.specs.declared.states.ThreadState.{ThreadState}
+use Rattle.gaspi_model.specs.declared.states.ThreadState.TheVariants.{Absent, Running, Ended}
+use Rattle.gaspi_model.specs.declared.states.Posts.{Posts}
+use Rattle.gaspi_model.specs.declared.states.Segment.{Segment}
+use Rattle.gaspi_model.specs.declared.states.Memory.{Memory}
+use Rattle.gaspi_model.specs.declared.states.State.{State}
+
+-- what stands at a place of a table of things that may be missing
+abbrev pub entry_at : {A : Type 0} → List (Option A) → ℕ → Option A
+entry_at {A} table place = option_and_then (λ (x : Option A). x) (slice_get table place)
+
+-- the size with which a segment of a rank is declared
+abbrev pub declared_size : World → ℕ → ℕ → Option ℕ
+declared_size w rank segment = option_map (λ d. d.size) (find (is_segment rank segment) w.segments)
+
+-- the segments that a rank declares, by their numbers: of generation 0 (segments)
+abbrev pub opening_extents : World → ℕ → List (Option Extent)
+opening_extents w rank =
+    map (λ segment. option_map (λ size. record { generation = 0; size = size }) (declared_size w rank segment)) (range_with_len 0 32)
+
+abbrev pub opening_thread : World → ℕ → ℕ → ThreadState
+opening_thread w rank thread = if list_any (is_caller rank thread) w.callers then Running else Absent
+
+-- a queue with no entry, one empty lane for each rank
+abbrev pub opening_queue : ℕ → Queue
+opening_queue ranks = record { open_count = 0; broken = None; lanes = replicate ranks [] }
+
+abbrev pub opening_posts : World → ℕ → Posts
+opening_posts w rank = record {
+  queues = replicate w.limits.queues (opening_queue w.limits.ranks);
+  corrupt = replicate w.limits.ranks false;
+  own = opening_extents w rank;
+  known = map (opening_extents w) (range_with_len 0 w.limits.ranks);
+  threads = map (opening_thread w rank) (range_with_len 0 4);
+  events = 0;
+  next = 0;
+}
+
+-- zeros, with all slots zero
+abbrev pub opening_segment : ℕ → ℕ → Segment
+opening_segment notes size = record { generation = 0; bytes = replicate size 0; slots = replicate notes 0 }
+
+abbrev pub opening_memory : World → ℕ → Memory
+opening_memory w rank = record {
+  segments = map (λ segment. option_map (opening_segment w.limits.notes) (declared_size w rank segment)) (range_with_len 0 32);
+}
+
+-- the state at the start: the shape's, all else zero or empty
+abbrev pub opening : World → State
+opening w = record {
+  limits = w.limits;
+  posts = map (opening_posts w) (range_with_len 0 w.limits.ranks);
+  memories = map (opening_memory w) (range_with_len 0 w.limits.ranks);
+}
+
+-- the state of a thread; one that is over the threads of a rank has no section
+abbrev pub thread_at : Posts → ℕ → ThreadState
+thread_at posts thread = thread_or_absent (slice_get posts.threads thread)
+  where
+    thread_or_absent : Option ThreadState → ThreadState
+    thread_or_absent None = Absent
+    thread_or_absent (Some t) = t
+
+abbrev pub is_running : ThreadState → Bool
+is_running Absent = false
+is_running Running = true
+is_running Ended = false
+
+-- own choice: the events for which room is kept. Each posted entry owes two, each carried one owes one, and each
+-- thread that has not ended owes its end.
+abbrev pub queue_owed : Queue → ℕ
+queue_owed q = sum_by lane_owed q.lanes
+
+abbrev pub entries_owed : Posts → ℕ
+entries_owed posts = sum_by queue_owed posts.queues
+
+abbrev pub owed : Posts → ℕ
+owed posts = entries_owed posts + count_by is_running posts.threads
+
+-- the segment of a memory, by its number
+abbrev pub segment_at : Memory → ℕ → Option Segment
+segment_at memory segment = entry_at memory.segments segment

@@ -1,0 +1,6 @@
+//! What the GASPI machine is: its state, its step, its histories and their laws. No code runs here.
+#![tactic(auto)]
+
+mod states;
+
+pub use states::{Memory, Posts, Queue, Segment, State, StepFault, ThreadState, Why};

@@ -1,0 +1,89 @@
+//! The state of the machine.
+
+use gaspi_types::{Bytes, Entry, Extent, Limits, RankId, Rows};
+
+/// A queue of a rank. (GASPI: one-sided communication)
+#[derive(Debug, PartialEq, Eq, Drop)]
+pub struct Queue {
+    /// How many entries were posted since the last wait that was done.
+    pub open_count: u32,
+    /// The target with which it is broken.
+    pub broken: Option<RankId>,
+    /// Its lane to each rank.
+    pub lanes: Rows<Rows<Entry>>,
+}
+
+/// Whether a thread of a rank has a script, and has ended.
+#[derive(Clone, Copy, Debug, PartialEq, Eq)]
+pub enum ThreadState {
+    Absent,
+    Running,
+    Ended,
+}
+
+/// The posts of a rank: all that is known of it but the bytes and slots of its segments.
+#[derive(Debug, PartialEq, Eq, Drop)]
+pub struct Posts {
+    pub queues: Rows<Queue>,
+    /// Which ranks are corrupt for this one. (GASPI: state vector)
+    pub corrupt: Rows<bool>,
+    /// Its own segments, by their numbers.
+    pub own: Rows<Option<Extent>>,
+    /// What it knows of the segments of each rank.
+    pub known: Rows<Rows<Option<Extent>>>,
+    /// Its threads, by their numbers.
+    pub threads: Rows<ThreadState>,
+    /// How many events it has recorded.
+    pub events: u32,
+    /// The number of its next entry.
+    pub next: u32,
+}
+
+/// A segment of a rank. (GASPI: segments)
+#[derive(Debug, PartialEq, Eq, Drop)]
+pub struct Segment {
+    pub generation: u32,
+    pub bytes: Bytes,
+    /// Its notification slots. (GASPI: notifications)
+    pub slots: Rows<u32>,
+}
+
+/// The memory of a rank: its segments, by their numbers.
+#[derive(Debug, PartialEq, Eq, Drop)]
+pub struct Memory {
+    pub segments: Rows<Option<Segment>>,
+}
+
+/// The state of the machine: the limits, and the posts and the memory of each rank.
+#[derive(Debug, PartialEq, Eq, Drop)]
+pub struct State {
+    pub limits: Limits,
+    pub posts: Rows<Posts>,
+    pub memories: Rows<Memory>,
+}
+
+/// Why an event is no step.
+#[derive(Clone, Copy, Debug, PartialEq, Eq)]
+pub enum Why {
+    /// The caller has no section.
+    Caller,
+    /// The rank has no room for the event.
+    Limit,
+    /// The caller's collective may not join.
+    Join,
+    /// The machine does not answer this call so.
+    Reply,
+    /// There is no such entry to take, or it is not permitted, or has another outcome.
+    Take,
+    /// The same of a put.
+    Put,
+}
+
+/// Why a step was not made.
+#[derive(Clone, Copy, Debug, PartialEq, Eq)]
+pub enum StepFault {
+    /// The event is no step.
+    Illegal(Why),
+    /// Want of memory.
+    NoMemory,
+}

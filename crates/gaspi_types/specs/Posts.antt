@@ -1,0 +1,33 @@
+-- What a post asks for: its entries, or the first refusal up to the notification value.
+-- (GASPI: one-sided communication)
+use Rattle.std.specs.Prelude.{ℕ, not, ◌==◌, nat_lt, List, [], ◌∷◌, Option, None, Result, Ok, if◌then◌else◌, slice_get, option_and_then}
+use Rattle.gaspi_types.specs.Checks.{◌>>=◌, check, found}
+use Rattle.gaspi_types.specs.SegmentBytes.{is_transfer_size, is_within}
+use Rattle.gaspi_types.specs.declared.entries.Extent.{Extent}
+use Rattle.gaspi_types.specs.declared.entries.Kind.{Kind}
+use Rattle.gaspi_types.specs.declared.entries.Kind.TheVariants.{Write, Notify}
+use Rattle.gaspi_types.specs.declared.replies.Refusal.{Refusal}
+use Rattle.gaspi_types.specs.declared.replies.Refusal.TheVariants.{NoSegment, Unregistered, BadRange, BadSize, BadNote, ZeroValue}
+
+-- what stands in a table of segments at a number, which is below 32
+abbrev pub extent_in : List (Option Extent) → ℕ → Option Extent
+extent_in table segment =
+    if nat_lt segment 32 then option_and_then (λ (x : Option Extent). x) (slice_get table segment) else None
+
+-- what the rank knows of a segment of a rank: of its own what is there, of others what was made known to it
+abbrev pub known_extent : ℕ → List (Option Extent) → List (List (Option Extent)) → ℕ → ℕ → Option Extent
+known_extent me own known rank segment =
+    if rank == me then extent_in own segment else option_and_then (λ table. extent_in table segment) (slice_get known rank)
+
+-- a write with its notification. The refusals stand in the order of all calls: segments, sizes, ranges, note, value
+abbrev pub write_notify_kinds : ℕ → ℕ → List (Option Extent) → List (List (Option Extent)) → ℕ → ℕ → ℕ → ℕ → ℕ → ℕ → ℕ → ℕ → Result (List Kind) Refusal
+write_notify_kinds notes me own known seg offset rank rseg roffset size note value = do
+  mine ← found (extent_in own seg) NoSegment
+  theirs ← found (known_extent me own known rank rseg) Unregistered
+  sized ← check (is_transfer_size size) BadSize
+  from ← check (is_within offset size mine.size) (BadRange mine.size)
+  to ← check (is_within roffset size theirs.size) (BadRange theirs.size)
+  noted ← check (nat_lt note notes) BadNote
+  valued ← check (not (value == 0)) ZeroValue
+  Ok (Write (record { segment = seg; generation = mine.generation; offset = offset; size = size }) (record { segment = rseg; generation = theirs.generation; offset = roffset; size = size })
+      ∷ Notify (record { segment = rseg; generation = theirs.generation; note = note }) value ∷ [])

@@ -1,0 +1,20 @@
+-- The bytes of a segment. (GASPI: segments)
+use Rattle.std.specs.Prelude.{ℕ, ◌+◌, List, ◌++◌, length, take, drop, nat_le, if◌then◌else◌, Bool}
+use Rattle.gaspi_types.specs.Ranges.{is_between}
+
+-- own choice: how many bytes a transfer, a store or a load may have
+abbrev pub is_transfer_size : ℕ → Bool
+is_transfer_size size = is_between 1 65536 size
+
+-- whether a range lies within that many bytes
+abbrev pub is_within : ℕ → ℕ → ℕ → Bool
+is_within offset size whole = nat_le (offset + size) whole
+
+-- the bytes of a range
+abbrev pub range_of : List ℕ → ℕ → ℕ → List ℕ
+range_of bytes offset size = take size (drop offset bytes)
+
+-- the bytes with those of a range replaced; a range that does not lie within them leaves them as they are
+abbrev pub with_range : List ℕ → ℕ → List ℕ → List ℕ
+with_range bytes offset new =
+    if is_within offset (length new) (length bytes) then take offset bytes ++ new ++ drop (offset + length new) bytes else bytes
