@@ -1,5 +1,10 @@
+pub mod CallText
 pub mod Copies
+pub mod Hex
 pub mod Lending
 pub mod Need
+pub mod Numbers
 pub mod Ranges
+pub mod ReplyText
+pub mod Words
 pub mod World
