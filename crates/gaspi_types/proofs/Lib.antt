@@ -1,1 +1,4 @@
+pub mod HexWords
 pub mod NumberWords
+pub mod ReplyTexts
+pub mod WordTexts

@@ -45,6 +45,15 @@ has_timeout Wait = true
 has_timeout Waitsome = true
 has_timeout Reset = false
 
+-- whether the call's text holds bytes, which take memory as they are read
+abbrev pub holds_bytes : CallWord → Bool
+holds_bytes Store = true
+holds_bytes Load = false
+holds_bytes WriteNotify = false
+holds_bytes Wait = false
+holds_bytes Waitsome = false
+holds_bytes Reset = false
+
 -- the same of a word of a text
 abbrev pub is_call_word : List ℕ → Bool
 is_call_word word = is_some (call_word_of word)
@@ -132,6 +141,11 @@ call_of [] = None
 call_of (word ∷ arguments) = do
   call ← call_word_of word
   call_with call arguments
+
+-- whether reading these words as a call may take memory
+abbrev pub takes_memory : List (List ℕ) → Bool
+takes_memory [] = false
+takes_memory (word ∷ arguments) = option_map_or holds_bytes (call_word_of word) false
 
 -- the call that a text spells
 abbrev pub call_of_text : List ℕ → Option Call

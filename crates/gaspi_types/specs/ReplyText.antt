@@ -1,7 +1,8 @@
 -- The texts of replies, in the one form that is written.
-use Rattle.std.specs.Prelude.{ℕ, List, [], ◌∷◌, ◌++◌, codes}
+use Rattle.std.specs.Prelude.{ℕ, ◌^◌, ◌<◌, List, [], ◌∷◌, ◌++◌, codes}
 use Rattle.std.specs.Fmt.{decimal}
-use Rattle.std.specs.List.{flat_map}
+use Rattle.std.specs.List.{flat_map, AllByRecursion}
+use Rattle.hex.specs.Hex.{IsBytes}
 use Rattle.gaspi_types.specs.Hex.{hex_text}
 use Rattle.gaspi_types.specs.declared.replies.Refusal.{Refusal}
 use Rattle.gaspi_types.specs.declared.replies.Refusal.TheVariants.{BadRank, NoSegment, Unregistered, BadRange, BadSize, BadQueue, QueueFull, QueueBroken, BadNote, ZeroValue, CallerEnded}
@@ -48,3 +49,12 @@ reply_text (Id n) = codes "id" ++ spaced_numbers (n ∷ [])
 reply_text (Bytes bytes) = codes "bytes " ++ hex_text bytes
 reply_text Timeout = codes "timeout"
 reply_text (Refused refusal) = codes "refused" ++ spaced_numbers (refusal_number refusal ∷ refusal_fields refusal)
+
+-- the numbers of a reply are those of its types
+abbrev pub IsInRange : Reply → Type 0
+IsInRange Done = Unit {0}
+IsInRange (Value n) = n < 2 ^ 64
+IsInRange (Id n) = n < 2 ^ 32
+IsInRange (Bytes bytes) = IsBytes bytes
+IsInRange Timeout = Unit {0}
+IsInRange (Refused refusal) = AllByRecursion (λ n. n < 2 ^ 32) (refusal_fields refusal)

@@ -1,7 +1,7 @@
 //! Calls read from texts.
 
-ghost use Rattle.std.specs.Prelude.{◌≡◌, map, IfOk};
-ghost use Rattle.gaspi_types.specs.CallText.{store_of, load_of, write_notify_of, wait_of, waitsome_of, reset_of, call_of, call_of_text};
+ghost use Rattle.std.specs.Prelude.{◌≡◌, map, IfOk, OnErr, true};
+ghost use Rattle.gaspi_types.specs.CallText.{store_of, load_of, write_notify_of, wait_of, waitsome_of, reset_of, call_of, takes_memory, call_of_text};
 
 use crate::blanks::words;
 use crate::call_words::CallWord;
@@ -108,10 +108,12 @@ fn read_reset(arguments: &[&[u8]]) -> Option<Call>
     Some(Call::Reset { seg, note })
 }
 
-/// The call that words spell: a call's word and exactly its arguments, without a timeout.
+/// The call that words spell: a call's word and exactly its arguments, without a timeout. Only the bytes of a `store`
+/// take memory.
 #[tactic(auto, unfolding(crate::specs::CallText::call_of))]
 pub fn read_call_words(alloc: Global, words: &[&[u8]]) -> Result<Option<Call>, NoMemory>
-    ensures { IfOk result (λ call. call ≡ call_of (map (λ word. word.now) words.now)) }
+    ensures ok { IfOk result (λ call. call ≡ call_of (map (λ word. word.now) words.now)) }
+    ensures memory { OnErr result (takes_memory (map (λ word. word.now) words.now) ≡ true) }
 {
     let [word, arguments @ ..] = words else {
         return Ok(None);

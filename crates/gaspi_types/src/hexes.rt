@@ -1,7 +1,8 @@
 //! Bytes as words of a text.
 
-ghost use Rattle.std.specs.Prelude.{◌≡◌, ◌++◌, IfOk, OnOk, OnErr};
-ghost use Rattle.gaspi_types.specs.Hex.{bytes_of, hex_text};
+ghost use Rattle.std.specs.Prelude.{◌≡◌, ◌++◌, IfOk, OnOk, OnErr, false};
+ghost use Rattle.std.specs.Str.{bytes_eq};
+ghost use Rattle.gaspi_types.specs.Hex.{bytes_of, hex_text, no_bytes};
 
 use crate::lists::{Bytes, Rows};
 use crate::memory::NoMemory;
@@ -9,9 +10,11 @@ use hex::FromHexError;
 use std::alloc::Global;
 
 /// The bytes that a word spells: `-` for none, or an even number of hex digits of either case, at least two.
+/// `-` takes no memory.
 #[tactic(auto, unfolding(crate::specs::Hex::bytes_of))]
 pub fn read_bytes(alloc: Global, word: &[u8]) -> Result<Option<Bytes>, NoMemory>
-    ensures { IfOk result (λ bytes. bytes ≡ bytes_of word.now) }
+    ensures ok { IfOk result (λ bytes. bytes ≡ bytes_of word.now) }
+    ensures memory { OnErr result (bytes_eq word.now no_bytes ≡ false) }
 {
     if word == b"-".as_slice() {
         return Ok(Some(Rows::new(alloc)));

@@ -14,6 +14,7 @@ mod numbers;
 mod replies;
 mod reply_texts;
 mod shapes;
+mod text_laws;
 
 pub use blanks::words;
 pub use call_texts::{read_call, read_call_words};
@@ -25,6 +26,10 @@ pub use ids::{NoteId, QueueId, RankId, SegId, ThreadId};
 pub use lists::{Bytes, Rows};
 pub use memory::NoMemory;
 pub use numbers::{read_number, read_value, write_number};
-pub use reply_texts::write_reply;
 pub use replies::{Ready, Refusal, Reply};
+pub use reply_texts::write_reply;
 pub use shapes::{CallerId, Declared, Limits, Shape, ShapeFault};
+pub use text_laws::{bytes_read_back, numbers_read_back, replies_differ_in_text, words_read_back};
+
+#[cfg(test)]
+mod tests;

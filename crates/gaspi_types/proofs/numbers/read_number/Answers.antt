@@ -1,4 +1,3 @@
-use Rattle.gaspi_types.specs.Numbers.{number_of}
 use Rattle.gaspi_types.proofs.NumberWords.{number_of-parse}
 use Rattle.gaspi_types.proofs.numbers.read_number.Goals as goal
 
