@@ -1,6 +1,6 @@
 //! Lists that contracts see as lists: no capacity and no pointer stands in an equation about them.
 
-ghost use Rattle.std.specs.Prelude.{◌≡◌, ◌+◌, ◌<◌, ◌≤◌, ◌↔◌, ◌++◌, ◌∷◌, [], length, slice_set, slice_get, IsTrue, OnOk, OnErr, IfOk, IsOk, Some};
+ghost use Rattle.std.specs.Prelude.{◌≡◌, ◌+◌, ◌<◌, ◌≤◌, ◌↔◌, ◌++◌, ◌∷◌, [], length, take, slice_set, slice_get, IsTrue, OnOk, OnErr, IfOk, IsOk, Some};
 ghost use Rattle.std.specs.Borrow.{sem};
 ghost use Rattle.std.specs.Cmp.Lexicographic.{pointwise, lists_per, lists_equiv};
 
@@ -99,6 +99,20 @@ impl<T> Rows<T> {
     {
         self.items.push(item)?;
         Ok(())
+    }
+
+    /// The allocator that holds the list.
+    pub(crate) fn allocator(&self) -> Global {
+        *self.items.allocator()
+    }
+
+    /// Keeps the first items alone, as many as that or all.
+    pub fn truncate(&mut self, count: usize)
+    where
+        T: Drop,
+        ensures { self.new ≡ take count self.old }
+    {
+        self.items.truncate(count);
     }
 }
 
