@@ -3,6 +3,7 @@ pub mod Chains
 pub mod Tables
 pub mod Same
 pub mod Made
+pub mod Rising
 pub mod Accounts
 pub mod CallAccounts
 pub mod SoundSteps

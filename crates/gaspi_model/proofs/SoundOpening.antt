@@ -12,6 +12,7 @@ use Rattle.gaspi_types.specs.Lanes.{lane_owed}
 use Rattle.gaspi_types.specs.declared.shapes.CallerId.{CallerId}
 use Rattle.gaspi_model.specs.State.{opening, opening_posts, opening_queue, opening_thread, entries_owed, queue_owed, is_running}
 use Rattle.gaspi_model.specs.Sound.{IsSoundPosts, IsSound}
+use Rattle.gaspi_model.specs.declared.states.Queue.{Queue}
 use Rattle.gaspi_model.specs.declared.states.ThreadState.TheVariants.{Absent, Running}
 
 -- what stands in a list of copies
@@ -94,6 +95,10 @@ opening-sound w rank world = record {
       let callers = world.callers rank in
       omega arith);
   numbers = omega arith;
+  rising = λ queue q at target lane here.
+    let opened = slice_get-replicate w.limits.queues (opening_queue w.limits.ranks) q queue at in
+    let none = slice_get-replicate w.limits.ranks [] lane target (subst (λ (x : Queue). slice_get x.lanes target ≡ Some lane) opened here) in
+    rw none tt;
 }
 
 pub opens : (w : World) → IsWorld w → IsSound (opening w)

@@ -1,5 +1,5 @@
 -- The opening state is sound, and every step keeps a state sound.
-use Rattle.std.proofs.Common.{◌≡◌, ℕ, ◌+◌, ◌≤◌, Bool, true, false, List, ◌++◌, length, Option, None, Some, Result, Ok, Err, refl, ap, ◌∙◌, arith, if◌then◌else◌, ◌⊎◌, inl, inr, remove}
+use Rattle.std.proofs.Common.{subst, ◌≡◌, ℕ, ◌+◌, ◌≤◌, Bool, true, false, List, ◌++◌, length, Option, None, Some, Result, Ok, Err, refl, ap, ◌∙◌, arith, if◌then◌else◌, ◌⊎◌, inl, inr, remove}
 use Rattle.std.specs.List.{slice_get, slice_set}
 use Rattle.std.proofs.lemmas.Bool.{leb-true}
 use Rattle.std.proofs.lemmas.List.{length-set}
@@ -22,14 +22,15 @@ use Rattle.gaspi_model.specs.State.{owed}
 use Rattle.gaspi_model.specs.Calls.{changed_at, with_entries, with_post, posts_done, counted}
 use Rattle.gaspi_model.specs.Transfers.{Found, with_lane, with_phase, put_with, taken_bytes, Parts}
 use Rattle.gaspi_model.specs.Step.{step}
-use Rattle.gaspi_model.specs.Sound.{IsSoundPosts, IsSound}
+use Rattle.gaspi_model.specs.Sound.{IsSoundPosts, IsSound, AreRising}
+use Rattle.gaspi_model.proofs.Rising.{AreRising-more, AreRising-phase, AreRising-remove, AreRising-post}
 use Rattle.gaspi_model.specs.declared.states.Queue.{Queue}
 use Rattle.gaspi_model.specs.declared.states.Posts.{Posts}
 use Rattle.gaspi_model.specs.declared.states.Memory.{Memory}
 use Rattle.gaspi_model.specs.declared.states.State.{State}
 use Rattle.gaspi_model.proofs.Tables.{slice_get-set}
 use Rattle.gaspi_model.proofs.Same.{same_reply-same}
-use Rattle.gaspi_model.proofs.Made.{IsTake, IsPut, IsCalled, step-called, step-take, step-put}
+use Rattle.gaspi_model.proofs.Made.{IsFound, IsTake, IsPut, IsCalled, step-called, step-take, step-put}
 use Rattle.gaspi_model.proofs.Accounts.{take-owed, put-owed, kinds-two}
 use Rattle.gaspi_model.proofs.CallAccounts.{HasLanes, with_post-events, call-grows}
 
@@ -55,6 +56,56 @@ lanes-changed ranks queues queue change keeps all k q h = go (slice_get queues q
     go None at = all k q (rw at at h)
     go (Some x) at = parts x at (slice_get-set queues queue k (change x) q (rw at at h))
 
+-- each lane of the queues rises below a number
+abbrev RiseBelow : ℕ → List Queue → Type 0
+RiseBelow next queues = (k : ℕ) (q : Queue) → slice_get queues k ≡ Some q → (target : ℕ) (lane : List Entry) → slice_get q.lanes target ≡ Some lane → AreRising next lane
+
+rise-changed : (next : ℕ) (queues : List Queue) (queue : ℕ) (change : Queue → Queue)
+    → ((q : Queue) → slice_get queues queue ≡ Some q → (target : ℕ) (lane : List Entry) → slice_get (change q).lanes target ≡ Some lane → AreRising next lane)
+    → RiseBelow next queues → RiseBelow next (changed_at queues queue change)
+rise-changed next queues queue change keeps all k q h = go (slice_get queues queue) refl
+  where
+    parts : (x : Queue) → slice_get queues queue ≡ Some x → ((k ≡ queue) × (q ≡ change x)) ⊎ (slice_get queues k ≡ Some q) → (target : ℕ) (lane : List Entry) → slice_get q.lanes target ≡ Some lane → AreRising next lane
+    parts x at (inl here) target lane is = keeps x at target lane (subst (λ (y : Queue). slice_get y.lanes target ≡ Some lane) here.1 is)
+    parts x at (inr there) target lane is = all k q there target lane is
+    go : (o : Option Queue) → slice_get queues queue ≡ o → (target : ℕ) (lane : List Entry) → slice_get q.lanes target ≡ Some lane → AreRising next lane
+    go None at = all k q (rw at at h)
+    go (Some x) at = parts x at (slice_get-set queues queue k (change x) q (rw at at h))
+
+-- one lane of a queue replaced by one that rises
+rise-lane : (next : ℕ) (lanes : List (List Entry)) (target : ℕ) (lane' : List Entry) → AreRising next lane'
+    → ((t : ℕ) (lane : List Entry) → slice_get lanes t ≡ Some lane → AreRising next lane)
+    → (t : ℕ) (lane : List Entry) → slice_get (slice_set lanes target lane') t ≡ Some lane → AreRising next lane
+rise-lane next lanes target lane' rising all t lane h = parts (slice_get-set lanes target t lane' lane h)
+  where
+    parts : ((t ≡ target) × (lane ≡ lane')) ⊎ (slice_get lanes t ≡ Some lane) → AreRising next lane
+    parts (inl here) = rw here.1 rising
+    parts (inr there) = all t lane there
+
+rise-more : (m n : ℕ) (queues : List Queue) → m ≤ n → RiseBelow m queues → RiseBelow n queues
+rise-more m n queues less all k q at target lane is = AreRising-more m n lane less (all k q at target lane is)
+
+-- the lanes of a queue with entries of a post added to one of them
+rise-entries : (number next : ℕ) (q : Queue) (target : ℕ) (kinds : List Kind) → number + length kinds ≤ next
+    → ((t : ℕ) (lane : List Entry) → slice_get q.lanes t ≡ Some lane → AreRising number lane)
+    → (t : ℕ) (lane : List Entry) → slice_get (with_entries target (posted_entries number kinds) q).lanes t ≡ Some lane → AreRising next lane
+rise-entries number next q target kinds fits all t lane h = go (slice_get q.lanes target) refl
+  where
+    parts : (x : List Entry) → slice_get q.lanes target ≡ Some x → ((t ≡ target) × (lane ≡ x ++ posted_entries number kinds)) ⊎ (slice_get q.lanes t ≡ Some lane) → AreRising next lane
+    parts x at (inl here) = rw here.1 (AreRising-post number next x kinds fits (all target x at))
+    parts x at (inr there) = AreRising-more number next lane (omega arith) (all t lane there)
+    go : (o : Option (List Entry)) → slice_get q.lanes target ≡ o → AreRising next lane
+    go None at = AreRising-more number next lane (omega arith) (all t lane (rw at at h))
+    go (Some x) at = parts x at (slice_get-set q.lanes target t (x ++ posted_entries number kinds) lane (rw at at h))
+
+rise-post : (posts : Posts) (queue target : ℕ) (asked : Result (List Kind) Refusal) → RiseBelow posts.next posts.queues
+    → RiseBelow (with_post posts queue target asked).next (with_post posts queue target asked).queues
+rise-post posts queue target (Err refusal) all = all
+rise-post posts queue target (Ok kinds) all =
+    rise-changed (posts.next + length kinds) posts.queues queue (with_entries target (posted_entries posts.next kinds))
+        (λ q at. rise-entries posts.next (posts.next + length kinds) q target kinds (omega arith) (all queue q at))
+        (rise-more posts.next (posts.next + length kinds) posts.queues (omega arith) all)
+
 -- the next number after a post
 numbers-post : (posts : Posts) (queue target notes me seg offset rank rseg roffset size note value : ℕ) → (own : _) (known : _)
     → (with_post posts queue target (write_notify_kinds notes me own known seg offset rank rseg roffset size note value)).next ≤ posts.next + 2
@@ -74,35 +125,38 @@ record Keeps (ranks : ℕ) (before after : Posts) : Type 0 where
   lanes : HasLanes ranks after
   events : after.events ≡ before.events
   numbers : after.next ≤ before.next + 2
+  rising : RiseBelow after.next after.queues
 
-done-keeps : (ranks : ℕ) (limits : Limits) (me : ℕ) (posts : Posts) (thread : ℕ) (call : Call) → HasLanes ranks posts → Keeps ranks posts (posts_done limits me posts thread call)
-done-keeps ranks limits me posts thread (Store seg offset bytes) all = record { lanes = all; events = refl; numbers = omega arith }
-done-keeps ranks limits me posts thread (Load seg offset size) all = record { lanes = all; events = refl; numbers = omega arith }
-done-keeps ranks limits me posts thread (WriteNotify seg offset rank rseg roffset size note value queue) all =
+done-keeps : (ranks : ℕ) (limits : Limits) (me : ℕ) (posts : Posts) (thread : ℕ) (call : Call) → HasLanes ranks posts → RiseBelow posts.next posts.queues → Keeps ranks posts (posts_done limits me posts thread call)
+done-keeps ranks limits me posts thread (Store seg offset bytes) all rise = record { lanes = all; events = refl; numbers = omega arith; rising = rise }
+done-keeps ranks limits me posts thread (Load seg offset size) all rise = record { lanes = all; events = refl; numbers = omega arith; rising = rise }
+done-keeps ranks limits me posts thread (WriteNotify seg offset rank rseg roffset size note value queue) all rise =
     let asked = write_notify_kinds limits.notes me posts.own posts.known seg offset rank rseg roffset size note value in
     record {
       lanes = lanes-post ranks posts queue rank asked all;
       events = with_post-events posts queue rank asked;
       numbers = numbers-post posts queue rank limits.notes me seg offset rank rseg roffset size note value posts.own posts.known;
+      rising = rise-post posts queue rank asked rise;
     }
-done-keeps ranks limits me posts thread (Wait queue) all = record {
+done-keeps ranks limits me posts thread (Wait queue) all rise = record {
   lanes = lanes-changed ranks posts.queues queue (λ (q : Queue). record q { open_count = 0 }) (λ q. refl) all;
   events = refl;
   numbers = omega arith;
+  rising = rise-changed posts.next posts.queues queue (λ (q : Queue). record q { open_count = 0 }) (λ q at. rise queue q at) rise;
 }
-done-keeps ranks limits me posts thread (Waitsome seg begin num) all = record { lanes = all; events = refl; numbers = omega arith }
-done-keeps ranks limits me posts thread (Reset seg note) all = record { lanes = all; events = refl; numbers = omega arith }
-done-keeps ranks limits me posts thread End all = record { lanes = all; events = refl; numbers = omega arith }
+done-keeps ranks limits me posts thread (Waitsome seg begin num) all rise = record { lanes = all; events = refl; numbers = omega arith; rising = rise }
+done-keeps ranks limits me posts thread (Reset seg note) all rise = record { lanes = all; events = refl; numbers = omega arith; rising = rise }
+done-keeps ranks limits me posts thread End all rise = record { lanes = all; events = refl; numbers = omega arith; rising = rise }
 
 -- the posts after a call, idle or not
-after-keeps : (ranks : ℕ) (b : Bool) (before done : Posts) → HasLanes ranks before → Keeps ranks before done → Keeps ranks before (if b then before else done)
-after-keeps ranks true before done all keeps = record { lanes = all; events = refl; numbers = omega arith }
-after-keeps ranks false before done all keeps = keeps
+after-keeps : (ranks : ℕ) (b : Bool) (before done : Posts) → HasLanes ranks before → RiseBelow before.next before.queues → Keeps ranks before done → Keeps ranks before (if b then before else done)
+after-keeps ranks true before done all rise keeps = record { lanes = all; events = refl; numbers = omega arith; rising = rise }
+after-keeps ranks false before done all rise keeps = keeps
 
 called-sound : (limits : Limits) (me : ℕ) (posts : Posts) (memory : Memory) (thread : ℕ) (call : Call) (reply : Reply) (after : Parts)
     → IsSoundPosts limits posts → IsCalled limits me posts memory thread call reply after → IsSoundPosts limits after.posts
 called-sound limits me posts memory thread call reply after sound h =
-    let keeps = after-keeps limits.ranks (is_idle reply) posts (posts_done limits me posts thread call) sound.lanes (done-keeps limits.ranks limits me posts thread call sound.lanes) in
+    let keeps = after-keeps limits.ranks (is_idle reply) posts (posts_done limits me posts thread call) sound.lanes sound.rising (done-keeps limits.ranks limits me posts thread call sound.lanes sound.rising) in
     let grows = call-grows limits me posts memory thread call reply sound.lanes (same_reply-same _ _ h.answered) in
     let room = leb-true _ _ h.room in
     let numbers = sound.numbers in
@@ -110,11 +164,19 @@ called-sound limits me posts memory thread call reply after sound h =
       lanes = keeps.lanes;
       room = omega arith;
       numbers = (let events = keeps.events in let next = keeps.numbers in omega arith);
+      rising = keeps.rising;
     })
 
 lanes-with_lane : (ranks : ℕ) (posts : Posts) (queue target : ℕ) (lane : List Entry) → HasLanes ranks posts → HasLanes ranks (with_lane posts queue target lane)
 lanes-with_lane ranks posts queue target lane all =
     lanes-changed ranks posts.queues queue (λ (q : Queue). record q { lanes = slice_set q.lanes target lane }) (λ q. length-set q.lanes target lane) all
+
+-- the posts with a lane replaced by one that rises
+rise-with_lane : (posts : Posts) (queue target number : ℕ) (at : Found) (lane : List Entry) → IsFound posts queue target number at → AreRising posts.next lane
+    → RiseBelow posts.next posts.queues → RiseBelow posts.next (with_lane posts queue target lane).queues
+rise-with_lane posts queue target number at lane is rising all =
+    rise-changed posts.next posts.queues queue (λ (q : Queue). record q { lanes = slice_set q.lanes target lane })
+        (λ q here. rise-lane posts.next q.lanes target lane rising (all queue q here)) all
 
 take-sound : (limits : Limits) (posts : Posts) (memory : Memory) (queue target number : ℕ) (outcome : Outcome) (after : Posts) (at : Found)
     → IsSoundPosts limits posts → IsTake limits posts memory queue target number outcome after at → IsSoundPosts limits after
@@ -122,11 +184,13 @@ take-sound limits posts memory queue target number outcome after at sound h =
     let owes = take-owed limits posts memory queue target number outcome after at h in
     let room = sound.room in
     let numbers = sound.numbers in
+    let rises = sound.rising queue at.queue h.is.in_posts target at.lane h.is.in_queue in
     let lane = with_phase at.lane at.place at.entry (phases.Carried (taken_bytes memory at.entry.kind)) in
     let made : IsSoundPosts limits (counted (with_lane posts queue target lane)) = record {
       lanes = lanes-with_lane limits.ranks posts queue target lane sound.lanes;
       room = (let same = ap (λ (p : Posts). p.events + owed p) h.leaves in omega arith);
       numbers = omega arith;
+      rising = rise-with_lane posts queue target number at lane h.is (AreRising-phase posts.next at.lane at.place at.entry (phases.Carried (taken_bytes memory at.entry.kind)) h.is.in_lane rises) sound.rising;
     } in
     rw h.leaves made
 
@@ -136,23 +200,28 @@ put-sound limits posts memory queue target number Applied after at sound h =
     let owes = put-owed posts memory queue target number Applied after at h in
     let room = sound.room in
     let numbers = sound.numbers in
+    let rises = sound.rising queue at.queue h.is.in_posts target at.lane h.is.in_queue in
     let lane = remove at.lane at.place in
     let made : IsSoundPosts limits (counted (with_lane posts queue target lane)) = record {
       lanes = lanes-with_lane limits.ranks posts queue target lane sound.lanes;
       room = (let same = ap (λ (p : Parts). p.posts.events + owed p.posts) h.leaves in omega arith);
       numbers = omega arith;
+      rising = rise-with_lane posts queue target number at lane h.is (AreRising-remove posts.next at.lane at.place rises) sound.rising;
     } in
     rw h.leaves made
 put-sound limits posts memory queue target number Failed after at sound h =
     let owes = put-owed posts memory queue target number Failed after at h in
     let room = sound.room in
     let numbers = sound.numbers in
+    let rises = sound.rising queue at.queue h.is.in_posts target at.lane h.is.in_queue in
     let lane = with_phase at.lane at.place at.entry phases.Failed in
     let change = λ (q : Queue). record q { broken = Some target; lanes = slice_set q.lanes target lane } in
     let made : IsSoundPosts limits (put_with posts memory queue target at Failed).posts = record {
       lanes = lanes-changed limits.ranks posts.queues queue change (λ q. length-set q.lanes target lane) sound.lanes;
       room = (let same = ap (λ (p : Parts). p.posts.events + owed p.posts) h.leaves in omega arith);
       numbers = omega arith;
+      rising = rise-changed posts.next posts.queues queue change
+        (λ q here. rise-lane posts.next q.lanes target lane (AreRising-phase posts.next at.lane at.place at.entry phases.Failed h.is.in_lane rises) (sound.rising queue q here)) sound.rising;
     } in
     rw h.leaves made
 
