@@ -8,3 +8,4 @@ pub mod Accounts
 pub mod CallAccounts
 pub mod SoundSteps
 pub mod SoundOpening
+pub mod EnabledEvents

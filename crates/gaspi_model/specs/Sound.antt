@@ -28,4 +28,6 @@ pub record IsSoundPosts (limits : Limits) (posts : Posts) : Type 0 where
 
 pub record IsSound (s : State) : Type 0 where
   pub limits : are_limits s.limits ≡ true
+  pub ranks : length s.posts ≡ s.limits.ranks
+  pub memories : length s.memories ≡ s.limits.ranks
   pub posts : (rank : ℕ) (posts : Posts) → slice_get s.posts rank ≡ Some posts → IsSoundPosts s.limits posts
