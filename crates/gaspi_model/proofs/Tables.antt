@@ -26,3 +26,15 @@ sum_by-changed f xs i x y h =
 -- a change at a place where something stands
 pub changed_at-found : {A : Type 0} (xs : List A) (i : ℕ) (x : A) (change : A → A) → slice_get xs i ≡ Some x → changed_at xs i change ≡ slice_set xs i (change x)
 changed_at-found xs i x change h = rw h refl
+
+pub slice_get-set_same : {A : Type 0} (xs : List A) (i : ℕ) (x y : A) → slice_get xs i ≡ Some x → slice_get (slice_set xs i y) i ≡ Some y
+slice_get-set_same [] i x y h = absurd (let no : ⊥ = cc in no)
+slice_get-set_same (z ∷ xs) zero x y h = refl
+slice_get-set_same (z ∷ xs) (suc i) x y h = slice_get-set_same xs i x y h
+
+pub slice_get-set_other : {A : Type 0} (xs : List A) (i j : ℕ) (y : A) → (i ≡ j → ⊥) → slice_get (slice_set xs i y) j ≡ slice_get xs j
+slice_get-set_other [] i j y apart = refl
+slice_get-set_other (x ∷ xs) zero zero y apart = absurd (apart refl)
+slice_get-set_other (x ∷ xs) zero (suc j) y apart = refl
+slice_get-set_other (x ∷ xs) (suc i) zero y apart = refl
+slice_get-set_other (x ∷ xs) (suc i) (suc j) y apart = slice_get-set_other xs i j y (λ e. apart (ap (λ (n : ℕ). suc n) e))
