@@ -310,3 +310,8 @@ counts s t (Put origin queue target number outcome) sound h =
     let after = put-sound s.limits made.0 made.1 queue target number outcome made.2 made.3 before m.is in
     let more = put-events made.0 made.1 queue target number outcome made.2 made.3 m.is in
     rw m.leaves (left-set s.limits s.posts origin made.0 made.2.posts m.posts_there more (let room = after.room in omega arith))
+
+pub limits-stay : (s t : State) (e : Event) → step s e ≡ Ok t → t.limits ≡ s.limits
+limits-stay s t (Called c call reply) h = ap (λ (x : State). x.limits) (step-called s t c call reply h).3.leaves
+limits-stay s t (Take origin queue target number outcome) h = ap (λ (x : State). x.limits) (step-take s t origin queue target number outcome h).4.leaves
+limits-stay s t (Put origin queue target number outcome) h = ap (λ (x : State). x.limits) (step-put s t origin queue target number outcome h).4.leaves

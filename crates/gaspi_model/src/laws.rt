@@ -21,6 +21,7 @@ ghost use Rattle.gaspi_model.specs.declared.states.State.{State};
 pub fn soundness()
     ensures opens { (w : World) → IsWorld w → IsSound (opening w) }
     ensures steps { (s t : State) (e : Event) → IsSound s → step s e ≡ Ok t → IsSound t }
+    ensures limits { (s t : State) (e : Event) → step s e ≡ Ok t → t.limits ≡ s.limits }
     // Each event takes one of the events that are left.
     ensures counts { (s t : State) (e : Event) → IsSound s → step s e ≡ Ok t → events_left t + 1 ≡ events_left s }
     // A caller goes on until its end.

@@ -31,7 +31,7 @@ use Rattle.gaspi_run.specs.declared.schedules.Finished.{Finished}
 -- a caller that has not ended: how far its run has come, and how many looks its present call has had
 pub record Waiting : Type 0 where
   pub caller : CallerId
-  pub progress : Progress
+  pub cursor : Progress
   pub looks : ℕ
 
 -- where the schedule stands: the generator's number, the machine's state, the callers that have not ended by rank and
@@ -46,7 +46,7 @@ pub record Turns : Type 0 where
 -- the caller of a script, at its start
 abbrev pub starting : Option Script → List Waiting
 starting None = []
-starting (Some script) = record { caller = script.caller; progress = going_on script.lines; looks = 0 } ∷ []
+starting (Some script) = record { caller = script.caller; cursor = going_on script.lines; looks = 0 } ∷ []
 
 -- all callers at their start, by rank and thread
 abbrev pub starts : World → List Script → List Waiting
@@ -78,7 +78,7 @@ with_waiting t place w = record t { waiting = slice_set t.waiting place w }
 -- a call recorded with its reply, after which its script goes on
 abbrev pub recorded : Turns → ℕ → Waiting → Call → Reply → Turns
 recorded t place w call reply =
-    made (with_waiting t place (record { caller = w.caller; progress = advanced w.progress reply; looks = 0 }))
+    made (with_waiting t place (record { caller = w.caller; cursor = advanced w.cursor reply; looks = 0 }))
         (Called w.caller call reply)
 
 -- a look at a call that is not ready: at the last one a timeout is recorded, at another nothing is
@@ -86,7 +86,7 @@ abbrev pub looked : ℕ → Turns → ℕ → Waiting → ScriptLine → Turns
 looked limit t place w line =
     if nat_le (looks_of limit line.timeout) (w.looks + 1)
     then recorded t place w line.call replies.Timeout
-    else with_waiting t place (record { caller = w.caller; progress = w.progress; looks = w.looks + 1 })
+    else with_waiting t place (record { caller = w.caller; cursor = w.cursor; looks = w.looks + 1 })
 
 -- what a look finds
 abbrev pub answered : ℕ → Turns → ℕ → Waiting → ScriptLine → Option Ready → Turns
@@ -98,7 +98,7 @@ answered limit t place w line (Some ready.NotReady) = looked limit t place w lin
 abbrev pub going_turn : ℕ → Turns → ℕ → Waiting → ScriptLine → Turns
 going_turn limit t place w line =
     if nat_lt t.state.limits.events (room_taken t.state w.caller.rank + need_of line.call false false)
-    then with_waiting t place (record { caller = w.caller; progress = stopped w.progress halts.Limit; looks = 0 })
+    then with_waiting t place (record { caller = w.caller; cursor = stopped w.cursor halts.Limit; looks = 0 })
     else answered limit t place w line (answer_in t.state w.caller.rank w.caller.thread line.call)
 
 -- the turn of a caller whose run is over: it makes its end
@@ -107,12 +107,12 @@ ending_turn t place w outcome =
     made (record t { waiting = remove t.waiting place; finished = t.finished ++ record { caller = w.caller; outcome = outcome } ∷ [] })
         (Called w.caller End replies.Done)
 
+abbrev pub progress_turn : ℕ → Turns → ℕ → Waiting → Progress → Turns
+progress_turn limit t place w (Going line lines) = going_turn limit t place w line
+progress_turn limit t place w (Over outcome) = ending_turn t place w outcome
+
 abbrev pub caller_turn : ℕ → Turns → ℕ → Waiting → Turns
-caller_turn limit t place w = by_progress w.progress
-  where
-    by_progress : Progress → Turns
-    by_progress (Going line lines) = going_turn limit t place w line
-    by_progress (Over outcome) = ending_turn t place w outcome
+caller_turn limit t place w = progress_turn limit t place w w.cursor
 
 -- the turn of a candidate: the callers that wait come first, then the transfers that may come next
 abbrev pub candidate_turn : ℕ → Turns → ℕ → Turns

@@ -6,22 +6,12 @@ use Rattle.gaspi_types.specs.World.{World, is_caller}
 use Rattle.gaspi_types.specs.ReplyText.{reply_text}
 use Rattle.gaspi_types.specs.declared.shapes.CallerId.{CallerId}
 use Rattle.gaspi_types.specs.declared.calls.Call.{Call}
-use Rattle.gaspi_types.specs.declared.calls.Call.TheVariants.{Store, Load, WriteNotify, Wait, Waitsome, Reset, End}
 use Rattle.gaspi_types.specs.declared.replies.Reply.{Reply}
 use Rattle.gaspi_types.specs.declared.events.Event.{Event}
-use Rattle.gaspi_model.specs.Step.{own_calls}
+use Rattle.gaspi_model.specs.Step.{own_calls, is_end}
 use Rattle.rank_script.specs.Runs.{is_stuck}
 use Rattle.rank_script.specs.declared.scripts.Script.{Script}
 use Rattle.rank_script.specs.declared.scripts.ScriptLine.{ScriptLine}
-
-abbrev pub is_end : Call → Bool
-is_end (Store seg offset bytes) = false
-is_end (Load seg offset size) = false
-is_end (WriteNotify seg offset rank rseg roffset size note value queue) = false
-is_end (Wait queue) = false
-is_end (Waitsome seg begin num) = false
-is_end (Reset seg note) = false
-is_end End = true
 
 -- a caller as its rank and thread
 abbrev pub caller_text : CallerId → List ℕ

@@ -1,6 +1,6 @@
 //! Lists that contracts see as lists: no capacity and no pointer stands in an equation about them.
 
-ghost use Rattle.std.specs.Prelude.{◌≡◌, ◌+◌, ◌<◌, ◌≤◌, ◌↔◌, ◌++◌, ◌∷◌, [], length, take, slice_set, slice_get, IsTrue, OnOk, OnErr, IfOk, IsOk, Some};
+ghost use Rattle.std.specs.Prelude.{◌≡◌, ◌+◌, ◌<◌, ◌≤◌, ◌↔◌, ◌++◌, ◌∷◌, [], length, take, slice_set, slice_get, IsTrue, OnOk, OnErr, IfOk, IsOk, Some, remove};
 ghost use Rattle.std.specs.Borrow.{sem};
 ghost use Rattle.std.specs.Cmp.Lexicographic.{pointwise, lists_per, lists_equiv};
 
@@ -88,6 +88,15 @@ impl<T> Rows<T> {
         ensures value { slice_get self.old place ≡ Some result.now }
     {
         &mut self.items[place]
+    }
+
+    /// Takes the item at a place out of the list.
+    pub fn remove(&mut self, place: usize) -> T
+        requires { place < length self.old }
+        ensures value { slice_get self.old place ≡ Some result }
+        ensures rest { self.new ≡ remove self.old place }
+    {
+        self.items.remove(place)
     }
 
     /// Adds an item at the end. Without memory nothing changes but that the item is dropped.

@@ -1,5 +1,5 @@
 use Rattle.gaspi_model.proofs.SoundOpening.{opens}
-use Rattle.gaspi_model.proofs.SoundSteps.{steps, counts}
+use Rattle.gaspi_model.proofs.SoundSteps.{steps, counts, limits-stay}
 use Rattle.gaspi_model.proofs.Activity.{active}
 use Rattle.gaspi_model.proofs.laws.soundness.Goals as goal
 
@@ -14,3 +14,6 @@ returns-clause-counts c = counts
 
 pub returns-clause-active : goal.returns-clause-active
 returns-clause-active c = active
+
+pub returns-clause-limits : goal.returns-clause-limits
+returns-clause-limits c = limits-stay
