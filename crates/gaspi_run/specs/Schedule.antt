@@ -1,5 +1,5 @@
 -- The schedule on one thread: turns of callers and of transfers, picked by the generator. (own choice)
-use Rattle.std.specs.Prelude.{◌≡◌, ℕ, zero, suc, ◌+◌, ◌-◌, ◌≤◌, Bool, true, false, ◌==◌, ◌&&◌, nat_lt, nat_le, List, [], ◌∷◌, ◌++◌, length, map, remove, Option, None, Some, Result, Ok, Err, if◌then◌else◌, slice_get, slice_set, find, option_and_then}
+use Rattle.std.specs.Prelude.{count_by, ◌<◌, ◌≡◌, ℕ, zero, suc, ◌+◌, ◌-◌, ◌≤◌, Bool, true, false, ◌==◌, ◌&&◌, nat_lt, nat_le, List, [], ◌∷◌, ◌++◌, length, map, remove, Option, None, Some, Result, Ok, Err, if◌then◌else◌, slice_get, slice_set, find, option_and_then}
 use Rattle.std.specs.List.{flat_map, range_with_len, list_any}
 use Rattle.gaspi_types.specs.Need.{need_of}
 use Rattle.gaspi_types.specs.World.{World, is_caller}
@@ -16,11 +16,13 @@ use Rattle.gaspi_types.specs.declared.events.Transfer.{Transfer}
 use Rattle.gaspi_types.specs.declared.events.Event.{Event}
 use Rattle.gaspi_types.specs.declared.events.Event.TheVariants.{Called}
 use Rattle.gaspi_model.specs.State.{opening}
-use Rattle.gaspi_model.specs.Step.{step, answer_in, room_taken, transfer_event}
+use Rattle.gaspi_model.specs.Step.{step, answer_in, room_taken, transfer_event, own_calls, reached}
 use Rattle.gaspi_model.specs.Transfers.{transfers}
 use Rattle.gaspi_model.specs.declared.states.State.{State}
 use Rattle.gaspi_model.specs.declared.states.Why.{Why}
-use Rattle.rank_script.specs.Runs.{Progress, Going, Over, going_on, advanced, stopped}
+use Rattle.rank_script.specs.Runs.{Progress, Going, Over, going_on, advanced, stopped, IsRun, end_pair}
+use Rattle.rank_script.specs.WorldText.{is_script_of}
+use Rattle.rank_script.specs.declared.scripts.RunOutcome.TheVariants as outcomes
 use Rattle.rank_script.specs.declared.scripts.Halted.TheVariants as halts
 use Rattle.rank_script.specs.declared.scripts.Script.{Script}
 use Rattle.rank_script.specs.declared.scripts.ScriptLine.{ScriptLine}
@@ -148,3 +150,34 @@ pub record IsScheduled (w : World) (scripts : List Script) (seed limit : ℕ) (j
   pub over : candidates (turns limit count (started w scripts seed)) ≡ 0
   pub journal_is : journal ≡ (turns limit count (started w scripts seed)).journal
   pub finished_is : finished ≡ (turns limit count (started w scripts seed)).finished
+
+-- How a caller ended: its calls are a run of its script, with that outcome; and where it ended at the event limit, there
+-- is a history that the journal begins with, which has all its calls but the end, and after which its rank had no room
+-- for what the call of that line needs.
+
+pub record HadNoRoom (w : World) (journal : List Event) (caller : CallerId) (line : ScriptLine) : Type 0 where
+  pub before : List Event
+  pub later : List Event
+  pub begins : before ++ later ≡ journal
+  pub calls : own_calls caller.rank caller.thread before ++ end_pair ≡ own_calls caller.rank caller.thread journal
+  pub state : State
+  pub leads : reached w before ≡ Ok state
+  pub full : w.limits.events < room_taken state caller.rank + need_of line.call false false
+
+abbrev pub HasLimitCause : World → List Event → CallerId → List ScriptLine → RunOutcome → Type 0
+HasLimitCause w journal caller lines outcomes.Ended = Unit {0}
+HasLimitCause w journal caller lines (outcomes.Stuck number) = Unit {0}
+HasLimitCause w journal caller lines (outcomes.Limit number) =
+    (place : ℕ) × (line : ScriptLine) × (slice_get lines place ≡ Some line) × (line.number ≡ number) × HadNoRoom w journal caller line
+HasLimitCause w journal caller lines (outcomes.NoMemory number) = ⊥
+
+pub record HasEnded (w : World) (scripts : List Script) (journal : List Event) (f : Finished) : Type 0 where
+  pub script : Script
+  pub is_script : find (is_script_of f.caller) scripts ≡ Some script
+  pub run : IsRun script.lines (own_calls f.caller.rank f.caller.thread journal) f.outcome
+  pub limit : HasLimitCause w journal f.caller script.lines f.outcome
+
+-- each script has one outcome among those, and each of those is how its caller ended
+pub record HaveEnded (w : World) (scripts : List Script) (journal : List Event) (finished : List Finished) : Type 0 where
+  pub each : (place : ℕ) (f : Finished) → slice_get finished place ≡ Some f → HasEnded w scripts journal f
+  pub once : (rank thread : ℕ) → count_by (λ f. is_caller rank thread f.caller) finished ≡ count_by (λ s. is_caller rank thread s.caller) scripts
