@@ -1,3 +1,4 @@
+pub mod CallTexts
 pub mod HexWords
 pub mod NumberWords
 pub mod ReplyTexts
