@@ -1,0 +1,6 @@
+//! The reference machine of the runtime: one state, and each event a step of it.
+#![tactic(auto)]
+
+mod calls;
+mod lanes;
+mod memories;
