@@ -1,5 +1,5 @@
 -- Which calls and events take memory, and what a load reads.
-use Rattle.std.specs.Prelude.{◌≡◌, ℕ, Bool, true, false, List, Option, Some, Result, Ok, Err}
+use Rattle.std.specs.Prelude.{◌≡◌, ℕ, Bool, true, false, ◌||◌, List, Option, Some, Result, Ok, Err}
 use Rattle.std.specs.Borrow.{Bor}
 use Rattle.gaspi_types.specs.declared.calls.Call.{Call}
 use Rattle.gaspi_types.specs.declared.calls.Call.TheVariants.{Store, Load, WriteNotify, Wait, Waitsome, Reset, End}
@@ -19,15 +19,19 @@ is_load (Waitsome seg begin num) = false
 is_load (Reset seg note) = false
 is_load End = false
 
+-- these append entries
+abbrev pub is_post : Call → Bool
+is_post (Store seg offset bytes) = false
+is_post (Load seg offset size) = false
+is_post (WriteNotify seg offset rank rseg roffset size note value queue) = true
+is_post (Wait queue) = false
+is_post (Waitsome seg begin num) = false
+is_post (Reset seg note) = false
+is_post End = false
+
 -- a step of these may want memory
 abbrev pub takes_memory : Event → Bool
-takes_memory (Called caller (Store seg offset bytes) reply) = false
-takes_memory (Called caller (Load seg offset size) reply) = true
-takes_memory (Called caller (WriteNotify seg offset rank rseg roffset size note value queue) reply) = true
-takes_memory (Called caller (Wait queue) reply) = false
-takes_memory (Called caller (Waitsome seg begin num) reply) = false
-takes_memory (Called caller (Reset seg note) reply) = false
-takes_memory (Called caller End reply) = false
+takes_memory (Called caller call reply) = is_load call || is_post call
 takes_memory (Take origin queue target number outcome) = true
 takes_memory (Put origin queue target number outcome) = false
 

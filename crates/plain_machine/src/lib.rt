@@ -4,3 +4,5 @@
 mod calls;
 mod lanes;
 mod memories;
+mod posts;
+mod replies;

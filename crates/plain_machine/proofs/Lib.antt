@@ -1,0 +1,4 @@
+pub mod CallRoom
+pub mod Chains
+pub mod Items
+pub mod Owed

@@ -1,0 +1,26 @@
+-- What is owed after a change of the posts.
+use Rattle.std.proofs.Common.{◌≡◌, ℕ, ◌+◌, ◌*◌, ◌<◌, suc, List, [], ◌∷◌, ◌++◌, Some, None, length, get_or, slice_get, slice_set, sum_by, refl, sym, ap, ◌∙◌, arith, subst}
+use Rattle.std.proofs.lemmas.List.Sums.{sum_by-set, sum_by-append, sum_by-cons}
+use Rattle.std.proofs.lemmas.Option.{get_or_from_slice_get, slice_get_within}
+use Rattle.gaspi_types.specs.Lanes.{lane_owed, entry_owed, posted_entries}
+use Rattle.gaspi_types.specs.declared.entries.Entry.{Entry}
+use Rattle.gaspi_types.specs.declared.entries.Kind.{Kind}
+use Rattle.gaspi_types.specs.declared.entries.Phase.TheVariants.{Posted}
+use Rattle.gaspi_model.specs.State.{queue_owed}
+use Rattle.gaspi_model.specs.Calls.{changed_at}
+use Rattle.gaspi_model.specs.declared.states.Queue.{Queue}
+use Rattle.plain_machine.proofs.Chains.{changed_there}
+
+-- a sum with one item replaced
+pub sum_by-put : {X : Type 0} (f : X → ℕ) (xs : List X) (i : ℕ) (x y : X) → slice_get xs i ≡ Some x → sum_by f (slice_set xs i y) + f x ≡ sum_by f xs + f y
+sum_by-put {X} f xs i x y there =
+    subst (λ (z : X). sum_by f (slice_set xs i y) + f z ≡ sum_by f xs + f y) (get_or_from_slice_get xs i x x there)
+    (sum_by-set f xs i y x (slice_get_within xs i x there))
+
+-- a post owes two events for each entry
+pub lane_owed-posted : (number : ℕ) (kinds : List Kind) → lane_owed (posted_entries number kinds) ≡ 2 * length kinds
+lane_owed-posted number [] = refl
+lane_owed-posted number (kind ∷ kinds) =
+    let more = lane_owed-posted (number + 1) kinds in
+    let front = sum_by-cons entry_owed (record { number = number; kind = kind; phase = Posted }) (posted_entries (number + 1) kinds) in
+    omega (arith, more, front)
