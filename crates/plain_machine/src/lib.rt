@@ -7,3 +7,4 @@ mod lanes;
 mod memories;
 mod posts;
 mod replies;
+mod transfers;
