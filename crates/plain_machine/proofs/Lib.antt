@@ -2,3 +2,4 @@ pub mod CallRoom
 pub mod Chains
 pub mod Items
 pub mod Owed
+pub mod Ranges

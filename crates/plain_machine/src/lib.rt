@@ -5,6 +5,7 @@ mod called;
 mod calls;
 mod lanes;
 mod memories;
+mod opening;
 mod posts;
 mod replies;
 mod transfers;
