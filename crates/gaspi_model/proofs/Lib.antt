@@ -1,1 +1,10 @@
 pub mod WorkedHistories
+pub mod Chains
+pub mod Tables
+pub mod Same
+pub mod Made
+pub mod Rising
+pub mod Accounts
+pub mod CallAccounts
+pub mod SoundSteps
+pub mod SoundOpening

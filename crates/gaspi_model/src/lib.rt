@@ -1,6 +1,8 @@
 //! What the GASPI machine is: its state, its step, its histories and their laws. No code runs here.
 #![tactic(auto)]
 
+mod laws;
 mod states;
 
+pub use laws::soundness;
 pub use states::{Memory, Posts, Queue, Segment, State, StepFault, ThreadState, Why};

@@ -1,9 +1,14 @@
 -- A world stays one when a caller is declared.
-use Rattle.std.proofs.Common.{◌≡◌, ℕ, ◌+◌, ◌<◌, ◌≤◌, Bool, true, false, cond, List, [], ◌∷◌, ◌++◌, count_by, ◌==◌, eqb, refl, ◌∙◌, zero-add, ap, arith, sym, subst}
+use Rattle.std.proofs.Common.{◌≡◌, ℕ, ◌+◌, ◌<◌, ◌≤◌, Bool, true, false, cond, ◌&&◌, List, [], ◌∷◌, ◌++◌, count_by, ◌==◌, eqb, refl, ◌∙◌, zero-add, ap, arith, sym, subst}
 use Rattle.std.proofs.lemmas.Bool.{eqb-true}
-use Rattle.std.proofs.lemmas.List.Sums.{sum_by-append}
-use Rattle.gaspi_types.specs.World.{World, IsWorld}
+use Rattle.std.proofs.lemmas.List.Sums.{sum_by-append, sum_by-cons, sum_by_push}
+use Rattle.std.specs.List.{list_any}
+use Rattle.gaspi_types.specs.World.{World, IsWorld, is_caller}
 use Rattle.gaspi_types.specs.declared.shapes.CallerId.{CallerId}
+
+both : (a b : Bool) → (a && b) ≡ true → (a ≡ true) × (b ≡ true)
+both true b h = (refl, h)
+both false b h = absurd (let no : ⊥ = cc in no)
 
 -- how many callers a rank has with one more
 count_by-more : (cs : List CallerId) (c : CallerId) (r : ℕ) → count_by (λ c. c.rank == r) (cs ++ c ∷ []) ≡ count_by (λ c. c.rank == r) cs + cond (eqb c.rank r) 1 0
@@ -14,22 +19,62 @@ more-fits : (before more limit : ℕ) (same : Bool) → before ≤ limit → (sa
 more-fits before more limit true within room is = omega (arith, room refl)
 more-fits before more limit false within room is = omega arith
 
+-- nothing passes a test that no item passes
+count_by-none : (p : CallerId → Bool) (cs : List CallerId) → list_any p cs ≡ false → count_by p cs ≡ 0
+count_by-none p [] h = refl
+count_by-none p (c ∷ cs) h = go (p c) refl (λ rest. count_by-none p cs rest)
+  where
+    go : (b : Bool) → p c ≡ b → (list_any p cs ≡ false → count_by p cs ≡ 0) → count_by p (c ∷ cs) ≡ 0
+    go true is rest = absurd (let any = rw is at h in let no : ⊥ = cc in no)
+    go false is rest =
+        let none = rest (rw is at h) in
+        let sum = sum_by-cons (λ (d : CallerId). cond (p d) 1 0) c cs in
+        sum ∙ rw is (omega arith)
+
+-- how many callers pass a test with one more
+count_by-push : (p : CallerId → Bool) (cs : List CallerId) (c : CallerId) → count_by p (cs ++ c ∷ []) ≡ count_by p cs + cond (p c) 1 0
+count_by-push p cs c = sum_by_push (λ (d : CallerId). cond (p d) 1 0) cs c
+
+-- a caller that was not there is there once
+once-more : (callers : List CallerId) (c : CallerId) (rank thread : ℕ) → list_any (is_caller c.rank c.thread) callers ≡ false
+    → count_by (is_caller rank thread) callers ≤ 1 → count_by (is_caller rank thread) (callers ++ c ∷ []) ≤ 1
+once-more callers c rank thread new once = go (is_caller rank thread c) refl
+  where
+    go : (b : Bool) → is_caller rank thread c ≡ b → count_by (is_caller rank thread) (callers ++ c ∷ []) ≤ 1
+    go true is =
+        let parts = both (c.rank == rank) (c.thread == thread) is in
+        let same_rank = eqb-true c.rank rank parts.0 in
+        let same_thread = eqb-true c.thread thread parts.1 in
+        let none : count_by (is_caller rank thread) callers ≡ 0 = count_by-none (is_caller rank thread) callers (subst (λ (r : ℕ). list_any (is_caller r thread) callers ≡ false) same_rank (subst (λ (t : ℕ). list_any (is_caller c.rank t) callers ≡ false) same_thread new)) in
+        let push = count_by-push (is_caller rank thread) callers c in
+        let one : cond {A = ℕ} (is_caller rank thread c) 1 0 ≡ 1 = ap (λ (b : Bool). cond {A = ℕ} b 1 0) is in
+        omega arith
+    go false is =
+        let push = count_by-push (is_caller rank thread) callers c in
+        let none : cond {A = ℕ} (is_caller rank thread c) 1 0 ≡ 0 = ap (λ (b : Bool). cond {A = ℕ} b 1 0) is in
+        omega arith
+
 -- a rank with room for one more caller
 pub IsWorld-caller : (w : World) (callers : List CallerId) (c : CallerId) → IsWorld w → callers ≡ w.callers ++ c ∷ []
-    → count_by (λ d. d.rank == c.rank) w.callers < w.limits.events
+    → list_any (is_caller c.rank c.thread) w.callers ≡ false → count_by (λ d. d.rank == c.rank) w.callers < w.limits.events
     → IsWorld (record { limits = w.limits; segments = w.segments; callers = callers })
-IsWorld-caller w callers c sound is room = record {
+IsWorld-caller w callers c sound is new room = record {
   limits = sound.limits;
   callers = λ r. rw is (more-fits _ _ _ (eqb c.rank r) (sound.callers r) (λ same. subst (λ (n : ℕ). count_by (λ (d : CallerId). d.rank == n) w.callers < w.limits.events) (eqb-true c.rank r same) room) (count_by-more w.callers c r));
+  once = λ rank thread. rw is (once-more w.callers c rank thread new (sound.once rank thread));
 }
 
--- the same as the code has it: the count is of a list that was read, at a rank that was told
-pub IsWorld-counted : (w : World) (callers seen : List CallerId) (c : CallerId) (rank count : ℕ) → IsWorld w
-    → callers ≡ w.callers ++ c ∷ [] → c.rank ≡ rank → seen ≡ w.callers → count ≡ count_by (λ d. d.rank == rank) seen
-    → count < w.limits.events → IsWorld (record { limits = w.limits; segments = w.segments; callers = callers })
-IsWorld-counted w callers seen c rank count sound is same read counted room =
+-- the same as the code has it: the count and the test are of lists that were read, at the numbers that were told
+pub IsWorld-counted : (w : World) (callers seen looked : List CallerId) (c : CallerId) (rank thread count : ℕ) → IsWorld w
+    → callers ≡ w.callers ++ c ∷ [] → c.rank ≡ rank → c.thread ≡ thread → seen ≡ w.callers → count ≡ count_by (λ d. d.rank == rank) seen
+    → count < w.limits.events → looked ≡ w.callers → list_any (is_caller rank thread) looked ≡ false
+    → IsWorld (record { limits = w.limits; segments = w.segments; callers = callers })
+IsWorld-counted w callers seen looked c rank thread count sound is same same' read counted room read' new =
     IsWorld-caller w callers c sound is
-    (subst (λ (n : ℕ). n < w.limits.events)
-    (counted ∙ ap (λ (cs : List CallerId). count_by (λ (d : CallerId). d.rank == rank) cs) read
-    ∙ ap (λ (n : ℕ). count_by (λ (d : CallerId). d.rank == n) w.callers) (sym same))
-    room)
+        (subst (λ (t : ℕ). list_any (is_caller c.rank t) w.callers ≡ false) (sym same')
+            (subst (λ (r : ℕ). list_any (is_caller r thread) w.callers ≡ false) (sym same)
+                (subst (λ (cs : List CallerId). list_any (is_caller rank thread) cs ≡ false) read' new)))
+        (subst (λ (n : ℕ). n < w.limits.events)
+            (counted ∙ ap (λ (cs : List CallerId). count_by (λ (d : CallerId). d.rank == rank) cs) read
+                ∙ ap (λ (n : ℕ). count_by (λ (d : CallerId). d.rank == n) w.callers) (sym same))
+            room)

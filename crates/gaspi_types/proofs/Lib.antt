@@ -1,1 +1,5 @@
 pub mod DeclaredCallers
+pub mod HexWords
+pub mod NumberWords
+pub mod ReplyTexts
+pub mod WordTexts

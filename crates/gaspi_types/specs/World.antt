@@ -60,6 +60,7 @@ caller_added w rank thread =
 pub record IsWorld (w : World) : Type 0 where
   pub limits : are_limits w.limits ≡ true
   pub callers : (rank : ℕ) → count_by (λ c. c.rank == rank) w.callers ≤ w.limits.events
+  pub once : (rank thread : ℕ) → count_by (is_caller rank thread) w.callers ≤ 1
 
 -- the world after a declaration that was tried: changed as the outcome says, and unchanged where it was refused
 abbrev pub Declares : Result (Unit {0}) ShapeFault → World → World → Result World ShapeFault → Type 0

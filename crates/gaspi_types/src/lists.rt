@@ -102,6 +102,20 @@ impl<T> Rows<T> {
         Ok(())
     }
 
+    /// The allocator that holds the list.
+    pub(crate) fn allocator(&self) -> Global {
+        *self.items.allocator()
+    }
+
+    /// Keeps the first items alone, as many as that or all.
+    pub fn truncate(&mut self, count: usize)
+    where
+        T: Drop,
+        ensures { self.new ≡ take count self.old }
+    {
+        self.items.truncate(count);
+    }
+
     /// The item at a place, where there is one.
     pub fn get(&self, place: usize) -> Option<&T>
         ensures { option_copied result ≡ slice_get self.now place }

@@ -1,0 +1,253 @@
+-- The opening state is sound, and every step keeps a state sound.
+use Rattle.std.proofs.Common.{subst, ◌≡◌, ℕ, ◌+◌, ◌≤◌, Bool, true, false, List, ◌++◌, length, Option, None, Some, Result, Ok, Err, refl, ap, ◌∙◌, arith, if◌then◌else◌, ◌⊎◌, inl, inr, remove}
+use Rattle.std.specs.List.{slice_get, slice_set}
+use Rattle.std.proofs.lemmas.Bool.{leb-true}
+use Rattle.std.proofs.lemmas.List.{length-set}
+use Rattle.gaspi_types.specs.Lanes.{posted_entries}
+use Rattle.gaspi_types.specs.Replies.{is_idle}
+use Rattle.gaspi_types.specs.Posts.{write_notify_kinds}
+use Rattle.gaspi_types.specs.declared.entries.Entry.{Entry}
+use Rattle.gaspi_types.specs.declared.entries.Kind.{Kind}
+use Rattle.gaspi_types.specs.declared.entries.Phase.TheVariants as phases
+use Rattle.gaspi_types.specs.declared.shapes.Limits.{Limits}
+use Rattle.gaspi_types.specs.declared.calls.Call.{Call}
+use Rattle.gaspi_types.specs.declared.calls.Call.TheVariants.{Store, Load, WriteNotify, Wait, Waitsome, Reset, End}
+use Rattle.gaspi_types.specs.declared.replies.Reply.{Reply}
+use Rattle.gaspi_types.specs.declared.replies.Refusal.{Refusal}
+use Rattle.gaspi_types.specs.declared.events.Outcome.{Outcome}
+use Rattle.gaspi_types.specs.declared.events.Outcome.TheVariants.{Applied, Failed}
+use Rattle.gaspi_types.specs.declared.events.Event.{Event}
+use Rattle.gaspi_types.specs.declared.events.Event.TheVariants.{Called, Take, Put}
+use Rattle.gaspi_model.specs.State.{owed}
+use Rattle.gaspi_model.specs.Calls.{changed_at, with_entries, with_post, posts_done, counted}
+use Rattle.gaspi_model.specs.Transfers.{Found, with_lane, with_phase, put_with, taken_bytes, Parts}
+use Rattle.gaspi_model.specs.Step.{step}
+use Rattle.gaspi_model.specs.Sound.{IsSoundPosts, IsSound, AreRising}
+use Rattle.gaspi_model.proofs.Rising.{AreRising-more, AreRising-phase, AreRising-remove, AreRising-post}
+use Rattle.gaspi_model.specs.declared.states.Queue.{Queue}
+use Rattle.gaspi_model.specs.declared.states.Posts.{Posts}
+use Rattle.gaspi_model.specs.declared.states.Memory.{Memory}
+use Rattle.gaspi_model.specs.declared.states.State.{State}
+use Rattle.gaspi_model.proofs.Tables.{slice_get-set}
+use Rattle.gaspi_model.proofs.Same.{same_reply-same}
+use Rattle.gaspi_model.proofs.Made.{IsFound, IsTake, IsPut, IsCalled, step-called, step-take, step-put}
+use Rattle.gaspi_model.proofs.Accounts.{take-owed, put-owed, kinds-two}
+use Rattle.gaspi_model.proofs.CallAccounts.{HasLanes, with_post-events, call-grows}
+
+-- a table keeps its length when an item is changed
+pub length-changed_at : {A : Type 0} (xs : List A) (i : ℕ) (change : A → A) → length (changed_at xs i change) ≡ length xs
+length-changed_at {A} xs i change = go (slice_get xs i) refl
+  where
+    go : (o : Option A) → slice_get xs i ≡ o → length (changed_at xs i change) ≡ length xs
+    go None at = rw at refl
+    go (Some x) at = rw at (length-set xs i (change x))
+
+-- queues keep their lanes when one is changed and keeps its own
+pub lanes-changed : (ranks : ℕ) (queues : List Queue) (queue : ℕ) (change : Queue → Queue) → ((q : Queue) → length (change q).lanes ≡ length q.lanes)
+    → ((k : ℕ) (q : Queue) → slice_get queues k ≡ Some q → length q.lanes ≡ ranks)
+    → (k : ℕ) (q : Queue) → slice_get (changed_at queues queue change) k ≡ Some q → length q.lanes ≡ ranks
+lanes-changed ranks queues queue change keeps all k q h = go (slice_get queues queue) refl
+  where
+    parts : (x : Queue) → slice_get queues queue ≡ Some x → ((k ≡ queue) × (q ≡ change x)) ⊎ (slice_get queues k ≡ Some q) → length q.lanes ≡ ranks
+    parts x at (inl here) = rw here.1 (keeps x ∙ all queue x at)
+    parts x at (inr there) = all k q there
+
+    go : (o : Option Queue) → slice_get queues queue ≡ o → length q.lanes ≡ ranks
+    go None at = all k q (rw at at h)
+    go (Some x) at = parts x at (slice_get-set queues queue k (change x) q (rw at at h))
+
+-- each lane of the queues rises below a number
+abbrev RiseBelow : ℕ → List Queue → Type 0
+RiseBelow next queues = (k : ℕ) (q : Queue) → slice_get queues k ≡ Some q → (target : ℕ) (lane : List Entry) → slice_get q.lanes target ≡ Some lane → AreRising next lane
+
+rise-changed : (next : ℕ) (queues : List Queue) (queue : ℕ) (change : Queue → Queue)
+    → ((q : Queue) → slice_get queues queue ≡ Some q → (target : ℕ) (lane : List Entry) → slice_get (change q).lanes target ≡ Some lane → AreRising next lane)
+    → RiseBelow next queues → RiseBelow next (changed_at queues queue change)
+rise-changed next queues queue change keeps all k q h = go (slice_get queues queue) refl
+  where
+    parts : (x : Queue) → slice_get queues queue ≡ Some x → ((k ≡ queue) × (q ≡ change x)) ⊎ (slice_get queues k ≡ Some q) → (target : ℕ) (lane : List Entry) → slice_get q.lanes target ≡ Some lane → AreRising next lane
+    parts x at (inl here) target lane is = keeps x at target lane (subst (λ (y : Queue). slice_get y.lanes target ≡ Some lane) here.1 is)
+    parts x at (inr there) target lane is = all k q there target lane is
+    go : (o : Option Queue) → slice_get queues queue ≡ o → (target : ℕ) (lane : List Entry) → slice_get q.lanes target ≡ Some lane → AreRising next lane
+    go None at = all k q (rw at at h)
+    go (Some x) at = parts x at (slice_get-set queues queue k (change x) q (rw at at h))
+
+-- one lane of a queue replaced by one that rises
+rise-lane : (next : ℕ) (lanes : List (List Entry)) (target : ℕ) (lane' : List Entry) → AreRising next lane'
+    → ((t : ℕ) (lane : List Entry) → slice_get lanes t ≡ Some lane → AreRising next lane)
+    → (t : ℕ) (lane : List Entry) → slice_get (slice_set lanes target lane') t ≡ Some lane → AreRising next lane
+rise-lane next lanes target lane' rising all t lane h = parts (slice_get-set lanes target t lane' lane h)
+  where
+    parts : ((t ≡ target) × (lane ≡ lane')) ⊎ (slice_get lanes t ≡ Some lane) → AreRising next lane
+    parts (inl here) = rw here.1 rising
+    parts (inr there) = all t lane there
+
+rise-more : (m n : ℕ) (queues : List Queue) → m ≤ n → RiseBelow m queues → RiseBelow n queues
+rise-more m n queues less all k q at target lane is = AreRising-more m n lane less (all k q at target lane is)
+
+-- the lanes of a queue with entries of a post added to one of them
+rise-entries : (number next : ℕ) (q : Queue) (target : ℕ) (kinds : List Kind) → number + length kinds ≤ next
+    → ((t : ℕ) (lane : List Entry) → slice_get q.lanes t ≡ Some lane → AreRising number lane)
+    → (t : ℕ) (lane : List Entry) → slice_get (with_entries target (posted_entries number kinds) q).lanes t ≡ Some lane → AreRising next lane
+rise-entries number next q target kinds fits all t lane h = go (slice_get q.lanes target) refl
+  where
+    parts : (x : List Entry) → slice_get q.lanes target ≡ Some x → ((t ≡ target) × (lane ≡ x ++ posted_entries number kinds)) ⊎ (slice_get q.lanes t ≡ Some lane) → AreRising next lane
+    parts x at (inl here) = rw here.1 (AreRising-post number next x kinds fits (all target x at))
+    parts x at (inr there) = AreRising-more number next lane (omega arith) (all t lane there)
+    go : (o : Option (List Entry)) → slice_get q.lanes target ≡ o → AreRising next lane
+    go None at = AreRising-more number next lane (omega arith) (all t lane (rw at at h))
+    go (Some x) at = parts x at (slice_get-set q.lanes target t (x ++ posted_entries number kinds) lane (rw at at h))
+
+rise-post : (posts : Posts) (queue target : ℕ) (asked : Result (List Kind) Refusal) → RiseBelow posts.next posts.queues
+    → RiseBelow (with_post posts queue target asked).next (with_post posts queue target asked).queues
+rise-post posts queue target (Err refusal) all = all
+rise-post posts queue target (Ok kinds) all =
+    rise-changed (posts.next + length kinds) posts.queues queue (with_entries target (posted_entries posts.next kinds))
+        (λ q at. rise-entries posts.next (posts.next + length kinds) q target kinds (omega arith) (all queue q at))
+        (rise-more posts.next (posts.next + length kinds) posts.queues (omega arith) all)
+
+-- the next number after a post
+numbers-post : (posts : Posts) (queue target notes me seg offset rank rseg roffset size note value : ℕ) → (own : _) (known : _)
+    → (with_post posts queue target (write_notify_kinds notes me own known seg offset rank rseg roffset size note value)).next ≤ posts.next + 2
+numbers-post posts queue target notes me seg offset rank rseg roffset size note value own known = go (write_notify_kinds notes me own known seg offset rank rseg roffset size note value) refl
+  where
+    go : (asked : Result (List Kind) Refusal) → write_notify_kinds notes me own known seg offset rank rseg roffset size note value ≡ asked → (with_post posts queue target asked).next ≤ posts.next + 2
+    go (Ok kinds) is = let two = kinds-two notes me own known seg offset rank rseg roffset size note value kinds is in omega arith
+    go (Err refusal) is = omega arith
+
+lanes-post : (ranks : ℕ) (posts : Posts) (queue target : ℕ) (asked : Result (List Kind) Refusal) → HasLanes ranks posts → HasLanes ranks (with_post posts queue target asked)
+lanes-post ranks posts queue target (Err refusal) all = all
+lanes-post ranks posts queue target (Ok kinds) all =
+    lanes-changed ranks posts.queues queue (with_entries target (posted_entries posts.next kinds)) (λ q. length-changed_at q.lanes target (λ lane. lane ++ posted_entries posts.next kinds)) all
+
+-- what a call that is done keeps of a rank's posts
+record Keeps (ranks : ℕ) (before after : Posts) : Type 0 where
+  lanes : HasLanes ranks after
+  events : after.events ≡ before.events
+  numbers : after.next ≤ before.next + 2
+  rising : RiseBelow after.next after.queues
+
+done-keeps : (ranks : ℕ) (limits : Limits) (me : ℕ) (posts : Posts) (thread : ℕ) (call : Call) → HasLanes ranks posts → RiseBelow posts.next posts.queues → Keeps ranks posts (posts_done limits me posts thread call)
+done-keeps ranks limits me posts thread (Store seg offset bytes) all rise = record { lanes = all; events = refl; numbers = omega arith; rising = rise }
+done-keeps ranks limits me posts thread (Load seg offset size) all rise = record { lanes = all; events = refl; numbers = omega arith; rising = rise }
+done-keeps ranks limits me posts thread (WriteNotify seg offset rank rseg roffset size note value queue) all rise =
+    let asked = write_notify_kinds limits.notes me posts.own posts.known seg offset rank rseg roffset size note value in
+    record {
+      lanes = lanes-post ranks posts queue rank asked all;
+      events = with_post-events posts queue rank asked;
+      numbers = numbers-post posts queue rank limits.notes me seg offset rank rseg roffset size note value posts.own posts.known;
+      rising = rise-post posts queue rank asked rise;
+    }
+done-keeps ranks limits me posts thread (Wait queue) all rise = record {
+  lanes = lanes-changed ranks posts.queues queue (λ (q : Queue). record q { open_count = 0 }) (λ q. refl) all;
+  events = refl;
+  numbers = omega arith;
+  rising = rise-changed posts.next posts.queues queue (λ (q : Queue). record q { open_count = 0 }) (λ q at. rise queue q at) rise;
+}
+done-keeps ranks limits me posts thread (Waitsome seg begin num) all rise = record { lanes = all; events = refl; numbers = omega arith; rising = rise }
+done-keeps ranks limits me posts thread (Reset seg note) all rise = record { lanes = all; events = refl; numbers = omega arith; rising = rise }
+done-keeps ranks limits me posts thread End all rise = record { lanes = all; events = refl; numbers = omega arith; rising = rise }
+
+-- the posts after a call, idle or not
+after-keeps : (ranks : ℕ) (b : Bool) (before done : Posts) → HasLanes ranks before → RiseBelow before.next before.queues → Keeps ranks before done → Keeps ranks before (if b then before else done)
+after-keeps ranks true before done all rise keeps = record { lanes = all; events = refl; numbers = omega arith; rising = rise }
+after-keeps ranks false before done all rise keeps = keeps
+
+called-sound : (limits : Limits) (me : ℕ) (posts : Posts) (memory : Memory) (thread : ℕ) (call : Call) (reply : Reply) (after : Parts)
+    → IsSoundPosts limits posts → IsCalled limits me posts memory thread call reply after → IsSoundPosts limits after.posts
+called-sound limits me posts memory thread call reply after sound h =
+    let keeps = after-keeps limits.ranks (is_idle reply) posts (posts_done limits me posts thread call) sound.lanes sound.rising (done-keeps limits.ranks limits me posts thread call sound.lanes sound.rising) in
+    let grows = call-grows limits me posts memory thread call reply sound.lanes (same_reply-same _ _ h.answered) in
+    let room = leb-true _ _ h.room in
+    let numbers = sound.numbers in
+    rw h.leaves (record {
+      lanes = keeps.lanes;
+      room = omega arith;
+      numbers = (let events = keeps.events in let next = keeps.numbers in omega arith);
+      rising = keeps.rising;
+    })
+
+lanes-with_lane : (ranks : ℕ) (posts : Posts) (queue target : ℕ) (lane : List Entry) → HasLanes ranks posts → HasLanes ranks (with_lane posts queue target lane)
+lanes-with_lane ranks posts queue target lane all =
+    lanes-changed ranks posts.queues queue (λ (q : Queue). record q { lanes = slice_set q.lanes target lane }) (λ q. length-set q.lanes target lane) all
+
+-- the posts with a lane replaced by one that rises
+rise-with_lane : (posts : Posts) (queue target number : ℕ) (at : Found) (lane : List Entry) → IsFound posts queue target number at → AreRising posts.next lane
+    → RiseBelow posts.next posts.queues → RiseBelow posts.next (with_lane posts queue target lane).queues
+rise-with_lane posts queue target number at lane is rising all =
+    rise-changed posts.next posts.queues queue (λ (q : Queue). record q { lanes = slice_set q.lanes target lane })
+        (λ q here. rise-lane posts.next q.lanes target lane rising (all queue q here)) all
+
+take-sound : (limits : Limits) (posts : Posts) (memory : Memory) (queue target number : ℕ) (outcome : Outcome) (after : Posts) (at : Found)
+    → IsSoundPosts limits posts → IsTake limits posts memory queue target number outcome after at → IsSoundPosts limits after
+take-sound limits posts memory queue target number outcome after at sound h =
+    let owes = take-owed limits posts memory queue target number outcome after at h in
+    let room = sound.room in
+    let numbers = sound.numbers in
+    let rises = sound.rising queue at.queue h.is.in_posts target at.lane h.is.in_queue in
+    let lane = with_phase at.lane at.place at.entry (phases.Carried (taken_bytes memory at.entry.kind)) in
+    let made : IsSoundPosts limits (counted (with_lane posts queue target lane)) = record {
+      lanes = lanes-with_lane limits.ranks posts queue target lane sound.lanes;
+      room = (let same = ap (λ (p : Posts). p.events + owed p) h.leaves in omega arith);
+      numbers = omega arith;
+      rising = rise-with_lane posts queue target number at lane h.is (AreRising-phase posts.next at.lane at.place at.entry (phases.Carried (taken_bytes memory at.entry.kind)) h.is.in_lane rises) sound.rising;
+    } in
+    rw h.leaves made
+
+put-sound : (limits : Limits) (posts : Posts) (memory : Memory) (queue target number : ℕ) (outcome : Outcome) (after : Parts) (at : Found)
+    → IsSoundPosts limits posts → IsPut posts memory queue target number outcome after at → IsSoundPosts limits after.posts
+put-sound limits posts memory queue target number Applied after at sound h =
+    let owes = put-owed posts memory queue target number Applied after at h in
+    let room = sound.room in
+    let numbers = sound.numbers in
+    let rises = sound.rising queue at.queue h.is.in_posts target at.lane h.is.in_queue in
+    let lane = remove at.lane at.place in
+    let made : IsSoundPosts limits (counted (with_lane posts queue target lane)) = record {
+      lanes = lanes-with_lane limits.ranks posts queue target lane sound.lanes;
+      room = (let same = ap (λ (p : Parts). p.posts.events + owed p.posts) h.leaves in omega arith);
+      numbers = omega arith;
+      rising = rise-with_lane posts queue target number at lane h.is (AreRising-remove posts.next at.lane at.place rises) sound.rising;
+    } in
+    rw h.leaves made
+put-sound limits posts memory queue target number Failed after at sound h =
+    let owes = put-owed posts memory queue target number Failed after at h in
+    let room = sound.room in
+    let numbers = sound.numbers in
+    let rises = sound.rising queue at.queue h.is.in_posts target at.lane h.is.in_queue in
+    let lane = with_phase at.lane at.place at.entry phases.Failed in
+    let change = λ (q : Queue). record q { broken = Some target; lanes = slice_set q.lanes target lane } in
+    let made : IsSoundPosts limits (put_with posts memory queue target at Failed).posts = record {
+      lanes = lanes-changed limits.ranks posts.queues queue change (λ q. length-set q.lanes target lane) sound.lanes;
+      room = (let same = ap (λ (p : Parts). p.posts.events + owed p.posts) h.leaves in omega arith);
+      numbers = omega arith;
+      rising = rise-changed posts.next posts.queues queue change
+        (λ q here. rise-lane posts.next q.lanes target lane (AreRising-phase posts.next at.lane at.place at.entry phases.Failed h.is.in_lane rises) (sound.rising queue q here)) sound.rising;
+    } in
+    rw h.leaves made
+
+-- the posts of all ranks, one of them replaced
+posts-sound : (limits : Limits) (table : List Posts) (rank : ℕ) (after : Posts) → IsSoundPosts limits after
+    → ((r : ℕ) (p : Posts) → slice_get table r ≡ Some p → IsSoundPosts limits p)
+    → (r : ℕ) (p : Posts) → slice_get (slice_set table rank after) r ≡ Some p → IsSoundPosts limits p
+posts-sound limits table rank after sound all r p h = parts (slice_get-set table rank r after p h)
+  where
+    parts : ((r ≡ rank) × (p ≡ after)) ⊎ (slice_get table r ≡ Some p) → IsSoundPosts limits p
+    parts (inl here) = rw here.1 sound
+    parts (inr there) = all r p there
+
+pub steps : (s t : State) (e : Event) → IsSound s → step s e ≡ Ok t → IsSound t
+steps s t (Called c call reply) sound h =
+    let made = step-called s t c call reply h in
+    let m = made.3 in
+    let after = called-sound s.limits c.rank made.0 made.1 c.thread call reply made.2 (sound.posts c.rank made.0 m.posts_there) m.is in
+    rw m.leaves (record { limits = sound.limits; posts = posts-sound s.limits s.posts c.rank made.2.posts after sound.posts })
+steps s t (Take origin queue target number outcome) sound h =
+    let made = step-take s t origin queue target number outcome h in
+    let m = made.4 in
+    let after = take-sound s.limits made.0 made.1 queue target number outcome made.2 made.3 (sound.posts origin made.0 m.posts_there) m.is in
+    rw m.leaves (record { limits = sound.limits; posts = posts-sound s.limits s.posts origin made.2 after sound.posts })
+steps s t (Put origin queue target number outcome) sound h =
+    let made = step-put s t origin queue target number outcome h in
+    let m = made.4 in
+    let after = put-sound s.limits made.0 made.1 queue target number outcome made.2 made.3 (sound.posts origin made.0 m.posts_there) m.is in
+    rw m.leaves (record { limits = sound.limits; posts = posts-sound s.limits s.posts origin made.2.posts after sound.posts })

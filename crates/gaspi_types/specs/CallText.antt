@@ -1,0 +1,152 @@
+-- The texts of calls.
+use Rattle.std.specs.Prelude.{ℕ, Bool, true, false, List, [], ◌∷◌, Option, Some, None, is_some, find, option_and_then, codes}
+use Rattle.std.specs.Str.{bytes_eq}
+use Rattle.std.specs.Option.{option_map_or}
+use Rattle.gaspi_types.specs.Words.{words_of}
+use Rattle.gaspi_types.specs.Numbers.{number_of, value_of}
+use Rattle.gaspi_types.specs.Hex.{bytes_of}
+use Rattle.gaspi_types.specs.declared.calls.Call.{Call}
+use Rattle.gaspi_types.specs.declared.calls.Call.TheVariants as calls
+use Rattle.gaspi_types.specs.declared.call_words.CallWord.{CallWord}
+use Rattle.gaspi_types.specs.declared.call_words.CallWord.TheVariants.{Store, Load, WriteNotify, Wait, Waitsome, Reset}
+
+-- how a call's word is spelled: as GASPI names the procedure, and `store` and `load` by own choice
+abbrev pub spelling_of : CallWord → List ℕ
+spelling_of Store = codes "store"
+spelling_of Load = codes "load"
+spelling_of WriteNotify = codes "write_notify"
+spelling_of Wait = codes "wait"
+spelling_of Waitsome = codes "waitsome"
+spelling_of Reset = codes "reset"
+
+-- the words of calls
+abbrev pub call_words : List CallWord
+call_words = Store ∷ Load ∷ WriteNotify ∷ Wait ∷ Waitsome ∷ Reset ∷ []
+
+-- the call's word that is spelled so
+unfoldable pub call_word_of : List ℕ → Option CallWord
+call_word_of word = find (λ call. bytes_eq (spelling_of call) word) call_words
+
+-- how many words follow, a timeout aside
+abbrev pub arguments_of : CallWord → ℕ
+arguments_of Store = 3
+arguments_of Load = 3
+arguments_of WriteNotify = 9
+arguments_of Wait = 1
+arguments_of Waitsome = 3
+arguments_of Reset = 2
+
+-- whether a timeout belongs to the call (GASPI: timeouts)
+abbrev pub has_timeout : CallWord → Bool
+has_timeout Store = false
+has_timeout Load = false
+has_timeout WriteNotify = false
+has_timeout Wait = true
+has_timeout Waitsome = true
+has_timeout Reset = false
+
+-- whether the call's text holds bytes, which take memory as they are read
+abbrev pub holds_bytes : CallWord → Bool
+holds_bytes Store = true
+holds_bytes Load = false
+holds_bytes WriteNotify = false
+holds_bytes Wait = false
+holds_bytes Waitsome = false
+holds_bytes Reset = false
+
+-- the same of a word of a text
+abbrev pub is_call_word : List ℕ → Bool
+is_call_word word = is_some (call_word_of word)
+
+abbrev pub argument_count : List ℕ → ℕ
+argument_count word = option_map_or arguments_of (call_word_of word) 0
+
+abbrev pub takes_timeout : List ℕ → Bool
+takes_timeout word = option_map_or has_timeout (call_word_of word) false
+
+-- the second step, where the first gave a value
+infixl 10 ◌>>=◌
+abbrev pub ◌>>=◌ : {A B : Type 0} → Option A → (A → Option B) → Option B
+o >>= f = option_and_then f o
+
+-- SEG OFF HEX (own choice)
+unfoldable pub store_of : List (List ℕ) → Option Call
+store_of (first ∷ second ∷ third ∷ []) = do
+  seg ← number_of first
+  offset ← number_of second
+  bytes ← bytes_of third
+  Some (calls.Store seg offset bytes)
+store_of other = None
+
+-- SEG OFF SIZE (own choice)
+unfoldable pub load_of : List (List ℕ) → Option Call
+load_of (first ∷ second ∷ third ∷ []) = do
+  seg ← number_of first
+  offset ← number_of second
+  size ← number_of third
+  Some (calls.Load seg offset size)
+load_of other = None
+
+-- SEG OFF RANK RSEG ROFF SIZE NOTE VALUE QUEUE (GASPI: write_notify)
+unfoldable pub write_notify_of : List (List ℕ) → Option Call
+write_notify_of (first ∷ second ∷ third ∷ fourth ∷ fifth ∷ sixth ∷ seventh ∷ eighth ∷ ninth ∷ []) = do
+  seg ← number_of first
+  offset ← number_of second
+  rank ← number_of third
+  rseg ← number_of fourth
+  roffset ← number_of fifth
+  size ← number_of sixth
+  note ← number_of seventh
+  value ← value_of eighth
+  queue ← number_of ninth
+  Some (calls.WriteNotify seg offset rank rseg roffset size note value queue)
+write_notify_of other = None
+
+-- QUEUE (GASPI: wait)
+unfoldable pub wait_of : List (List ℕ) → Option Call
+wait_of (first ∷ []) = do
+  queue ← number_of first
+  Some (calls.Wait queue)
+wait_of other = None
+
+-- SEG BEGIN NUM (GASPI: notify_waitsome)
+unfoldable pub waitsome_of : List (List ℕ) → Option Call
+waitsome_of (first ∷ second ∷ third ∷ []) = do
+  seg ← number_of first
+  begin ← number_of second
+  num ← number_of third
+  Some (calls.Waitsome seg begin num)
+waitsome_of other = None
+
+-- SEG NOTE (GASPI: notify_reset)
+unfoldable pub reset_of : List (List ℕ) → Option Call
+reset_of (first ∷ second ∷ []) = do
+  seg ← number_of first
+  note ← number_of second
+  Some (calls.Reset seg note)
+reset_of other = None
+
+-- the call of a word and the words behind it
+abbrev pub call_with : CallWord → List (List ℕ) → Option Call
+call_with Store arguments = store_of arguments
+call_with Load arguments = load_of arguments
+call_with WriteNotify arguments = write_notify_of arguments
+call_with Wait arguments = wait_of arguments
+call_with Waitsome arguments = waitsome_of arguments
+call_with Reset arguments = reset_of arguments
+
+-- the call that words spell: a call's word and exactly its arguments, without a timeout
+unfoldable pub call_of : List (List ℕ) → Option Call
+call_of [] = None
+call_of (word ∷ arguments) = do
+  call ← call_word_of word
+  call_with call arguments
+
+-- whether reading these words as a call may take memory
+abbrev pub takes_memory : List (List ℕ) → Bool
+takes_memory [] = false
+takes_memory (word ∷ arguments) = option_map_or holds_bytes (call_word_of word) false
+
+-- the call that a text spells
+abbrev pub call_of_text : List ℕ → Option Call
+call_of_text text = call_of (words_of text)

@@ -1,0 +1,28 @@
+-- The lines of a text. (own choice)
+use Rattle.std.specs.Prelude.{ℕ, Bool, false, ◌==◌, ◌&&◌, ◌||◌, not, nat_lt, nat_le, List, [], ◌∷◌, length, if◌then◌else◌}
+use Rattle.std.specs.List.{list_any}
+use Rattle.gaspi_types.specs.Ranges.{is_between}
+
+abbrev pub begins_line_feed : List ℕ → Bool
+begins_line_feed [] = false
+begins_line_feed (byte ∷ bytes) = byte == 10
+
+-- a byte at the front of the first line
+abbrev pub onto_first_line : ℕ → List (List ℕ) → List (List ℕ)
+onto_first_line byte [] = (byte ∷ []) ∷ []
+onto_first_line byte (line ∷ lines) = (byte ∷ line) ∷ lines
+
+-- the lines, each ended by a line feed, which the last one may lack; one carriage return before a line feed is dropped
+abbrev pub lines_of : List ℕ → List (List ℕ)
+lines_of [] = []
+lines_of (byte ∷ bytes) =
+    if byte == 10 then [] ∷ lines_of bytes
+    else (if (byte == 13) && begins_line_feed bytes then lines_of bytes else onto_first_line byte (lines_of bytes))
+
+-- a byte that a line may hold: a printing one of ASCII, a space or a tab
+abbrev pub is_line_byte : ℕ → Bool
+is_line_byte byte = is_between 32 126 byte || (byte == 9)
+
+-- a line that may not stand in a text, whatever it says: it holds another byte, or has over 140,000 bytes
+abbrev pub is_bad_line : List ℕ → Bool
+is_bad_line line = list_any (λ byte. not (is_line_byte byte)) line || nat_lt 140000 (length line)
