@@ -2,5 +2,6 @@ pub mod CallRoom
 pub mod Chains
 pub mod Items
 pub mod Kept
+pub mod Lifted
 pub mod Owed
 pub mod Ranges

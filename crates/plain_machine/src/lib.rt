@@ -8,4 +8,5 @@ mod memories;
 mod opening;
 mod posts;
 mod replies;
+mod steps;
 mod transfers;
