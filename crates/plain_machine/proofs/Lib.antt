@@ -1,5 +1,6 @@
 pub mod CallRoom
 pub mod Chains
+pub mod Fitting
 pub mod Items
 pub mod Kept
 pub mod Lifted
