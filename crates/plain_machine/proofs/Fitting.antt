@@ -76,9 +76,10 @@ queues-called limits me posts memory thread call reply after is =
         rw (← same) (queues-after limits me posts thread call reply)
 
 -- one rank's posts replaced by some with as many queues
-fitting_with : (s : State) (rank : ℕ) (p p' : Posts) (memories : List Memory) → IsFitting s → slice_get s.posts rank ≡ Some p → length p'.queues ≡ length p.queues
+fitting_with : (s : State) (rank : ℕ) (p p' : Posts) (memories : List Memory) → IsFitting s → length memories ≡ length s.memories → slice_get s.posts rank ≡ Some p → length p'.queues ≡ length p.queues
     → IsFitting (record { limits = s.limits; posts = slice_set s.posts rank p'; memories = memories })
-fitting_with s rank p p' memories fits there same = record {
+fitting_with s rank p p' memories fits all there same = record {
+  memories = all ∙ (fits.memories ∙ sym (length-set s.posts rank p'));
   ranks = rw (length-set s.posts rank p') fits.ranks;
   queues = λ k q is. elim (after_write s.posts rank k p' q is) [
     inl w ↦ rw (w.0, same) (fits.queues rank p there)
@@ -97,7 +98,7 @@ fitting_by s t (Called c call reply) fits is =
         → ◌≡◌ {A = Result State Why} (Ok (record s { posts = slice_set s.posts c.rank after.posts; memories = slice_set s.memories c.rank after.memory })) (Ok t) → IsFitting t
     done p after there same is =
         let is_t : record s { posts = slice_set s.posts c.rank after.posts; memories = slice_set s.memories c.rank after.memory } ≡ t = cc in
-        rw (← is_t) (fitting_with s c.rank p after.posts _ fits there same)
+        rw (← is_t) (fitting_with s c.rank p after.posts _ fits (length-set s.memories c.rank after.memory) there same)
 fitting_by s t (Take origin queue target number outcome) fits is =
     passed (found (slice_get s.posts origin) whys.Take) _ _ is (λ p p_there more.
     passed (found (slice_get s.memories origin) whys.Take) _ _ more (λ m m_there more.
@@ -108,7 +109,7 @@ fitting_by s t (Take origin queue target number outcome) fits is =
         → ◌≡◌ {A = Result State Why} (Ok (record s { posts = slice_set s.posts origin after })) (Ok t) → IsFitting t
     done p after there same is =
         let is_t : record s { posts = slice_set s.posts origin after } ≡ t = cc in
-        rw (← is_t) (fitting_with s origin p after _ fits there same)
+        rw (← is_t) (fitting_with s origin p after _ fits refl there same)
 fitting_by s t (Put origin queue target number outcome) fits is =
     passed (found (slice_get s.posts origin) whys.Put) _ _ is (λ p p_there more.
     passed (found (slice_get s.memories target) whys.Put) _ _ more (λ m m_there more.
@@ -119,4 +120,4 @@ fitting_by s t (Put origin queue target number outcome) fits is =
         → ◌≡◌ {A = Result State Why} (Ok (record s { posts = slice_set s.posts origin after.posts; memories = slice_set s.memories target after.memory })) (Ok t) → IsFitting t
     done p after there same is =
         let is_t : record s { posts = slice_set s.posts origin after.posts; memories = slice_set s.memories target after.memory } ≡ t = cc in
-        rw (← is_t) (fitting_with s origin p after.posts _ fits there same)
+        rw (← is_t) (fitting_with s origin p after.posts _ fits (length-set s.memories target after.memory) there same)

@@ -4,5 +4,7 @@ pub mod Fitting
 pub mod Items
 pub mod Kept
 pub mod Lifted
+pub mod Opened
+pub mod Listed
 pub mod Owed
 pub mod Ranges

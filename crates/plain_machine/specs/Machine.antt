@@ -7,6 +7,7 @@ use Rattle.gaspi_types.specs.declared.events.Outcome.{Outcome}
 use Rattle.gaspi_types.specs.declared.events.Transfer.{Transfer}
 use Rattle.gaspi_model.specs.State.{owed}
 use Rattle.gaspi_model.specs.Sound.{IsSound}
+use Rattle.gaspi_model.specs.declared.states.Queue.{Queue}
 use Rattle.gaspi_model.specs.declared.states.Posts.{Posts}
 use Rattle.gaspi_model.specs.declared.states.Memory.{Memory}
 use Rattle.gaspi_model.specs.declared.states.State.{State}
@@ -18,9 +19,10 @@ state_of limits posts memories = record { limits = limits; posts = posts; memori
 abbrev pub taken_of : Posts → ℕ
 taken_of posts = posts.events + owed posts
 
--- ranks and queues have numbers in their ranges
+-- ranks and queues have numbers in their ranges, and each rank has a memory
 pub record IsFitting (s : State) : Type 0 where
   pub ranks : length s.posts ≤ 16
+  pub memories : length s.memories ≡ length s.posts
   pub queues : (rank : ℕ) (posts : Posts) → slice_get s.posts rank ≡ Some posts → length posts.queues ≤ 8
 
 pub record IsMachine (s : State) (rooms : List ℕ) : Type 0 where
@@ -31,3 +33,12 @@ pub record IsMachine (s : State) (rooms : List ℕ) : Type 0 where
 -- the event of a transfer with an outcome
 abbrev pub event_of : Transfer → Outcome → Event
 event_of t outcome = if t.put then Put t.origin t.queue t.target t.number outcome else Take t.origin t.queue t.target t.number outcome
+
+-- queues and lanes have numbers in their ranges
+pub record IsListable (posts : Posts) : Type 0 where
+  pub queues : length posts.queues ≤ 8
+  pub lanes : (queue : ℕ) (q : Queue) → slice_get posts.queues queue ≡ Some q → length q.lanes ≤ 16
+
+pub record AreListable (posts : List Posts) : Type 0 where
+  pub ranks : length posts ≤ 16
+  pub each : (rank : ℕ) (p : Posts) → slice_get posts rank ≡ Some p → IsListable p

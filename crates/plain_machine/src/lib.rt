@@ -4,6 +4,7 @@
 mod called;
 mod calls;
 mod lanes;
+mod listing;
 mod memories;
 mod opening;
 mod posts;
