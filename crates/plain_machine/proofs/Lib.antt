@@ -8,3 +8,4 @@ pub mod Opened
 pub mod Listed
 pub mod Owed
 pub mod Ranges
+pub mod Running

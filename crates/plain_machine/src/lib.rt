@@ -5,9 +5,12 @@ mod called;
 mod calls;
 mod lanes;
 mod listing;
+mod machine;
 mod memories;
 mod opening;
 mod posts;
 mod replies;
 mod steps;
 mod transfers;
+
+pub use machine::{Machine, Transfers};
