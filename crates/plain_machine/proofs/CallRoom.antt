@@ -1,5 +1,5 @@
 -- The room of a call that may be recorded: a post's numbers fit, and what its rank has taken grows by its charge.
-use Rattle.std.proofs.Common.{◌≡◌, ℕ, ◌+◌, ◌*◌, ◌^◌, ◌<◌, ◌≤◌, Bool, true, false, cond, not, ◌==◌, nat_le, nat_lt, List, [], ◌∷◌, ◌++◌, Option, None, Some, Result, Ok, Err, length, get_or, count_by, sum_by, slice_get, slice_set, refl, sym, ap, ◌∙◌, arith, subst}
+use Rattle.std.proofs.Common.{◌≡◌, ℕ, ◌+◌, ◌*◌, ◌^◌, ◌<◌, Bool, true, false, cond, not, ◌==◌, nat_le, nat_lt, List, [], ◌∷◌, ◌++◌, Option, None, Some, Result, Ok, Err, length, get_or, count_by, sum_by, slice_get, slice_set, refl, sym, ap, arith}
 use Rattle.std.proofs.lemmas.Bool.Decides.{nat_tests}
 use Rattle.std.proofs.lemmas.List.Sums.{sum_by-append}
 use Rattle.std.proofs.lemmas.Option.{slice_get-get_or}
@@ -21,16 +21,15 @@ use Rattle.gaspi_types.specs.declared.replies.Reply.TheVariants as replies
 use Rattle.gaspi_types.specs.declared.replies.Ready.TheVariants as ready
 use Rattle.gaspi_types.specs.declared.replies.Refusal.TheVariants.{CallerEnded}
 use Rattle.gaspi_model.specs.State.{thread_at, is_running, owed, queue_owed}
-use Rattle.gaspi_model.specs.Calls.{call_finds, post_finds, write_notify_finds, answer, ready_of, recorded_reply, posts_done, posts_after, with_entries, with_post, changed_at, charge}
+use Rattle.gaspi_model.specs.Calls.{call_finds, write_notify_finds, answer, ready_of, recorded_reply, posts_done, posts_after, with_entries, with_post, changed_at, charge}
 use Rattle.gaspi_model.specs.Sound.{IsSoundPosts}
 use Rattle.gaspi_model.specs.declared.states.Queue.{Queue}
 use Rattle.gaspi_model.specs.declared.states.Posts.{Posts}
 use Rattle.gaspi_model.specs.declared.states.Memory.{Memory}
 use Rattle.gaspi_model.specs.declared.states.ThreadState.{ThreadState}
 use Rattle.gaspi_model.specs.declared.states.ThreadState.TheVariants as threads
-use Rattle.plain_machine.specs.Room.{IsRoom, HasPostRoom}
-use Rattle.plain_machine.proofs.Chains.{passed, found_there, check_holds, absent_none, changed_there}
-use Rattle.plain_machine.proofs.Items.{length-posted_entries}
+use Rattle.plain_machine.specs.Room.{HasPostRoom}
+use Rattle.plain_machine.proofs.Chains.{passed, found_there, check_holds, changed_there}
 use Rattle.plain_machine.proofs.Owed.{sum_by-put, lane_owed-posted}
 
 -- replies that are the same are both idle or both not, and both done or both not
@@ -244,7 +243,7 @@ busy_taken limits me posts memory thread End reply sound f = let less = owed-end
 pub taken_by : (limits : Limits) (me : ℕ) (posts : Posts) (memory : Memory) (thread : ℕ) (call : Call) (reply : Reply)
     → IsSoundPosts limits posts → same_reply reply (recorded_reply (answer limits me posts memory thread call)) ≡ true
     → (posts_after limits me posts thread call reply).events + owed (posts_after limits me posts thread call reply)
-        ≡ posts.events + owed posts + charge (thread_at posts thread) call reply
+    ≡ posts.events + owed posts + charge (thread_at posts thread) call reply
 taken_by limits me posts memory thread call reply sound same = by_idle (is_idle reply) refl
   where
     done_events : (call : Call) → (posts_done limits me posts thread call).events ≡ posts.events
@@ -263,7 +262,7 @@ taken_by limits me posts memory thread call reply sound same = by_idle (is_idle 
 
     by_idle : (idle : Bool) → is_idle reply ≡ idle
         → (posts_after limits me posts thread call reply).events + owed (posts_after limits me posts thread call reply)
-            ≡ posts.events + owed posts + charge (thread_at posts thread) call reply
+        ≡ posts.events + owed posts + charge (thread_at posts thread) call reply
     by_idle true idle = let one = idle_charge limits me posts memory thread call reply same idle in rw idle (omega (arith, one))
     by_idle false busy =
         let more = busy_taken limits me posts memory thread call reply sound (found_by limits me posts memory thread call reply same busy) in

@@ -1,5 +1,5 @@
 -- Steps that may fail, read backwards: what was passed where the last was reached.
-use Rattle.std.proofs.Common.{◌≡◌, ℕ, ◌+◌, Bool, true, false, Option, None, Some, Result, Ok, Err, List, slice_get, slice_set, refl, sym, ap, ◌∙◌, subst}
+use Rattle.std.proofs.Common.{◌≡◌, ℕ, Bool, true, false, Option, None, Some, Result, Ok, Err, List, slice_get, slice_set, refl}
 use Rattle.gaspi_types.specs.Checks.{◌>>=◌, check, found, absent}
 use Rattle.gaspi_model.specs.Calls.{changed_at}
 

@@ -1,5 +1,5 @@
 -- Ranks and queues keep their numbers: at the start, and at every step.
-use Rattle.std.proofs.Common.{◌≡◌, ℕ, zero, suc, ◌+◌, ◌≤◌, Bool, true, false, nat_le, cond, List, [], ◌∷◌, Option, None, Some, Result, Ok, Err, ◌⊎◌, inl, inr, length, map, slice_get, slice_set, refl, sym, ap, ◌∙◌, arith, subst}
+use Rattle.std.proofs.Common.{◌≡◌, ℕ, zero, suc, ◌+◌, Bool, true, false, nat_le, List, [], ◌∷◌, Option, None, Some, Result, Ok, Err, ◌⊎◌, inl, inr, length, slice_get, slice_set, refl, sym, ap, ◌∙◌}
 use Rattle.std.proofs.lemmas.List.{length-set}
 use Rattle.gaspi_types.specs.Checks.{check, found}
 use Rattle.gaspi_types.specs.Posts.{write_notify_kinds}
@@ -23,7 +23,7 @@ use Rattle.gaspi_model.specs.declared.states.Why.{Why}
 use Rattle.gaspi_model.specs.declared.states.Why.TheVariants as whys
 use Rattle.plain_machine.specs.Machine.{IsFitting}
 use Rattle.plain_machine.proofs.Chains.{passed, found_there, changed_there}
-use Rattle.plain_machine.proofs.Kept.{IsKept, take_keeps, put_keeps}
+use Rattle.plain_machine.proofs.Kept.{take_keeps, put_keeps}
 
 -- what stands in a list after a write is what was written or what stood there
 after_write : {X : Type 0} (xs : List X) (i k : ℕ) (y z : X) → slice_get (slice_set xs i y) k ≡ Some z → (z ≡ y) × (k ≡ i) ⊎ (slice_get xs k ≡ Some z)
@@ -82,8 +82,9 @@ fitting_with s rank p p' memories fits all there same = record {
   memories = all ∙ (fits.memories ∙ sym (length-set s.posts rank p'));
   ranks = rw (length-set s.posts rank p') fits.ranks;
   queues = λ k q is. elim (after_write s.posts rank k p' q is) [
-    inl w ↦ rw (w.0, same) (fits.queues rank p there)
-    | inr w ↦ fits.queues k q w ];
+    | inl w ↦ rw (w.0, same) (fits.queues rank p there)
+    | inr w ↦ fits.queues k q w
+  ];
 }
 
 -- every step

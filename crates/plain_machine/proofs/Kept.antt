@@ -1,10 +1,9 @@
 -- What a take and a put keep of the posts of their origin: the room taken, and how many queues there are.
-use Rattle.std.proofs.Common.{◌≡◌, ℕ, ◌+◌, Bool, true, false, ◌&&◌, List, Option, None, Some, Result, Ok, Err, length, remove, sum_by, count_by, slice_get, slice_set, is_none, ◌==◌, refl, sym, ap, ◌∙◌, arith}
+use Rattle.std.proofs.Common.{◌≡◌, ℕ, ◌+◌, Bool, true, false, ◌&&◌, List, Some, Result, Ok, length, sum_by, slice_get, slice_set, is_none, refl, ap, ◌∙◌, arith}
 use Rattle.std.proofs.lemmas.List.{length-set}
 use Rattle.gaspi_types.specs.Checks.{check, found}
 use Rattle.gaspi_types.specs.Lanes.{place_of, may_take, may_put, lane_owed, entry_owed, phase_owed, is_posted, is_carried, is_posted_phase, is_carried_phase}
 use Rattle.gaspi_types.specs.declared.entries.Entry.{Entry}
-use Rattle.gaspi_types.specs.declared.entries.Kind.{Kind}
 use Rattle.gaspi_types.specs.declared.entries.Phase.{Phase}
 use Rattle.gaspi_types.specs.declared.entries.Phase.TheVariants as phases
 use Rattle.gaspi_types.specs.declared.events.Outcome.{Outcome}

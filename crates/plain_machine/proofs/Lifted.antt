@@ -1,5 +1,5 @@
 -- The step of the whole state from that of the parts that an event touches.
-use Rattle.std.proofs.Common.{◌≡◌, ℕ, ◌+◌, ◌^◌, ◌<◌, true, Result, Ok, Err, Some, slice_get, slice_set, map, set, refl, sym, ap, ◌∙◌, arith, List}
+use Rattle.std.proofs.Common.{◌≡◌, ℕ, ◌+◌, ◌^◌, ◌<◌, true, Result, Ok, Err, Some, slice_get, slice_set, map, refl, ap, ◌∙◌, arith, List}
 use Rattle.std.proofs.lemmas.List.{map-set}
 use Rattle.std.proofs.lemmas.Option.{slice_get-map}
 use Rattle.std.proofs.lemmas.Bool.Decides.{nat_tests}

@@ -1,15 +1,10 @@
 -- What is owed after a change of the posts.
-use Rattle.std.proofs.Common.{◌≡◌, ℕ, ◌+◌, ◌*◌, ◌<◌, suc, List, [], ◌∷◌, ◌++◌, Some, None, length, get_or, slice_get, slice_set, remove, sum_by, refl, sym, ap, ◌∙◌, arith, subst}
-use Rattle.std.proofs.lemmas.List.Sums.{sum_by-remove, sum_by-set, sum_by-append, sum_by-cons}
+use Rattle.std.proofs.Common.{◌≡◌, ℕ, ◌+◌, ◌*◌, List, [], ◌∷◌, Some, length, slice_get, slice_set, remove, sum_by, refl, arith, subst}
+use Rattle.std.proofs.lemmas.List.Sums.{sum_by-remove, sum_by-set, sum_by-cons}
 use Rattle.std.proofs.lemmas.Option.{get_or_from_slice_get, slice_get_within}
 use Rattle.gaspi_types.specs.Lanes.{lane_owed, entry_owed, posted_entries}
-use Rattle.gaspi_types.specs.declared.entries.Entry.{Entry}
 use Rattle.gaspi_types.specs.declared.entries.Kind.{Kind}
 use Rattle.gaspi_types.specs.declared.entries.Phase.TheVariants.{Posted}
-use Rattle.gaspi_model.specs.State.{queue_owed}
-use Rattle.gaspi_model.specs.Calls.{changed_at}
-use Rattle.gaspi_model.specs.declared.states.Queue.{Queue}
-use Rattle.plain_machine.proofs.Chains.{changed_there}
 
 -- a sum with one item replaced
 pub sum_by-put : {X : Type 0} (f : X → ℕ) (xs : List X) (i : ℕ) (x y : X) → slice_get xs i ≡ Some x → sum_by f (slice_set xs i y) + f x ≡ sum_by f xs + f y

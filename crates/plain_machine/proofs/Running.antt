@@ -1,8 +1,7 @@
 -- A machine stays one, and what it knows of its ranks.
-use Rattle.std.proofs.Common.{◌≡◌, ℕ, ◌+◌, ◌≤◌, true, List, Option, None, Some, Result, Ok, Err, length, map, slice_get, refl, sym, ap, ◌∙◌, arith, subst}
+use Rattle.std.proofs.Common.{◌≡◌, ℕ, ◌≤◌, List, Option, None, Some, Result, Ok, Err, length, map, slice_get, refl, ◌∙◌, arith, subst}
 use Rattle.std.proofs.lemmas.Bool.Decides.{nat_tests}
 use Rattle.std.proofs.lemmas.Option.{slice_get-map}
-use Rattle.gaspi_types.specs.World.{are_limits}
 use Rattle.gaspi_types.specs.declared.events.Event.{Event}
 use Rattle.gaspi_model.specs.Sound.{IsSound}
 use Rattle.gaspi_model.specs.Step.{step, Steps, room_taken}
@@ -10,7 +9,7 @@ use Rattle.gaspi_model.specs.declared.states.Posts.{Posts}
 use Rattle.gaspi_model.specs.declared.states.State.{State}
 use Rattle.gaspi_model.specs.declared.states.StepFault.{StepFault}
 use Rattle.gaspi_model.specs.declared.states.StepFault.TheVariants as faults
-use Rattle.plain_machine.specs.Machine.{IsMachine, IsListable, AreListable, taken_of}
+use Rattle.plain_machine.specs.Machine.{IsMachine, AreListable, taken_of}
 use Rattle.plain_machine.proofs.Fitting.{fitting_by}
 
 -- the room taken that is kept for a rank

@@ -9,9 +9,14 @@ ghost use Rattle.gaspi_model.specs.Calls.{store_finds, load_finds, post_finds, w
 ghost use Rattle.plain_machine.specs.Memory.{is_load, Loads};
 
 use crate::lanes::has_posted;
-use crate::memories::{bytes_of, first_set, is_slot_range, is_transfer_size, is_within, range_of, slots_of};
+use crate::memories::{
+    bytes_of, first_set, is_slot_range, is_transfer_size, is_within, range_of, slots_of,
+};
 use gaspi_model::{Memory, Posts, Queue, ThreadState};
-use gaspi_types::{ByteRange, Call, Extent, Kind, Limits, NoMemory, NoteSlot, RankId, Ready, Refusal, Reply, Rows, ThreadId};
+use gaspi_types::{
+    ByteRange, Call, Extent, Kind, Limits, NoMemory, NoteSlot, RankId, Ready, Refusal, Reply, Rows,
+    ThreadId,
+};
 use std::alloc::Global;
 
 /// A table of segments, by their numbers.
@@ -46,7 +51,13 @@ pub fn extent_in(table: &Extents, segment: u64) -> Option<Extent>
 }
 
 /// What a rank knows of a segment of a rank.
-pub fn known_extent(me: RankId, own: &Extents, known: &Rows<Extents>, rank: u64, segment: u64) -> Option<Extent>
+pub fn known_extent(
+    me: RankId,
+    own: &Extents,
+    known: &Rows<Extents>,
+    rank: u64,
+    segment: u64,
+) -> Option<Extent>
     ensures extent { result ≡ known_extent me own.now known.now rank segment }
     ensures bound { OnSome result (segment < 32) }
 {
@@ -113,7 +124,12 @@ pub fn write_notify_kinds(
 }
 
 /// Checks a store. (own choice)
-pub fn store_finds(posts: &Posts, seg: u64, offset: u64, bytes: &[u8]) -> Result<Option<Reply>, Refusal>
+pub fn store_finds(
+    posts: &Posts,
+    seg: u64,
+    offset: u64,
+    bytes: &[u8],
+) -> Result<Option<Reply>, Refusal>
     ensures { result ≡ store_finds posts.now seg offset bytes.now }
 {
     let mine = extent_in(&posts.own, seg).ok_or(Refusal::NoSegment)?;
@@ -128,7 +144,13 @@ pub fn store_finds(posts: &Posts, seg: u64, offset: u64, bytes: &[u8]) -> Result
 }
 
 /// The bytes that a load reads. (own choice)
-fn loaded<'a>(posts: &Posts, memory: &'a Memory, seg: u64, offset: u64, size: u64) -> Result<&'a [u8], Refusal>
+fn loaded<'a>(
+    posts: &Posts,
+    memory: &'a Memory,
+    seg: u64,
+    offset: u64,
+    size: u64,
+) -> Result<&'a [u8], Refusal>
     ensures { Loads result (load_finds posts.now memory.now seg offset size) }
 {
     let mine = extent_in(&posts.own, seg).ok_or(Refusal::NoSegment)?;
@@ -245,7 +267,10 @@ pub fn reset_finds(
     if note >= u64::from(limits.notes) {
         return Err(Refusal::BadNote);
     }
-    let value = slots_of(memory, seg).get(note as usize).copied().unwrap_or(0);
+    let value = slots_of(memory, seg)
+        .get(note as usize)
+        .copied()
+        .unwrap_or(0);
     Ok(Some(Reply::Value(u64::from(value))))
 }
 
@@ -262,7 +287,12 @@ pub fn call_finds(
     ensures ample { is_load call.now ≡ false → IsOk result }
 {
     match call {
-        Call::Store { seg, offset, bytes } => Ok(store_finds(posts, *seg, *offset, bytes.as_slice())),
+        Call::Store { seg, offset, bytes } => Ok(store_finds(
+            posts,
+            *seg,
+            *offset,
+            bytes.as_slice(),
+        )),
         Call::Load { seg, offset, size } => load_finds(alloc, posts, memory, *seg, *offset, *size),
         Call::WriteNotify {
             seg,

@@ -14,3 +14,6 @@ mod steps;
 mod transfers;
 
 pub use machine::{Machine, Transfers};
+
+#[cfg(test)]
+mod tests;

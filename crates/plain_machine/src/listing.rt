@@ -68,7 +68,10 @@ fn lane_transfers(
     ensures { OnOk result (found.new ≡ found.old ++ lane_transfers origin queue limits.now (target, lane.now)) }
 {
     for entry in lane.as_slice() {
-        push_transfer(found, transfer_of(origin, queue, target, limits, lane, entry))?;
+        push_transfer(
+            found,
+            transfer_of(origin, queue, target, limits, lane, entry),
+        )?;
     }
     Ok(())
 }
@@ -89,7 +92,14 @@ fn queue_transfers(
         return Ok(());
     }
     for (target, lane) in q.lanes.as_slice().iter().enumerate() {
-        lane_transfers(found, origin, queue, limits, RankId::of(target as u32), lane)?;
+        lane_transfers(
+            found,
+            origin,
+            queue,
+            limits,
+            RankId::of(target as u32),
+            lane,
+        )?;
     }
     Ok(())
 }
@@ -113,7 +123,11 @@ fn rank_transfers(
 
 /// The transfers of all origins.
 #[tactic(auto, using(crate::proofs::Listed::listed))]
-pub fn transfers(alloc: Global, limits: &Limits, posts: &Rows<Posts>) -> Result<Rows<Transfer>, NoMemory>
+pub fn transfers(
+    alloc: Global,
+    limits: &Limits,
+    posts: &Rows<Posts>,
+) -> Result<Rows<Transfer>, NoMemory>
     requires { AreListable posts.now }
     ensures { IfOk result (λ found. found ≡ transfers limits.now posts.now) }
 {

@@ -14,7 +14,9 @@ use crate::opening::{all_memories, all_posts, all_taken};
 use crate::steps::step;
 use crate::transfers::{find_entry, put_outcome};
 use gaspi_model::{Memory, Posts, StepFault, Why, soundness};
-use gaspi_types::{Call, CallerId, Event, Limits, NoMemory, Outcome, RankId, Ready, Rows, Shape, Transfer};
+use gaspi_types::{
+    Call, CallerId, Event, Limits, NoMemory, Outcome, RankId, Ready, Rows, Shape, Transfer,
+};
 use std::alloc::Global;
 use std::marker::Model;
 
@@ -116,7 +118,13 @@ impl Machine {
         let Some(memory) = self.memories.get(transfer.target.index()) else {
             return Outcome::Failed;
         };
-        match find_entry(posts, transfer.queue, transfer.target, transfer.number, Why::Put) {
+        match find_entry(
+            posts,
+            transfer.queue,
+            transfer.target,
+            transfer.number,
+            Why::Put,
+        ) {
             Ok(at) => put_outcome(memory, &at.entry.kind),
             Err(_) => Outcome::Failed,
         }

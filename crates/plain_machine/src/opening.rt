@@ -24,12 +24,19 @@ fn declared_size(shape: &Shape, rank: u32, segment: u32) -> Option<u32>
 
 /// The segments that a rank declares, by their numbers.
 #[tactic(auto, using(crate::proofs::Ranges::map_range_more))]
-fn opening_extents(alloc: Global, shape: &Shape, rank: u32) -> Result<Rows<Option<Extent>>, NoMemory>
+fn opening_extents(
+    alloc: Global,
+    shape: &Shape,
+    rank: u32,
+) -> Result<Rows<Option<Extent>>, NoMemory>
     ensures { IfOk result (λ extents. extents ≡ opening_extents shape.now rank) }
 {
     let mut extents = Rows::new(alloc);
     for segment in 0..32 {
-        let extent = declared_size(shape, rank, segment).map(|size| Extent { generation: 0, size });
+        let extent = declared_size(shape, rank, segment).map(|size| Extent {
+            generation: 0,
+            size,
+        });
         extents.push(extent)?;
     }
     Ok(extents)
@@ -61,7 +68,11 @@ fn is_declared(shape: &Shape, rank: u32, thread: u32) -> bool
 fn opening_thread(shape: &Shape, rank: u32, thread: u32) -> ThreadState
     ensures { result ≡ opening_thread shape.now rank thread }
 {
-    if is_declared(shape, rank, thread) { ThreadState::Running } else { ThreadState::Absent }
+    if is_declared(shape, rank, thread) {
+        ThreadState::Running
+    } else {
+        ThreadState::Absent
+    }
 }
 
 /// The threads of a rank.
@@ -151,7 +162,12 @@ fn opening_segment(alloc: Global, notes: u32, size: u32) -> Result<Segment, NoMe
 }
 
 /// The segment of a rank with a number.
-fn opening_segment_at(alloc: Global, shape: &Shape, rank: u32, segment: u32) -> Result<Option<Segment>, NoMemory>
+fn opening_segment_at(
+    alloc: Global,
+    shape: &Shape,
+    rank: u32,
+    segment: u32,
+) -> Result<Option<Segment>, NoMemory>
     ensures { IfOk result (λ s. s ≡ option_map (opening_segment shape.now.limits.notes) (declared_size shape.now rank segment)) }
 {
     match declared_size(shape, rank, segment) {

@@ -32,7 +32,13 @@ fn append_entries(q: &mut Queue, target: u64, entries: Rows<Entry>) -> Result<()
 
 /// Makes a post that is accepted. Without memory nothing changes.
 #[tactic(auto, using(crate::proofs::Items::posts_lemmas))]
-fn post(alloc: Global, posts: &mut Posts, queue: u64, target: u64, kinds: &[Kind]) -> Result<(), NoMemory>
+fn post(
+    alloc: Global,
+    posts: &mut Posts,
+    queue: u64,
+    target: u64,
+    kinds: &[Kind],
+) -> Result<(), NoMemory>
     requires numbers { posts.old.next + length kinds.now < 2 ^ 32 }
     requires counts { (q : Queue) → slice_get posts.old.queues queue ≡ Some q → q.open_count + length kinds.now < 2 ^ 32 }
     ensures ok { OnOk result (posts.new ≡ with_post posts.old queue target (Ok kinds.now)) }

@@ -101,12 +101,8 @@ pub fn charge(state: ThreadState, call: &Call, reply: &Reply) -> u32
     ensures { result ≡ charge state call.now reply.now }
 {
     match call {
-        Call::WriteNotify { .. } => {
-            if matches!(reply, Reply::Done) { 5 } else { 1 }
-        }
-        Call::End => {
-            if is_running(state) { 0 } else { 1 }
-        }
+        Call::WriteNotify { .. } => { if matches!(reply, Reply::Done) { 5 } else { 1 } }
+        Call::End => { if is_running(state) { 0 } else { 1 } }
         Call::Store { .. }
         | Call::Load { .. }
         | Call::Wait { .. }

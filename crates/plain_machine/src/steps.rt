@@ -67,7 +67,16 @@ fn step_take(
     if rank >= posts.len() || rank >= memories.len() {
         return Err(StepFault::Illegal(Why::Take));
     }
-    take(alloc, limits, posts.at_mut(rank), memories.at(rank), queue, target, number, outcome)
+    take(
+        alloc,
+        limits,
+        posts.at_mut(rank),
+        memories.at(rank),
+        queue,
+        target,
+        number,
+        outcome,
+    )
 }
 
 /// Steps by a put. It takes no memory.
@@ -92,7 +101,14 @@ fn step_put(
     if rank >= posts.len() || owner >= memories.len() {
         return Err(StepFault::Illegal(Why::Put));
     }
-    put(posts.at_mut(rank), memories.at_mut(owner), queue, target, number, outcome)
+    put(
+        posts.at_mut(rank),
+        memories.at_mut(owner),
+        queue,
+        target,
+        number,
+        outcome,
+    )
 }
 
 /// Steps by an event: at Ok the step's state stands; an illegal event is none, for that cause, and changed nothing;
@@ -116,10 +132,14 @@ pub fn step(
             step_called(alloc, limits, posts, memories, taken, *caller, call, reply)
         }
         Event::Take(origin, queue, target, number, outcome) => {
-            step_take(alloc, limits, posts, memories, *origin, *queue, *target, *number, *outcome)
+            step_take(
+                alloc, limits, posts, memories, *origin, *queue, *target, *number, *outcome,
+            )
         }
         Event::Put(origin, queue, target, number, outcome) => {
-            step_put(limits, posts, memories, *origin, *queue, *target, *number, *outcome)
+            step_put(
+                limits, posts, memories, *origin, *queue, *target, *number, *outcome,
+            )
         }
     }
 }

@@ -21,7 +21,13 @@ pub struct FoundEntry<'a> {
 }
 
 /// Finds an entry by its number. Where it is not there, that is why.
-pub fn find_entry(posts: &Posts, queue: QueueId, target: RankId, number: u32, why: Why) -> Result<FoundEntry<'_>, Why>
+pub fn find_entry(
+    posts: &Posts,
+    queue: QueueId,
+    target: RankId,
+    number: u32,
+    why: Why,
+) -> Result<FoundEntry<'_>, Why>
     ensures { Finds result (find_entry posts.now queue target number why) }
 {
     let queue = posts.queues.get(queue.index()).ok_or(why)?;
@@ -53,7 +59,10 @@ fn taken_bytes(alloc: Global, memory: &Memory, kind: &Kind) -> Result<Bytes, NoM
     match kind {
         Kind::Write { own, target: _ } => {
             let bytes = bytes_of(memory, u64::from(own.segment));
-            Rows::copied_from(alloc, range_of(bytes, own.offset as usize, own.size as usize))
+            Rows::copied_from(
+                alloc,
+                range_of(bytes, own.offset as usize, own.size as usize),
+            )
         }
         Kind::Notify { .. } => Ok(Rows::new(alloc)),
     }
@@ -212,7 +221,12 @@ fn memory_put(memory: &mut Memory, entry: &Entry)
             carried_bytes(&entry.phase),
         ),
         Kind::Notify { target, value } => {
-            set_slot(memory, u64::from(target.segment), u64::from(target.note), *value);
+            set_slot(
+                memory,
+                u64::from(target.segment),
+                u64::from(target.note),
+                *value,
+            );
         }
     }
 }

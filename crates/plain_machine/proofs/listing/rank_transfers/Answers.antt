@@ -1,4 +1,3 @@
-use Rattle.std.proofs.Common.{[]}
 use Rattle.gaspi_model.specs.Transfers.{queue_transfers}
 use Rattle.plain_machine.proofs.Listed.{listed_more}
 use Rattle.plain_machine.proofs.listing.rank_transfers.Goals as goal

@@ -1,4 +1,4 @@
-use Rattle.std.proofs.Common.{◌≡◌, ◌++◌, take}
+use Rattle.std.proofs.Common.{◌≡◌, take}
 use Rattle.std.specs.List.{flat_map, enumerate_from}
 use Rattle.gaspi_model.specs.Transfers.{rank_transfers}
 use Rattle.plain_machine.proofs.listing.transfers.Given as goal

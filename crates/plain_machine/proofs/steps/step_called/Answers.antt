@@ -1,7 +1,7 @@
-use Rattle.std.proofs.Common.{sym, ap, ◌∙◌}
+use Rattle.std.proofs.Common.{sym}
 use Rattle.std.proofs.lemmas.List.{map-set}
 use Rattle.plain_machine.specs.Machine.{state_of, taken_of}
-use Rattle.plain_machine.proofs.Lifted.{called_steps, mapped}
+use Rattle.plain_machine.proofs.Lifted.{called_steps}
 use Rattle.plain_machine.proofs.steps.step_called.Goals as goal
 
 pub returns-clause-step : goal.returns-clause-step

@@ -1,4 +1,3 @@
-use Rattle.std.proofs.Common.{Some, slice_get, sym}
 use Rattle.plain_machine.specs.Machine.{state_of, taken_of}
 use Rattle.plain_machine.proofs.Lifted.{take_steps, take_taken, events_fit, map_kept}
 use Rattle.plain_machine.proofs.steps.step_take.Goals as goal
