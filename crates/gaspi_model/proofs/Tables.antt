@@ -1,5 +1,5 @@
 -- Tables with one item changed.
-use Rattle.std.proofs.Common.{◌≤◌, ◌<◌, None, length, ◌++◌, ◌∙◌, arith, Option, remove, ◌≡◌, ℕ, ◌+◌, zero, suc, List, [], ◌∷◌, Some, refl, sym, ap, subst, inl, inr, ◌⊎◌}
+use Rattle.std.proofs.Common.{◌≤◌, ◌<◌, None, length, ◌++◌, ◌∙◌, arith, remove, ◌≡◌, ℕ, ◌+◌, zero, suc, List, [], ◌∷◌, Some, refl, sym, ap, subst, inl, inr, ◌⊎◌}
 use Rattle.std.specs.List.{slice_get, slice_set, sum_by, flat_map, enumerate_from}
 use Rattle.std.proofs.lemmas.List.Sums.{sum_by-set}
 use Rattle.std.proofs.lemmas.Option.{slice_get_within, get_or_from_slice_get}
@@ -86,4 +86,3 @@ enumerate-at n (x ∷ xs) zero p at =
     let same : ◌≡◌ {A = ℕ × _} (n, x) p = cc in
     (sym (ap (λ (q : ℕ × _). q.0) same) ∙ omega arith, ap (λ (q : ℕ × _). Some q.1) same)
 enumerate-at n (x ∷ xs) (suc i) p at = let rest = enumerate-at (n + 1) xs i p at in (rest.0 ∙ omega arith, rest.1)
-

@@ -31,8 +31,10 @@ use Rattle.rank_script.specs.declared.scripts.Script.{Script}
 use Rattle.rank_script.specs.declared.scripts.ScriptLine.{ScriptLine}
 use Rattle.rank_script.specs.declared.scripts.RunOutcome.{RunOutcome}
 use Rattle.rank_script.specs.declared.scripts.RunOutcome.TheVariants as outcomes
-use Rattle.gaspi_run.specs.declared.schedules.Finished.{Finished}
-use Rattle.gaspi_run.specs.Schedule.{Waiting, Turns, HadNoRoom, HasLimitCause, HasEnded, made, looks_of, with_waiting, recorded, looked, answered, going_turn, ending_turn, progress_turn, caller_turn, candidate_turn, candidates, with_draw, turn, turns}
+use Rattle.gaspi_run.specs.declared.turns.Finished.{Finished}
+use Rattle.gaspi_run.specs.Schedule.{HadNoRoom, HasLimitCause, HasEnded, made, looks_of, with_waiting, recorded, looked, answered, going_turn, ending_turn, progress_turn, caller_turn, candidate_turn, candidates, with_draw, turn, turns, ArePlain}
+use Rattle.gaspi_run.specs.declared.turns.Waiting.{Waiting}
+use Rattle.gaspi_run.specs.declared.turns.Turns.{Turns}
 use Rattle.gaspi_run.proofs.Good.{IsGood}
 
 -- What a caller's own events are.
@@ -117,10 +119,6 @@ line-there (l ∷ lines) (pair ∷ pairs) line rest follows = go (is_stuck l pai
       → (Follows (going_on lines) pairs (Going line rest) → (place : ℕ) × (slice_get lines place ≡ Some line)) → (place : ℕ) × (slice_get (l ∷ lines) place ≡ Some line)
     go true f later = absurd (over-stays (outcomes.Stuck l.number) pairs line rest f)
     go false f later = let found = later f in (suc found.0, found.1)
-
--- no script makes an end by itself
-abbrev pub ArePlain : List Script → Type 0
-ArePlain scripts = (k : ℕ) (s : Script) → slice_get scripts k ≡ Some s → (i : ℕ) (line : ScriptLine) → slice_get s.lines i ≡ Some line → is_end line.call ≡ false
 
 pub find-there : {A : Type 0} (p : A → Bool) (xs : List A) (x : A) → find p xs ≡ Some x → (k : ℕ) × (slice_get xs k ≡ Some x)
 find-there p [] x h = absurd (let no : ⊥ = cc in no)

@@ -30,12 +30,14 @@ use Rattle.rank_script.specs.declared.scripts.Script.{Script}
 use Rattle.rank_script.specs.declared.scripts.ScriptLine.{ScriptLine}
 use Rattle.rank_script.specs.declared.scripts.RunOutcome.{RunOutcome}
 use Rattle.rank_script.specs.declared.scripts.RunOutcome.TheVariants as outcomes
-use Rattle.gaspi_run.specs.declared.schedules.Finished.{Finished}
+use Rattle.gaspi_run.specs.declared.turns.Finished.{Finished}
 use Rattle.gaspi_run.specs.Generator.{drawn, picked}
-use Rattle.gaspi_run.specs.Schedule.{Waiting, Turns, made, looks_of, with_waiting, recorded, looked, answered, going_turn, ending_turn, progress_turn, caller_turn, candidate_turn, candidates, with_draw, turn, turns}
+use Rattle.gaspi_run.specs.Schedule.{made, looks_of, with_waiting, recorded, looked, answered, going_turn, ending_turn, progress_turn, caller_turn, candidate_turn, candidates, with_draw, turn, turns, ArePlain}
+use Rattle.gaspi_run.specs.declared.turns.Waiting.{Waiting}
+use Rattle.gaspi_run.specs.declared.turns.Turns.{Turns}
 use Rattle.gaspi_run.proofs.Work.{answer-some}
 use Rattle.gaspi_run.proofs.Good.{IsGood, Steps, LimitsStay, good-turn}
-use Rattle.gaspi_run.proofs.Running.{IsRunning, Goes, HasCome, WasStopped, ArePlain, own_of, line-there, find-there}
+use Rattle.gaspi_run.proofs.Running.{IsRunning, Goes, HasCome, WasStopped, own_of, line-there, find-there}
 use Rattle.gaspi_run.proofs.RunningTurns.{ActiveStays, Onward, foreign-step, waiting-changed, called-step}
 use Rattle.gaspi_run.proofs.RunningEnds.{EndsRun, StopsRun, ending-step}
 

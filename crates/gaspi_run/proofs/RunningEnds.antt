@@ -21,8 +21,10 @@ use Rattle.rank_script.specs.declared.scripts.Script.{Script}
 use Rattle.rank_script.specs.declared.scripts.ScriptLine.{ScriptLine}
 use Rattle.rank_script.specs.declared.scripts.RunOutcome.{RunOutcome}
 use Rattle.rank_script.specs.declared.scripts.RunOutcome.TheVariants as outcomes
-use Rattle.gaspi_run.specs.declared.schedules.Finished.{Finished}
-use Rattle.gaspi_run.specs.Schedule.{Waiting, Turns, HadNoRoom, HasLimitCause, HasEnded}
+use Rattle.gaspi_run.specs.declared.turns.Finished.{Finished}
+use Rattle.gaspi_run.specs.Schedule.{HadNoRoom, HasLimitCause, HasEnded}
+use Rattle.gaspi_run.specs.declared.turns.Waiting.{Waiting}
+use Rattle.gaspi_run.specs.declared.turns.Turns.{Turns}
 use Rattle.gaspi_run.proofs.Running.{IsRunning, Goes, HasCome, WasStopped, waiting_count, finished_count, line-there, come-more, ended-more, own-other}
 use Rattle.gaspi_run.proofs.RunningTurns.{ActiveStays, apart-waiting, apart-finished, own-more}
 

@@ -30,10 +30,12 @@ use Rattle.rank_script.specs.declared.scripts.Script.{Script}
 use Rattle.rank_script.specs.declared.scripts.ScriptLine.{ScriptLine}
 use Rattle.rank_script.specs.declared.scripts.RunOutcome.{RunOutcome}
 use Rattle.rank_script.specs.declared.scripts.RunOutcome.TheVariants as outcomes
-use Rattle.gaspi_run.specs.declared.schedules.Finished.{Finished}
-use Rattle.gaspi_run.specs.Schedule.{Waiting, Turns, HasEnded, made, with_waiting, recorded}
+use Rattle.gaspi_run.specs.declared.turns.Finished.{Finished}
+use Rattle.gaspi_run.specs.Schedule.{HasEnded, made, with_waiting, recorded}
+use Rattle.gaspi_run.specs.declared.turns.Waiting.{Waiting}
+use Rattle.gaspi_run.specs.declared.turns.Turns.{Turns}
 use Rattle.gaspi_run.proofs.Good.{IsGood}
-use Rattle.gaspi_run.proofs.Running.{IsRunning, Goes, HasCome, WasStopped, ArePlain, own_of, own_calls-append, own-same, own-other, waiting_count, finished_count, count-at, count-two, line-there, find-there, come-more, ended-more, set-cases}
+use Rattle.gaspi_run.proofs.Running.{IsRunning, Goes, HasCome, WasStopped, own_of, own_calls-append, own-same, own-other, waiting_count, finished_count, count-at, count-two, line-there, find-there, come-more, ended-more, set-cases}
 
 -- what the machine's and the runs' laws say
 abbrev pub ActiveStays : Type 0

@@ -26,7 +26,9 @@ use Rattle.rank_script.specs.declared.scripts.Halted.TheVariants as halts
 use Rattle.rank_script.specs.declared.scripts.ScriptLine.{ScriptLine}
 use Rattle.rank_script.specs.declared.scripts.RunOutcome.{RunOutcome}
 use Rattle.gaspi_run.specs.Generator.{drawn, picked}
-use Rattle.gaspi_run.specs.Schedule.{Waiting, Turns, made, looks_of, with_waiting, recorded, looked, answered, going_turn, ending_turn, progress_turn, caller_turn, candidate_turn, candidates, with_draw, turn}
+use Rattle.gaspi_run.specs.Schedule.{made, looks_of, with_waiting, recorded, looked, answered, going_turn, ending_turn, progress_turn, caller_turn, candidate_turn, candidates, with_draw, turn}
+use Rattle.gaspi_run.specs.declared.turns.Waiting.{Waiting}
+use Rattle.gaspi_run.specs.declared.turns.Turns.{Turns}
 
 -- what a caller may still do: two for each line and its looks, and one for its end
 abbrev pub line_work : ℕ → ScriptLine → ℕ

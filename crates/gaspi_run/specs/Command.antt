@@ -6,7 +6,7 @@ use Rattle.std.specs.Fmt.{decimal}
 use Rattle.rank_script.specs.WorldText.{TextFault}
 use Rattle.rank_script.specs.declared.scripts.RunOutcome.{RunOutcome}
 use Rattle.rank_script.specs.declared.scripts.RunOutcome.TheVariants as outcomes
-use Rattle.gaspi_run.specs.declared.schedules.Finished.{Finished}
+use Rattle.gaspi_run.specs.declared.turns.Finished.{Finished}
 
 -- the only words so far: `step --brief`
 abbrev pub are_step_words : List (List ℕ) → Bool

@@ -16,7 +16,7 @@ use Rattle.gaspi_types.specs.declared.events.Transfer.{Transfer}
 use Rattle.gaspi_types.specs.declared.events.Event.{Event}
 use Rattle.gaspi_types.specs.declared.events.Event.TheVariants.{Called}
 use Rattle.gaspi_model.specs.State.{opening}
-use Rattle.gaspi_model.specs.Step.{step, answer_in, room_taken, transfer_event, own_calls, reached}
+use Rattle.gaspi_model.specs.Step.{step, answer_in, room_taken, transfer_event, own_calls, reached, is_end, is_declared}
 use Rattle.gaspi_model.specs.Transfers.{transfers}
 use Rattle.gaspi_model.specs.declared.states.State.{State}
 use Rattle.gaspi_model.specs.declared.states.Why.{Why}
@@ -28,33 +28,25 @@ use Rattle.rank_script.specs.declared.scripts.Script.{Script}
 use Rattle.rank_script.specs.declared.scripts.ScriptLine.{ScriptLine}
 use Rattle.rank_script.specs.declared.scripts.RunOutcome.{RunOutcome}
 use Rattle.gaspi_run.specs.Generator.{drawn, picked}
-use Rattle.gaspi_run.specs.declared.schedules.Finished.{Finished}
-
--- a caller that has not ended: how far its run has come, and how many looks its present call has had
-pub record Waiting : Type 0 where
-  pub caller : CallerId
-  pub cursor : Progress
-  pub looks : ℕ
-
--- where the schedule stands: the generator's number, the machine's state, the callers that have not ended by rank and
--- thread, how the others ended, and the events so far
-pub record Turns : Type 0 where
-  pub x : ℕ
-  pub state : State
-  pub waiting : List Waiting
-  pub finished : List Finished
-  pub journal : List Event
+use Rattle.gaspi_run.specs.declared.turns.Waiting.{Waiting}
+use Rattle.gaspi_run.specs.declared.turns.Turns.{Turns}
+use Rattle.gaspi_run.specs.declared.turns.Finished.{Finished}
 
 -- the caller of a script, at its start
 abbrev pub starting : Option Script → List Waiting
 starting None = []
 starting (Some script) = record { caller = script.caller; cursor = going_on script.lines; looks = 0 } ∷ []
 
+-- the callers of a rank at their start, by thread
+abbrev pub thread_starts : List Script → ℕ → ℕ → List Waiting
+thread_starts scripts rank thread = starting (find (is_script_of (record { rank = rank; thread = thread })) scripts)
+
+abbrev pub rank_starts : List Script → ℕ → List Waiting
+rank_starts scripts rank = flat_map (thread_starts scripts rank) (range_with_len 0 4)
+
 -- all callers at their start, by rank and thread
 abbrev pub starts : World → List Script → List Waiting
-starts w scripts =
-    flat_map (λ rank. flat_map (λ thread. starting (find (λ script. is_caller rank thread script.caller) scripts)) (range_with_len 0 4))
-        (range_with_len 0 w.limits.ranks)
+starts w scripts = flat_map (rank_starts scripts) (range_with_len 0 w.limits.ranks)
 
 abbrev pub started : World → List Script → ℕ → Turns
 started w scripts seed =
@@ -150,6 +142,14 @@ pub record IsScheduled (w : World) (scripts : List Script) (seed limit : ℕ) (j
   pub over : candidates (turns limit count (started w scripts seed)) ≡ 0
   pub journal_is : journal ≡ (turns limit count (started w scripts seed)).journal
   pub finished_is : finished ≡ (turns limit count (started w scripts seed)).finished
+
+-- no script makes an end by itself
+abbrev pub ArePlain : List Script → Type 0
+ArePlain scripts = (k : ℕ) (s : Script) → slice_get scripts k ≡ Some s → (i : ℕ) (line : ScriptLine) → slice_get s.lines i ≡ Some line → is_end line.call ≡ false
+
+-- the callers that wait are declared
+abbrev pub AreDeclared : Turns → Type 0
+AreDeclared t = (place : ℕ) (x : Waiting) → slice_get t.waiting place ≡ Some x → is_declared t.state x.caller.rank x.caller.thread ≡ true
 
 -- How a caller ended: its calls are a run of its script, with that outcome; and where it ended at the event limit, there
 -- is a history that the journal begins with, which has all its calls but the end, and after which its rank had no room

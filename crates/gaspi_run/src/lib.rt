@@ -1,6 +1,9 @@
 //! The commands of the program.
 #![tactic(auto)]
 
-mod schedules;
+mod moves;
+mod schedule;
+mod turns;
 
-pub use schedules::Finished;
+pub use schedule::{Journal, Ran};
+pub use turns::{Finished, Turns, Waiting};
