@@ -8,3 +8,4 @@ pub mod RunningAll
 pub mod NumberRanges
 pub mod Started
 pub mod StartSteps
+pub mod Scheduling
