@@ -1,5 +1,5 @@
 -- The loop of the schedule.
-use Rattle.std.proofs.Common.{◌≡◌, ℕ, zero, suc, ◌+◌, ◌<◌, ◌≤◌, Bool, true, false, List, length, Option, None, Some, Ok, refl, sym, ap, ◌∙◌, subst, arith, IsOk}
+use Rattle.std.proofs.Common.{◌≡◌, ℕ, zero, suc, ◌+◌, ◌<◌, ◌≤◌, Bool, true, false, List, [], ◌∷◌, length, Option, None, Some, Ok, refl, sym, ap, ◌∙◌, subst, arith, IsOk}
 use Rattle.std.specs.List.{slice_get}
 use Rattle.gaspi_types.specs.World.{World, IsWorld}
 use Rattle.gaspi_model.specs.State.{opening}
@@ -16,9 +16,11 @@ use Rattle.gaspi_run.specs.Schedule.{started, turn, turns, candidates, AreDeclar
 use Rattle.gaspi_run.specs.declared.turns.Waiting.{Waiting}
 use Rattle.gaspi_run.specs.declared.turns.Turns.{Turns}
 use Rattle.gaspi_run.proofs.Work.{work, turn-less, Counts, TransfersAreSteps}
-use Rattle.gaspi_run.proofs.Good.{IsGood, good-turns, turns-more}
+use Rattle.gaspi_run.proofs.Good.{IsGood, Steps, LimitsStay, good-turns, turns-more}
 use Rattle.gaspi_run.proofs.Running.{IsRunning}
-use Rattle.gaspi_run.proofs.RunningAll.{Laws, running-turns}
+use Rattle.gaspi_run.proofs.RunningTurns.{ActiveStays, Onward}
+use Rattle.gaspi_run.proofs.RunningEnds.{EndsRun, StopsRun}
+use Rattle.gaspi_run.proofs.RunningAll.{Laws, CallsAreSteps, running-turns}
 use Rattle.gaspi_run.proofs.Started.{good-started, running-started}
 
 -- the schedule has come to where some number of turns leads
@@ -35,6 +37,28 @@ pub record Known (w : World) (scripts : List Script) : Type 0 where
   pub world : IsWorld w
   pub are : AreScriptsOf w scripts
   pub plain : ArePlain scripts
+
+pub laws : Steps → LimitsStay → ActiveStays → CallsAreSteps → Onward → EndsRun → StopsRun → Laws
+laws steps stay active calls onward ends stops = record {
+  steps = steps;
+  stay = stay;
+  active = active;
+  calls = calls;
+  onward = onward;
+  ends = ends;
+  stops = stops;
+}
+
+pub known : (w : World) (scripts : List Script) → Laws → Counts → TransfersAreSteps → ((v : World) → IsWorld v → IsSound (opening v)) → IsWorld w → AreScriptsOf w scripts → ArePlain scripts → Known w scripts
+known w scripts l counts transfers opens world are plain = record {
+  laws = l;
+  counts = counts;
+  transfers = transfers;
+  opens = opens;
+  world = world;
+  are = are;
+  plain = plain;
+}
 
 pub turned-good : (w : World) (scripts : List Script) (seed limit : ℕ) (t : Turns) → Known w scripts → HasTurned w scripts seed limit t → IsGood w t
 turned-good w scripts seed limit t k h =
