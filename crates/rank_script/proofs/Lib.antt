@@ -1,1 +1,5 @@
+pub mod AddedLines
 pub mod Following
+pub mod KindFaults
+pub mod LastWords
+pub mod LineFeeds

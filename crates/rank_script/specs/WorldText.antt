@@ -175,18 +175,19 @@ word_count word =
 abbrev pub is_miscounted : List (List ℕ) → Bool
 is_miscounted words = not (length words == word_count (first_word words))
 
+-- a number, the word `thread` and a number
+abbrev pub is_section_line : List (List ℕ) → Bool
+is_section_line [] = false
+is_section_line (rank ∷ []) = false
+is_section_line (rank ∷ thread ∷ []) = false
+is_section_line (rank ∷ thread ∷ number ∷ words) = is_some (number_of rank) && (is_thread_word thread && is_some (number_of number))
+
 -- S6: a word is not of its form
 abbrev pub is_malformed : List (List ℕ) → Bool
 is_malformed words =
     if is_world_word (first_word words) || is_segment_word (first_word words) then not (all_numbers (later_words words))
     else (if is_rank_word (first_word words) then not (is_section_line (later_words words))
       else is_none (call_of (call_words_of words)) || is_none (line_timeout words))
-  where
-    is_section_line : List (List ℕ) → Bool
-    is_section_line [] = false
-    is_section_line (rank ∷ []) = false
-    is_section_line (rank ∷ thread ∷ []) = false
-    is_section_line (rank ∷ thread ∷ number ∷ words) = is_some (number_of rank) && (is_thread_word thread && is_some (number_of number))
 
 -- S7: a number of a world, segment or rank line, or of a timeout, is outside its limits
 abbrev pub is_outside : Said → List (List ℕ) → Bool
