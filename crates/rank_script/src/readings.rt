@@ -10,9 +10,7 @@ use crate::arguments::{read_line_looks, read_section, read_segment, read_shape, 
 use crate::kinds::LineKind;
 use crate::lines::is_bad_line;
 use crate::scripts::{ScriptFault, ScriptLine, Scripts};
-use gaspi_types::{
-    CallWord, CallerId, RankId, Shape, ShapeFault, ThreadId, read_call_words, words,
-};
+use gaspi_types::{CallWord, Shape, ShapeFault, read_call_words, words};
 use std::alloc::Global;
 
 /// What the lines so far have said: the world, where its line has come, and the scripts, the newest last.
@@ -153,9 +151,10 @@ impl Reading {
         let Some((rank, segment, size)) = read_segment(words) else {
             return Err(ScriptFault::At { number: 6, line: number });
         };
-        shape
-            .add_segment(rank, segment, size)
-            .map_err(|fault| fault_for(fault, number))
+        match shape.add_segment(rank, segment, size) {
+            Ok(()) => Ok(()),
+            Err(fault) => Err(fault_for(fault, number)),
+        }
     }
 
     /// Reads the caller of a section, and opens it.
@@ -172,14 +171,14 @@ impl Reading {
         let Some((rank, thread)) = read_section(words) else {
             return Err(ScriptFault::At { number: 6, line: number });
         };
-        if let Err(fault) = shape.add_caller(rank, thread) {
-            return Err(fault_for(fault, number));
+        match shape.add_caller(rank, thread) {
+            Ok(()) => {}
+            Err(fault) => return Err(fault_for(fault, number)),
         }
-        let caller = CallerId {
-            rank: RankId::of(rank as u32),
-            thread: ThreadId::of(thread as u32),
+        let Some(caller) = shape.callers().last() else {
+            unreachable!()
         };
-        self.scripts.open(alloc, caller)?;
+        self.scripts.open(alloc, *caller)?;
         Ok(())
     }
 
@@ -188,7 +187,6 @@ impl Reading {
         requires kind { IsKind (LineKind.Call word) (first_word (map (λ word. word.now) words.now)) }
         requires count { length words.now ≡ kind_word_count (LineKind.Call word) }
         requires section { 0 < length self.old.scripts }
-        requires world { IsSome self.old.shape }
         ensures exact { ReadsWords result (said_of self.old) (said_of self.new) number (map (λ word. word.now) words.now) }
         ensures accords { Accords (said_of self.old) → OnOk result (Accords (said_of self.new)) }
     {
