@@ -124,17 +124,6 @@ pub segment-accepted : (said : Said) (number : ℕ) (words : List (List ℕ)) (w
 segment-accepted said number words w after is numbers world h =
     (accepted said words w after (segment-declaring said words w is numbers world) (declared-segment w words is ∙ h), rw world (rw is (rw h refl)))
 
-added-segment : (a b : Bool) (after w : World) → cond a (cond b (Err shape_faults.Twice) (Ok w)) (Err shape_faults.Limit) ≡ Ok after → after ≡ w
-added-segment true true after w h = absurd (let no : ⊥ = cc in no)
-added-segment true false after w h = cc
-added-segment false b after w h = absurd (let no : ⊥ = cc in no)
-
-pub segment-accords : (said : Said) (words : List (List ℕ)) (w after : World) → said.world ≡ Some w → segment_declared w words ≡ Ok after
-    → Accords said → Accords (record { world = Some after; scripts = said.scripts })
-segment-accords said words w after world h accords =
-    let added = added-segment _ _ after _ h in
-    rw world at accords ∙ sym (ap (λ (v : World). v.callers) added)
-
 pub segment-numbers : (words : List (List ℕ)) (w : World) (rank segment size : ℕ) → ◌≡◌ {A = ℕ × ℕ × ℕ} (rank, segment, size) (number_at words 1, number_at words 2, number_at words 3)
     → segment_added w rank segment size ≡ segment_declared w words
 segment-numbers words w rank segment size h =
@@ -194,19 +183,6 @@ pub section-accepted : (said : Said) (number : ℕ) (words : List (List ℕ)) (w
     → caller_declared w words ≡ Ok after → scripts ≡ with_section said.scripts (section_caller words) → ReadsWords (Ok tt) said (record { world = Some after; scripts = scripts }) number words
 section-accepted said number words w after scripts is formed world h opened =
     (accepted said words w after (section-declaring said words w is formed world) (declared-section w words is ∙ h), rw opened (rw world (rw is (rw h refl))))
-
-map-caller : (scripts : List Script) (script : Script) → map (λ (s : Script). s.caller) (scripts ++ script ∷ []) ≡ map (λ (s : Script). s.caller) scripts ++ script.caller ∷ []
-map-caller [] script = refl
-map-caller (first ∷ scripts) script = ap (λ (cs : List CallerId). first.caller ∷ cs) (map-caller scripts script)
-
-pub section-accords : (said : Said) (words : List (List ℕ)) (w after : World) (scripts : List Script) → said.world ≡ Some w → caller_declared w words ≡ Ok after
-    → scripts ≡ with_section said.scripts (section_caller words) → Accords said → Accords (record { world = Some after; scripts = scripts })
-section-accords said words w after scripts world h opened accords =
-    let before : map (λ (s : Script). s.caller) said.scripts ≡ w.callers = rw world at accords in
-    ap (map (λ (s : Script). s.caller)) opened
-    ∙ map-caller said.scripts (record { caller = section_caller words; lines = [] })
-    ∙ ap (λ (cs : List CallerId). cs ++ section_caller words ∷ []) before
-    ∙ sym (section-callers words w after h)
 
 -- Call lines.
 

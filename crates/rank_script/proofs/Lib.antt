@@ -1,6 +1,7 @@
 pub mod AddedLines
 pub mod Following
 pub mod KindFaults
-pub mod LastWords
 pub mod LateFaults
 pub mod LineFeeds
+pub mod ReadLines
+pub mod SomeWords

@@ -1,13 +1,14 @@
 //! The arguments of lines.
 
-ghost use Rattle.std.specs.Prelude.{◌≡◌, ◌<◌, ◌+◌, map, length, true, Some, None, if◌then◌else◌};
-ghost use Rattle.gaspi_types.specs.CallText.{arguments_of, call_word_of, has_timeout};
+ghost use Rattle.std.specs.Prelude.{◌≡◌, ◌<◌, ◌+◌, map, length, true, Some, None, if◌then◌else◌, IfOk};
+ghost use Rattle.gaspi_types.specs.CallText.{arguments_of, call_of, call_word_of};
 ghost use Rattle.gaspi_types.specs.World.{world_of};
-ghost use Rattle.rank_script.specs.Kinds.{kind_word_count};
-ghost use Rattle.rank_script.specs.WorldText.{first_word, later_words, all_numbers, number_at, limits_of, timeout_of, line_timeout, is_timeout_within, as_timeout, is_section_line, last_word};
+ghost use Rattle.rank_script.specs.WorldText.{first_word, later_words, all_numbers, number_at, limits_of, timeout_of, line_timeout, is_timeout_within, as_timeout, is_section_line, last_word, call_words_of};
 
 use crate::kinds::is_word;
-use gaspi_types::{CallWord, Shape, ShapeFault, Timeout, read_number};
+use gaspi_types::{
+    Call, CallWord, NoMemory, Shape, ShapeFault, Timeout, read_call_words, read_number,
+};
 use std::alloc::Global;
 
 /// The most looks that a timeout may have.
@@ -72,6 +73,15 @@ pub(crate) fn read_section(words: &[&[u8]]) -> Option<(u64, u64)>
     }
     let thread = read_number(thread)?;
     Some((rank, thread))
+}
+
+/// The call that a call line gives, its timeout aside; none where its words spell none.
+pub(crate) fn read_call(alloc: Global, call: CallWord, words: &[&[u8]]) -> Result<Option<Call>, NoMemory>
+    requires word { call_word_of (first_word (map (λ word. word.now) words.now)) ≡ Some call }
+    requires count { arguments_of call < length words.now }
+    ensures { IfOk result (λ call. call ≡ call_of (call_words_of (map (λ word. word.now) words.now))) }
+{
+    read_call_words(alloc, &words[..call.argument_count() + 1])
 }
 
 /// How many looks a word allows, where it is a timeout: a number of looks, or looks without end.

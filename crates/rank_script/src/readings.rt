@@ -6,11 +6,11 @@ ghost use Rattle.rank_script.specs.Kinds.{IsKind, IsNoKind, is_world_kind, is_mi
 ghost use Rattle.rank_script.specs.WorldText.{first_word, is_comment};
 ghost use Rattle.rank_script.specs.Readings.{fault_for};
 
-use crate::arguments::{read_line_looks, read_section, read_segment, read_shape, timeout_of};
+use crate::arguments::{read_call, read_line_looks, read_section, read_segment, read_shape, timeout_of};
 use crate::kinds::LineKind;
 use crate::lines::is_bad_line;
 use crate::scripts::{ScriptFault, ScriptLine, Scripts};
-use gaspi_types::{CallWord, Shape, ShapeFault, read_call_words, words};
+use gaspi_types::{CallWord, Shape, ShapeFault, words};
 use std::alloc::Global;
 
 /// What the lines so far have said: the world, where its line has come, and the scripts, the newest last.
@@ -61,7 +61,8 @@ impl Reading {
     fn place(&self, line: &[u8], words: &[&[u8]]) -> Result<LineKind, u32>
         requires { 0 < length words.now }
         ensures { let words = map (λ word. word.now) words.now in MatchResult result
-            (λ kind. (early_fault (said_of self.now) line.now words ≡ None) × IsKind kind (first_word words))
+            (λ kind. (early_fault (said_of self.now) line.now words ≡ None)
+                × IsKind kind (first_word words) × (length words ≡ kind_word_count kind))
             (λ fault. early_fault (said_of self.now) line.now words ≡ Some fault) }
     {
         let kind = LineKind::of(words[0]);
@@ -190,8 +191,7 @@ impl Reading {
         ensures exact { ReadsWords result (said_of self.old) (said_of self.new) number (map (λ word. word.now) words.now) }
         ensures accords { Accords (said_of self.old) → OnOk result (Accords (said_of self.new)) }
     {
-        let count = word.argument_count() + 1;
-        let Some(call) = read_call_words(alloc, &words[..count])? else {
+        let Some(call) = read_call(alloc, word, words)? else {
             return Err(ScriptFault::At { number: 6, line: number });
         };
         let Some(looks) = read_line_looks(word, words) else {

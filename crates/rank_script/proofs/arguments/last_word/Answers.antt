@@ -1,4 +1,4 @@
-use Rattle.rank_script.proofs.LastWords.{last_word-split}
+use Rattle.rank_script.proofs.SomeWords.{last_word-split}
 use Rattle.rank_script.proofs.arguments.last_word.Goals as goal
 
 pub returns-in-Some : goal.returns-in-Some
