@@ -1,5 +1,5 @@
 -- What the kind of a line tells of its faults.
-use Rattle.std.proofs.Common.{◌≡◌, ℕ, ◌≢◌, Bool, true, false, cond, not, ◌&&◌, ◌||◌, ◌==◌, ◌<◌, map, get_or, Bor, List, [], ◌∷◌, length, Option, Some, None, is_none, is_some, refl, sym, ap, ◌∙◌, arith}
+use Rattle.std.proofs.Common.{◌≡◌, ℕ, ◌≢◌, Bool, true, false, cond, not, ◌&&◌, ◌||◌, ◌==◌, ◌<◌, map, get_or, Bor, List, [], ◌∷◌, length, Option, Some, None, is_none, is_some, refl, sym, ◌∙◌, arith}
 use Rattle.std.proofs.lemmas.Bool.Decides.{nat_tests}
 use Rattle.gaspi_types.specs.CallText.{call_word_of}
 use Rattle.rank_script.specs.Lines.{is_bad_line}

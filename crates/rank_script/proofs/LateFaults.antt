@@ -1,5 +1,5 @@
 -- What the arguments of a line tell of its faults, and what it adds.
-use Rattle.std.proofs.Common.{◌≡◌, ℕ, zero, suc, ◌-◌, length-append, ◌<◌, Bool, true, false, cond, not, ◌&&◌, ◌||◌, List, [], ◌∷◌, ◌++◌, length, map, take, Option, Some, None, Result, Ok, Err, refl, sym, ap, ◌∙◌, arith, is_none, is_some}
+use Rattle.std.proofs.Common.{◌≡◌, ℕ, zero, suc, ◌-◌, length-append, Bool, true, false, cond, not, ◌||◌, List, [], ◌∷◌, ◌++◌, length, map, Option, Some, None, Ok, Err, refl, sym, ap, ◌∙◌, arith, is_none}
 use Rattle.std.specs.Option.{option_map_or}
 use Rattle.std.specs.List.{slice_get}
 use Rattle.gaspi_types.specs.CallText.{call_word_of, call_of}
@@ -12,11 +12,10 @@ use Rattle.gaspi_types.specs.declared.shapes.ShapeFault.{ShapeFault}
 use Rattle.gaspi_types.specs.declared.shapes.ShapeFault.TheVariants as shape_faults
 use Rattle.rank_script.specs.WorldText.{Said, first_word, later_words, all_numbers, number_at, limits_of, declared, segment_declared, caller_declared, is_section_line, is_malformed, is_outside, is_repeated, is_crowded, is_limit_fault, is_twice_fault, is_threads_fault, call_words_of, line_timeout, is_timeout_within, as_timeout, script_line, said_after, with_line, with_section}
 use Rattle.rank_script.specs.Kinds.{IsKind}
-use Rattle.rank_script.specs.Readings.{late_fault, fault_for, ReadsWords, Accords, callers_so_far}
+use Rattle.rank_script.specs.Readings.{late_fault, fault_for, ReadsWords, Accords}
 use Rattle.rank_script.specs.declared.kinds.LineKind.TheVariants as kinds
 use Rattle.rank_script.specs.declared.scripts.Script.{Script}
 use Rattle.rank_script.specs.declared.scripts.ScriptLine.{ScriptLine}
-use Rattle.rank_script.specs.declared.scripts.ScriptFault.TheVariants as faults
 
 pub some-where : {A : Type 0} (b : Bool) (x y : A) → Some x ≡ cond b (Some y) None → (b ≡ true) × (x ≡ y)
 some-where true x y h = (refl, cc)

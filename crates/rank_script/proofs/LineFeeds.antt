@@ -1,6 +1,6 @@
 -- The first line of a text.
-use Rattle.std.proofs.Common.{◌≡◌, ℕ, suc, ◌≢◌, ◌+◌, ◌-◌, ◌<◌, ◌≤◌, Bool, true, false, cond, not, ◌&&◌, ◌==◌, eqb, nat_lt, ltb, List, [], ◌∷◌, ◌++◌, length, take, drop, Option, Some, None, refl, sym, ap, ◌∙◌, subst, arith, add-one}
-use Rattle.std.specs.List.{position, position_or_len, prefix_len, list_all}
+use Rattle.std.proofs.Common.{◌≡◌, ℕ, suc, ◌≢◌, ◌+◌, ◌<◌, ◌≤◌, Bool, true, false, cond, not, ◌&&◌, ◌==◌, nat_lt, List, [], ◌∷◌, ◌++◌, length, take, drop, Some, None, refl, sym, ap, ◌∙◌, subst, arith, add-one}
+use Rattle.std.specs.List.{position, prefix_len, list_all}
 use Rattle.std.proofs.lemmas.Bool.{eqb-true}
 use Rattle.std.proofs.lemmas.Bool.Decides.{nat_tests}
 use Rattle.rank_script.specs.Lines.{begins_line_feed, onto_first_line, lines_of, without_return}
@@ -67,12 +67,12 @@ first-feed (byte ∷ bytes) = go (byte == 10) refl (first-feed bytes)
     go false is rest =
         let later : FirstFeed (byte ∷ bytes) (suc (prefix_len is_other bytes)) = record {
           there = λ h.
-            let short : suc (prefix_len is_other bytes) < suc (length bytes) = h in
-            let found = rest.there (omega (arith, short)) in
-            (rw is found.0, ap (λ (bs : List ℕ). byte ∷ bs) found.1);
+              let short : suc (prefix_len is_other bytes) < suc (length bytes) = h in
+              let found = rest.there (omega (arith, short)) in
+              (rw is found.0, ap (λ (bs : List ℕ). byte ∷ bs) found.1);
           absent = λ h.
-            let long : suc (length bytes) ≤ suc (prefix_len is_other bytes) = h in
-            rw is (rest.absent (omega (arith, long)));
+              let long : suc (length bytes) ≤ suc (prefix_len is_other bytes) = h in
+              rw is (rest.absent (omega (arith, long)));
         } in
         let one : suc (prefix_len is_other bytes) ≡ 1 + prefix_len is_other bytes = omega arith in
         rw is (subst (λ (n : ℕ). FirstFeed (byte ∷ bytes) n) one later)
@@ -93,7 +93,7 @@ lines_of-feed text end h =
     let within : prefix_len is_other text < length text = grind (arith, nat_tests, place.0) in
     let found = (first-feed text).there within in
     let here : lines_of text ≡ without_return (take (prefix_len is_other text) text) ∷ lines_of (drop (suc (prefix_len is_other text)) text) =
-        ap lines_of found.1 ∙ before-feed (take (prefix_len is_other text) text) (drop (suc (prefix_len is_other text)) text) found.0 in
+    ap lines_of found.1 ∙ before-feed (take (prefix_len is_other text) text) (drop (suc (prefix_len is_other text)) text) found.0 in
     rw (place.1, add-one) here
 
 pub lines_of-last : (text : List ℕ) → None ≡ position (λ byte. byte == 10) text → 0 < length text → lines_of text ≡ text ∷ []

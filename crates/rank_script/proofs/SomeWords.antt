@@ -1,5 +1,5 @@
 -- Some of the words of a line.
-use Rattle.std.proofs.Common.{◌≡◌, ℕ, ◌+◌, take, Some, sym, List, [], ◌∷◌, ◌++◌, map, Bor, refl, ap, ◌∙◌}
+use Rattle.std.proofs.Common.{◌≡◌, ℕ, ◌+◌, take, Some, sym, List, [], ◌∷◌, ◌++◌, map, Bor, refl, ap}
 use Rattle.std.proofs.lemmas.List.{take-map}
 use Rattle.gaspi_types.specs.CallText.{call_word_of, arguments_of}
 use Rattle.gaspi_types.specs.declared.call_words.CallWord.{CallWord}

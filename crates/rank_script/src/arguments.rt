@@ -76,7 +76,11 @@ pub(crate) fn read_section(words: &[&[u8]]) -> Option<(u64, u64)>
 }
 
 /// The call that a call line gives, its timeout aside; none where its words spell none.
-pub(crate) fn read_call(alloc: Global, call: CallWord, words: &[&[u8]]) -> Result<Option<Call>, NoMemory>
+pub(crate) fn read_call(
+    alloc: Global,
+    call: CallWord,
+    words: &[&[u8]],
+) -> Result<Option<Call>, NoMemory>
     requires word { call_word_of (first_word (map (λ word. word.now) words.now)) ≡ Some call }
     requires count { arguments_of call < length words.now }
     ensures { IfOk result (λ call. call ≡ call_of (call_words_of (map (λ word. word.now) words.now))) }

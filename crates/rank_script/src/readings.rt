@@ -6,7 +6,9 @@ ghost use Rattle.rank_script.specs.Kinds.{IsKind, IsNoKind, is_world_kind, is_mi
 ghost use Rattle.rank_script.specs.WorldText.{first_word, is_comment};
 ghost use Rattle.rank_script.specs.Readings.{fault_for};
 
-use crate::arguments::{read_call, read_line_looks, read_section, read_segment, read_shape, timeout_of};
+use crate::arguments::{
+    read_call, read_line_looks, read_section, read_segment, read_shape, timeout_of,
+};
 use crate::kinds::LineKind;
 use crate::lines::is_bad_line;
 use crate::scripts::{ScriptFault, ScriptLine, Scripts};
@@ -35,7 +37,12 @@ impl Reading {
     }
 
     /// Reads the next line.
-    pub(crate) fn read_line(&mut self, alloc: Global, number: u64, line: &[u8]) -> Result<(), ScriptFault>
+    pub(crate) fn read_line(
+        &mut self,
+        alloc: Global,
+        number: u64,
+        line: &[u8],
+    ) -> Result<(), ScriptFault>
         ensures exact { ReadsLine result (said_of self.old) (said_of self.new) number line.now }
         ensures accords { Accords (said_of self.old) → OnOk result (Accords (said_of self.new)) }
     {
@@ -46,14 +53,20 @@ impl Reading {
         }
         if words.is_empty() {
             return if is_bad_line(line) {
-                Err(ScriptFault::At { number: 2, line: number })
+                Err(ScriptFault::At {
+                    number: 2,
+                    line: number,
+                })
             } else {
                 Ok(())
             };
         }
         match self.place(line, words) {
             Ok(kind) => self.read_words(alloc, kind, number, words),
-            Err(fault) => Err(ScriptFault::At { number: fault, line: number }),
+            Err(fault) => Err(ScriptFault::At {
+                number: fault,
+                line: number,
+            }),
         }
     }
 
@@ -62,7 +75,7 @@ impl Reading {
         requires { 0 < length words.now }
         ensures { let words = map (λ word. word.now) words.now in MatchResult result
             (λ kind. (early_fault (said_of self.now) line.now words ≡ None)
-                × IsKind kind (first_word words) × (length words ≡ kind_word_count kind))
+            × IsKind kind (first_word words) × (length words ≡ kind_word_count kind))
             (λ fault. early_fault (said_of self.now) line.now words ≡ Some fault) }
     {
         let kind = LineKind::of(words[0]);
@@ -104,7 +117,13 @@ impl Reading {
     }
 
     /// Reads the arguments of a line that has its place.
-    fn read_words(&mut self, alloc: Global, kind: LineKind, number: u64, words: &[&[u8]]) -> Result<(), ScriptFault>
+    fn read_words(
+        &mut self,
+        alloc: Global,
+        kind: LineKind,
+        number: u64,
+        words: &[&[u8]],
+    ) -> Result<(), ScriptFault>
         requires kind { IsKind kind (first_word (map (λ word. word.now) words.now)) }
         requires count { length words.now ≡ kind_word_count kind }
         requires placed { is_misplaced_kind (said_of self.old) kind ≡ false }
@@ -121,7 +140,12 @@ impl Reading {
     }
 
     /// Reads the limits of the world.
-    fn read_world_line(&mut self, alloc: Global, number: u64, words: &[&[u8]]) -> Result<(), ScriptFault>
+    fn read_world_line(
+        &mut self,
+        alloc: Global,
+        number: u64,
+        words: &[&[u8]],
+    ) -> Result<(), ScriptFault>
         requires kind { IsKind LineKind.World (first_word (map (λ word. word.now) words.now)) }
         requires count { length words.now ≡ 7 }
         requires first { self.old.shape ≡ None }
@@ -129,7 +153,10 @@ impl Reading {
         ensures accords { Accords (said_of self.old) → OnOk result (Accords (said_of self.new)) }
     {
         match read_shape(alloc, words) {
-            None => Err(ScriptFault::At { number: 6, line: number }),
+            None => Err(ScriptFault::At {
+                number: 6,
+                line: number,
+            }),
             Some(Err(fault)) => Err(fault_for(fault, number)),
             Some(Ok(shape)) => {
                 self.shape = Some(shape);
@@ -150,7 +177,10 @@ impl Reading {
             unreachable!()
         };
         let Some((rank, segment, size)) = read_segment(words) else {
-            return Err(ScriptFault::At { number: 6, line: number });
+            return Err(ScriptFault::At {
+                number: 6,
+                line: number,
+            });
         };
         match shape.add_segment(rank, segment, size) {
             Ok(()) => Ok(()),
@@ -159,7 +189,12 @@ impl Reading {
     }
 
     /// Reads the caller of a section, and opens it.
-    fn read_section_line(&mut self, alloc: Global, number: u64, words: &[&[u8]]) -> Result<(), ScriptFault>
+    fn read_section_line(
+        &mut self,
+        alloc: Global,
+        number: u64,
+        words: &[&[u8]],
+    ) -> Result<(), ScriptFault>
         requires kind { IsKind LineKind.Section (first_word (map (λ word. word.now) words.now)) }
         requires count { length words.now ≡ 4 }
         requires world { IsSome self.old.shape }
@@ -170,7 +205,10 @@ impl Reading {
             unreachable!()
         };
         let Some((rank, thread)) = read_section(words) else {
-            return Err(ScriptFault::At { number: 6, line: number });
+            return Err(ScriptFault::At {
+                number: 6,
+                line: number,
+            });
         };
         match shape.add_caller(rank, thread) {
             Ok(()) => {}
@@ -184,7 +222,13 @@ impl Reading {
     }
 
     /// Reads a call, and adds it to the newest script.
-    fn read_call_line(&mut self, alloc: Global, word: CallWord, number: u64, words: &[&[u8]]) -> Result<(), ScriptFault>
+    fn read_call_line(
+        &mut self,
+        alloc: Global,
+        word: CallWord,
+        number: u64,
+        words: &[&[u8]],
+    ) -> Result<(), ScriptFault>
         requires kind { IsKind (LineKind.Call word) (first_word (map (λ word. word.now) words.now)) }
         requires count { length words.now ≡ kind_word_count (LineKind.Call word) }
         requires section { 0 < length self.old.scripts }
@@ -192,15 +236,28 @@ impl Reading {
         ensures accords { Accords (said_of self.old) → OnOk result (Accords (said_of self.new)) }
     {
         let Some(call) = read_call(alloc, word, words)? else {
-            return Err(ScriptFault::At { number: 6, line: number });
+            return Err(ScriptFault::At {
+                number: 6,
+                line: number,
+            });
         };
         let Some(looks) = read_line_looks(word, words) else {
-            return Err(ScriptFault::At { number: 6, line: number });
+            return Err(ScriptFault::At {
+                number: 6,
+                line: number,
+            });
         };
         let Some(timeout) = timeout_of(looks) else {
-            return Err(ScriptFault::At { number: 7, line: number });
+            return Err(ScriptFault::At {
+                number: 7,
+                line: number,
+            });
         };
-        self.scripts.add_line(ScriptLine { number, call, timeout })?;
+        self.scripts.add_line(ScriptLine {
+            number,
+            call,
+            timeout,
+        })?;
         Ok(())
     }
 }

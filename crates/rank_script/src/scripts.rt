@@ -1,7 +1,6 @@
 //! Scripts: the calls that a caller makes, line by line.
 
 ghost use Rattle.std.specs.Prelude.{◌≡◌, ◌<◌, ◌++◌, ◌∷◌, [], length, ◌==◌, find, option_copied, slice_get, Some, OnOk, OnErr};
-
 ghost use Rattle.rank_script.specs.declared.scripts.ScriptFault.TheVariants.{NoMemory};
 
 use gaspi_types::{Call, CallerId, NoMemory, Rows, Timeout};

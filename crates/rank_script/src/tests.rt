@@ -42,17 +42,53 @@ fn later_lines_are_tested(rt: HostRuntime) {
         (b"world 1 1 1 1 1 1\njournal 1\n".as_slice(), 3, 2),
         (b"world 1 1 1 1 1 1\nreset 0 0\n".as_slice(), 4, 2),
         (b"world 1 1 1 1 1 1\nsegment 0 32 1\n".as_slice(), 7, 2),
-        (b"world 1 1 1 1 1 1\nsegment 0 0 1\nsegment 0 0 2\n".as_slice(), 8, 3),
+        (
+            b"world 1 1 1 1 1 1\nsegment 0 0 1\nsegment 0 0 2\n".as_slice(),
+            8,
+            3,
+        ),
         (b"world 1 1 1 1 1 1\nrank 0 threads 0\n".as_slice(), 6, 2),
         (b"world 1 1 1 1 1 1\nrank 1 thread 0\n".as_slice(), 7, 2),
-        (b"world 1 1 1 1 1 1\nrank 0 thread 0\nsegment 0 0 1\n".as_slice(), 4, 3),
-        (b"world 1 1 1 1 1 2\nrank 0 thread 0\nrank 0 thread 0\n".as_slice(), 8, 3),
-        (b"world 1 1 1 1 1 1\nrank 0 thread 0\nrank 0 thread 1\n".as_slice(), 9, 3),
-        (b"world 1 1 1 1 1 1\nrank 0 thread 0\nwait 0\n".as_slice(), 5, 3),
-        (b"world 1 1 1 1 1 1\nrank 0 thread 0\nwait 0 0\n".as_slice(), 7, 3),
-        (b"world 1 1 1 1 1 1\nrank 0 thread 0\nwait 0 x\n".as_slice(), 6, 3),
-        (b"world 1 1 1 1 1 1\nrank 0 thread 0\nreset 0 0 block\n".as_slice(), 5, 3),
-        (b"world 1 1 1 1 1 1\nrank 0 thread 0\nend\n".as_slice(), 3, 3),
+        (
+            b"world 1 1 1 1 1 1\nrank 0 thread 0\nsegment 0 0 1\n".as_slice(),
+            4,
+            3,
+        ),
+        (
+            b"world 1 1 1 1 1 2\nrank 0 thread 0\nrank 0 thread 0\n".as_slice(),
+            8,
+            3,
+        ),
+        (
+            b"world 1 1 1 1 1 1\nrank 0 thread 0\nrank 0 thread 1\n".as_slice(),
+            9,
+            3,
+        ),
+        (
+            b"world 1 1 1 1 1 1\nrank 0 thread 0\nwait 0\n".as_slice(),
+            5,
+            3,
+        ),
+        (
+            b"world 1 1 1 1 1 1\nrank 0 thread 0\nwait 0 0\n".as_slice(),
+            7,
+            3,
+        ),
+        (
+            b"world 1 1 1 1 1 1\nrank 0 thread 0\nwait 0 x\n".as_slice(),
+            6,
+            3,
+        ),
+        (
+            b"world 1 1 1 1 1 1\nrank 0 thread 0\nreset 0 0 block\n".as_slice(),
+            5,
+            3,
+        ),
+        (
+            b"world 1 1 1 1 1 1\nrank 0 thread 0\nend\n".as_slice(),
+            3,
+            3,
+        ),
     ] {
         assert_faulty(&rt, rt.alloc(), text, number, line);
     }
@@ -89,7 +125,14 @@ fn first_thread<'a>(rt: &impl Abort, scripts: &'a Scripts, rank: u32) -> Cursor<
 }
 
 /// Asserts the present call of a run with its line, and goes on after a reply.
-fn assert_present(rt: &impl Abort, run: &mut Cursor<'_>, line: u64, call: &Call, timeout: Timeout, reply: &Reply) {
+fn assert_present(
+    rt: &impl Abort,
+    run: &mut Cursor<'_>,
+    line: u64,
+    call: &Call,
+    timeout: Timeout,
+    reply: &Reply,
+) {
     assert_eq!(rt; run.line(), line);
     assert_eq!(rt; run.present(), Some((call, timeout)));
     run.advance(reply);
@@ -102,7 +145,12 @@ fn two_ranks_are_read_and_walked(rt: HostRuntime) -> Result<(), Fail> {
     assert_eq!(rt; shape.ranks(), 2);
     assert_eq!(rt; shape.depth(), 4);
     assert_eq!(rt; scripts.len(), 2);
-    let store = Call::Store { seg: 0, offset: 0, bytes: Rows::copied_from(alloc, &[1, 2])? };
+    assert_eq!(rt; scripts.at(1).lines.len(), 3);
+    let store = Call::Store {
+        seg: 0,
+        offset: 0,
+        bytes: Rows::copied_from(alloc, &[1, 2])?,
+    };
     let write_notify = Call::WriteNotify {
         seg: 0,
         offset: 0,
@@ -118,14 +166,43 @@ fn two_ranks_are_read_and_walked(rt: HostRuntime) -> Result<(), Fail> {
     let mut run = first_thread(&rt, &scripts, 0);
     assert_present(&rt, &mut run, 5, &store, one, &Reply::Done);
     assert_present(&rt, &mut run, 6, &write_notify, one, &Reply::Timeout);
-    assert_present(&rt, &mut run, 7, &Call::Wait { queue: 0 }, Timeout::Block, &Reply::Timeout);
+    assert_present(
+        &rt,
+        &mut run,
+        7,
+        &Call::Wait { queue: 0 },
+        Timeout::Block,
+        &Reply::Timeout,
+    );
     assert_eq!(rt; run.outcome(), Some(RunOutcome::Stuck { line: 7 }));
 
     let mut run = first_thread(&rt, &scripts, 1);
-    let waitsome = Call::Waitsome { seg: 0, begin: 0, num: 8 };
+    let waitsome = Call::Waitsome {
+        seg: 0,
+        begin: 0,
+        num: 8,
+    };
     assert_present(&rt, &mut run, 9, &waitsome, Timeout::Block, &Reply::Id(3));
-    assert_present(&rt, &mut run, 10, &Call::Reset { seg: 0, note: 3 }, one, &Reply::Value(7));
-    assert_present(&rt, &mut run, 11, &Call::Load { seg: 0, offset: 4, size: 2 }, one, &Reply::Done);
+    assert_present(
+        &rt,
+        &mut run,
+        10,
+        &Call::Reset { seg: 0, note: 3 },
+        one,
+        &Reply::Value(7),
+    );
+    assert_present(
+        &rt,
+        &mut run,
+        11,
+        &Call::Load {
+            seg: 0,
+            offset: 4,
+            size: 2,
+        },
+        one,
+        &Reply::Done,
+    );
     assert_eq!(rt; run.outcome(), Some(RunOutcome::Ended));
     assert_eq!(rt; run.line(), 0);
 

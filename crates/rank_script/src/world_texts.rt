@@ -34,7 +34,10 @@ pub fn read_world(alloc: Global, text: &[u8]) -> Result<(Shape, Scripts), Script
     }
     let Reading { shape, scripts } = reading;
     let Some(shape) = shape else {
-        return Err(ScriptFault::At { number: 1, line: number });
+        return Err(ScriptFault::At {
+            number: 1,
+            line: number,
+        });
     };
     let _ = shape.limits();
     Ok((shape, scripts))

@@ -1,6 +1,5 @@
-use Rattle.std.proofs.Common.{◌≡◌, ◌+◌, ◌-◌, ◌∷◌, length, take, drop, arith}
+use Rattle.std.proofs.Common.{◌≡◌, ◌+◌, ◌-◌, length, take, drop, arith}
 use Rattle.std.proofs.lemmas.Grind.{common_steps}
-use Rattle.rank_script.specs.Lines.{lines_of}
 use Rattle.rank_script.proofs.LineFeeds.{lines_of-feed, lines_of-last}
 use Rattle.rank_script.proofs.lines.first_line.Goals as goal
 

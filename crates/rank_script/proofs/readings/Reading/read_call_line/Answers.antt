@@ -1,7 +1,7 @@
-use Rattle.std.proofs.Common.{map, List, ℕ, Some, sym, ◌∙◌, ap, refl}
+use Rattle.std.proofs.Common.{map, List, ℕ, sym, ◌∙◌, refl}
 use Rattle.rank_script.specs.WorldText.{is_timeout_within, as_timeout}
 use Rattle.rank_script.specs.Readings.{said_of}
-use Rattle.rank_script.proofs.LateFaults.{some-where, none-where, call-malformed, timeout-malformed, timeout-outside, call-accepted, call-accords}
+use Rattle.rank_script.proofs.LateFaults.{some-where, none-where, call-malformed, timeout-outside, call-accepted, call-accords}
 use Rattle.rank_script.proofs.readings.Reading.read_call_line.Goals as goal
 
 pub returns-in_default-clause-exact : goal.returns-in_default-clause-exact
