@@ -1,5 +1,5 @@
 -- Pairs that follow a script, and whole runs.
-use Rattle.std.proofs.Common.{◌≡◌, ℕ, Bool, true, false, cond, List, [], ◌∷◌, ◌++◌, MatchBool, inl, inr, refl, sym, subst}
+use Rattle.std.proofs.Common.{◌≡◌, Bool, true, false, cond, List, [], ◌∷◌, ◌++◌, MatchBool, inl, inr, refl, subst}
 use Rattle.gaspi_types.specs.declared.calls.Call.{Call}
 use Rattle.gaspi_types.specs.declared.replies.Reply.{Reply}
 use Rattle.rank_script.specs.declared.scripts.ScriptLine.{ScriptLine}

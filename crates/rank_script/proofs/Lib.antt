@@ -1,1 +1,7 @@
+pub mod AddedLines
 pub mod Following
+pub mod KindFaults
+pub mod LateFaults
+pub mod LineFeeds
+pub mod ReadLines
+pub mod SomeWords

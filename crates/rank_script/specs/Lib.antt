@@ -2,3 +2,5 @@ pub mod Runs
 pub mod Cursors
 pub mod Lines
 pub mod WorldText
+pub mod Kinds
+pub mod Readings

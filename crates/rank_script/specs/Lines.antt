@@ -1,5 +1,5 @@
 -- The lines of a text. (own choice)
-use Rattle.std.specs.Prelude.{ℕ, Bool, false, ◌==◌, ◌&&◌, ◌||◌, not, nat_lt, nat_le, List, [], ◌∷◌, length, if◌then◌else◌}
+use Rattle.std.specs.Prelude.{ℕ, Bool, false, ◌==◌, ◌&&◌, ◌||◌, not, nat_lt, List, [], ◌∷◌, length, if◌then◌else◌}
 use Rattle.std.specs.List.{list_any}
 use Rattle.gaspi_types.specs.Ranges.{is_between}
 
@@ -26,3 +26,9 @@ is_line_byte byte = is_between 32 126 byte || (byte == 9)
 -- a line that may not stand in a text, whatever it says: it holds another byte, or has over 140,000 bytes
 abbrev pub is_bad_line : List ℕ → Bool
 is_bad_line line = list_any (λ byte. not (is_line_byte byte)) line || nat_lt 140000 (length line)
+
+-- a line before its line feed, without the carriage return at its end
+abbrev pub without_return : List ℕ → List ℕ
+without_return [] = []
+without_return (byte ∷ []) = if byte == 13 then [] else byte ∷ []
+without_return (byte ∷ next ∷ bytes) = byte ∷ without_return (next ∷ bytes)

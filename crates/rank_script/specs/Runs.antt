@@ -70,7 +70,7 @@ IsRun (line ∷ lines) [] outcome = ⊥
 IsRun (line ∷ lines) (pair ∷ pairs) outcome =
     ((pair ∷ pairs ≡ end_pair) × IsStopped line.number outcome)
     ⊎ ((pair.0 ≡ line.call)
-      × MatchBool (is_stuck line pair.1) ((pairs ≡ end_pair) × (outcome ≡ outcomes.Stuck line.number)) (IsRun lines pairs outcome))
+    × MatchBool (is_stuck line pair.1) ((pairs ≡ end_pair) × (outcome ≡ outcomes.Stuck line.number)) (IsRun lines pairs outcome))
 
 -- What a run so far says.
 

@@ -1,5 +1,5 @@
 -- World texts: the shape and the scripts that a text gives, or its first fault. (own choice)
-use Rattle.std.specs.Prelude.{◌≡◌, map, ℕ, ◌+◌, Bool, true, false, ◌==◌, ◌&&◌, ◌||◌, not, nat_lt, nat_le, List, [], ◌∷◌, ◌++◌, length, Option, None, Some, Result, Ok, Err, if◌then◌else◌, codes, is_none, is_some, find, take, option_and_then}
+use Rattle.std.specs.Prelude.{◌≡◌, map, ℕ, ◌+◌, Bool, true, false, ◌==◌, ◌&&◌, ◌||◌, not, nat_lt, List, [], ◌∷◌, ◌++◌, length, Option, None, Some, Result, Ok, Err, if◌then◌else◌, codes, is_none, is_some, take, option_and_then}
 use Rattle.std.specs.Str.{bytes_eq}
 use Rattle.std.specs.Option.{option_map_or}
 use Rattle.gaspi_types.specs.Ranges.{is_between}
@@ -101,14 +101,19 @@ number_at words place = value_or (number_in words place)
     value_or : Option ℕ → ℕ
     value_or None = 0
     value_or (Some n) = n
+
     number_in : List (List ℕ) → ℕ → Option ℕ
     number_in words place = option_and_then number_of (Rattle.std.specs.List.slice_get words place)
 
 -- what a world line, a segment line and a section line declare
 abbrev pub limits_of : List (List ℕ) → Limits
 limits_of words = record {
-  ranks = number_at words 1; queues = number_at words 2; depth = number_at words 3;
-  notes = number_at words 4; inbox = number_at words 5; events = number_at words 6;
+  ranks = number_at words 1;
+  queues = number_at words 2;
+  depth = number_at words 3;
+  notes = number_at words 4;
+  inbox = number_at words 5;
+  events = number_at words 6;
 }
 
 abbrev pub segment_declared : World → List (List ℕ) → Result World ShapeFault
@@ -155,45 +160,46 @@ lacks_world said words = is_none said.world && not (is_world_word (first_word wo
 abbrev pub is_unknown : List (List ℕ) → Bool
 is_unknown words =
     not (is_world_word (first_word words) || (is_segment_word (first_word words)
-        || (is_rank_word (first_word words) || is_call_word (first_word words))))
+    || (is_rank_word (first_word words) || is_call_word (first_word words))))
 
 -- S4: a second world line, a segment line after a section, or a call before any section
 abbrev pub is_misplaced : Said → List (List ℕ) → Bool
 is_misplaced said words =
     (is_world_word (first_word words) && is_some said.world)
     || ((is_segment_word (first_word words) && not (length said.scripts == 0))
-        || (is_call_word (first_word words) && (length said.scripts == 0)))
+    || (is_call_word (first_word words) && (length said.scripts == 0)))
 
 -- how many words a line has
 abbrev pub word_count : List ℕ → ℕ
 word_count word =
     if is_world_word word then 7
     else (if is_segment_word word || is_rank_word word then 4
-      else argument_count word + 1 + (if takes_timeout word then 1 else 0))
+    else argument_count word + 1 + (if takes_timeout word then 1 else 0))
 
 -- S5: the number of words is wrong for the line
 abbrev pub is_miscounted : List (List ℕ) → Bool
 is_miscounted words = not (length words == word_count (first_word words))
+
+-- a number, the word `thread` and a number
+abbrev pub is_section_line : List (List ℕ) → Bool
+is_section_line [] = false
+is_section_line (rank ∷ []) = false
+is_section_line (rank ∷ thread ∷ []) = false
+is_section_line (rank ∷ thread ∷ number ∷ words) = is_some (number_of rank) && (is_thread_word thread && is_some (number_of number))
 
 -- S6: a word is not of its form
 abbrev pub is_malformed : List (List ℕ) → Bool
 is_malformed words =
     if is_world_word (first_word words) || is_segment_word (first_word words) then not (all_numbers (later_words words))
     else (if is_rank_word (first_word words) then not (is_section_line (later_words words))
-      else is_none (call_of (call_words_of words)) || is_none (line_timeout words))
-  where
-    is_section_line : List (List ℕ) → Bool
-    is_section_line [] = false
-    is_section_line (rank ∷ []) = false
-    is_section_line (rank ∷ thread ∷ []) = false
-    is_section_line (rank ∷ thread ∷ number ∷ words) = is_some (number_of rank) && (is_thread_word thread && is_some (number_of number))
+    else is_none (call_of (call_words_of words)) || is_none (line_timeout words))
 
 -- S7: a number of a world, segment or rank line, or of a timeout, is outside its limits
 abbrev pub is_outside : Said → List (List ℕ) → Bool
 is_outside said words =
     if is_world_word (first_word words) then not (are_limits (limits_of words))
     else (if is_call_word (first_word words) then not (option_map_or is_timeout_within (line_timeout words) false)
-      else option_map_or (λ w. is_limit_fault (declared w words)) said.world false)
+    else option_map_or (λ w. is_limit_fault (declared w words)) said.world false)
 
 -- S8: a segment or a caller is declared twice
 abbrev pub is_repeated : Said → List (List ℕ) → Bool
@@ -221,7 +227,7 @@ abbrev pub fault_of : Said → List ℕ → Option ℕ
 fault_of said line =
     if is_comment (words_of line) then None
     else (if length (words_of line) == 0 then (if is_bad_line line then Some 2 else None)
-      else fault_in said line (words_of line))
+    else fault_in said line (words_of line))
 
 -- What a line without a fault adds.
 
@@ -258,8 +264,8 @@ said_after said number words =
     if is_world_word (first_word words) then record { world = world_or None (world_of (limits_of words)); scripts = said.scripts }
     else (if is_segment_word (first_word words) then record { world = declared_in said.world words; scripts = said.scripts }
     else (if is_rank_word (first_word words)
-      then record { world = declared_in said.world words; scripts = with_section said.scripts (record { rank = number_at words 1; thread = number_at words 3 }) }
-      else record { world = said.world; scripts = with_line said.scripts (script_line number words) }))
+    then record { world = declared_in said.world words; scripts = with_section said.scripts (record { rank = number_at words 1; thread = number_at words 3 }) }
+    else record { world = said.world; scripts = with_line said.scripts (script_line number words) }))
 
 abbrev pub is_skipped : List (List ℕ) → Bool
 is_skipped words = is_comment words || (length words == 0)

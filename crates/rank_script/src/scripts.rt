@@ -1,6 +1,7 @@
 //! Scripts: the calls that a caller makes, line by line.
 
 ghost use Rattle.std.specs.Prelude.{◌≡◌, ◌<◌, ◌++◌, ◌∷◌, [], length, ◌==◌, find, option_copied, slice_get, Some, OnOk, OnErr};
+ghost use Rattle.rank_script.specs.declared.scripts.ScriptFault.TheVariants.{NoMemory};
 
 use gaspi_types::{Call, CallerId, NoMemory, Rows, Timeout};
 use std::alloc::Global;
@@ -54,6 +55,14 @@ pub enum ScriptFault {
     /// Want of memory.
     #[error("out of memory")]
     NoMemory,
+}
+
+impl From<NoMemory> for ScriptFault {
+    ghost from_gives = { λ _ fault. fault ≡ NoMemory };
+
+    fn from(_error: NoMemory) -> ScriptFault {
+        ScriptFault::NoMemory
+    }
 }
 
 /// The scripts of a world, in the order of its callers.
@@ -113,5 +122,27 @@ impl Scripts {
             .as_slice()
             .iter()
             .find(|script| script.caller == caller)
+    }
+
+    /// Opens the script of a caller, behind the others. Without memory nothing changes.
+    pub(crate) fn open(&mut self, alloc: Global, caller: CallerId) -> Result<(), NoMemory>
+        ensures ok { OnOk result (self.new ≡ with_section self.old caller) }
+        ensures err { OnErr result (self.new ≡ self.old) }
+    {
+        self.scripts.push(Script {
+            caller,
+            lines: Rows::new(alloc),
+        })
+    }
+
+    /// Adds a line to the newest script. Without memory nothing changes.
+    pub(crate) fn add_line(&mut self, line: ScriptLine) -> Result<(), NoMemory>
+        requires { 0 < length self.old }
+        ensures ok { OnOk result (self.new ≡ with_line self.old (Some line)) }
+        ensures err { OnErr result (self.new ≡ self.old) }
+    {
+        let last = self.scripts.len() - 1;
+        let script = self.scripts.at_mut(last);
+        script.lines.push(line)
     }
 }

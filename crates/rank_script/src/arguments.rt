@@ -1,0 +1,136 @@
+//! The arguments of lines.
+
+ghost use Rattle.std.specs.Prelude.{◌≡◌, ◌<◌, ◌+◌, map, length, true, Some, None, if◌then◌else◌, IfOk};
+ghost use Rattle.gaspi_types.specs.CallText.{arguments_of, call_of, call_word_of};
+ghost use Rattle.gaspi_types.specs.World.{world_of};
+ghost use Rattle.rank_script.specs.WorldText.{first_word, later_words, all_numbers, number_at, limits_of, timeout_of, line_timeout, is_timeout_within, as_timeout, is_section_line, last_word, call_words_of};
+
+use crate::kinds::is_word;
+use gaspi_types::{
+    Call, CallWord, NoMemory, Shape, ShapeFault, Timeout, read_call_words, read_number,
+};
+use std::alloc::Global;
+
+/// The most looks that a timeout may have.
+const MOST_LOOKS: u64 = 100_000_000;
+
+/// The shape that a world line declares; none where a word is no number.
+pub(crate) fn read_shape(alloc: Global, words: &[&[u8]]) -> Option<Result<Shape, ShapeFault>>
+    requires { length words.now ≡ 7 }
+    ensures { let words = map (λ word. word.now) words.now in
+        result ≡ (if all_numbers (later_words words) then Some (world_of (limits_of words)) else None) }
+{
+    let (ranks, queues, depth, notes, inbox, events) = read_limits(words)?;
+    Some(Shape::new(alloc, ranks, queues, depth, notes, inbox, events))
+}
+
+/// The six limits that a world line gives; none where a word is no number.
+fn read_limits(words: &[&[u8]]) -> Option<(u64, u64, u64, u64, u64, u64)>
+    requires { length words.now ≡ 7 }
+    ensures { let words = map (λ word. word.now) words.now in result ≡ (if all_numbers (later_words words)
+        then Some (number_at words 1, number_at words 2, number_at words 3, number_at words 4, number_at words 5, number_at words 6)
+        else None) }
+{
+    let [_, ranks, queues, depth, notes, inbox, events] = words else {
+        unreachable!()
+    };
+    let ranks = read_number(ranks)?;
+    let queues = read_number(queues)?;
+    let depth = read_number(depth)?;
+    let notes = read_number(notes)?;
+    let inbox = read_number(inbox)?;
+    let events = read_number(events)?;
+    Some((ranks, queues, depth, notes, inbox, events))
+}
+
+/// The rank, the number and the size that a segment line gives; none where a word is no number.
+pub(crate) fn read_segment(words: &[&[u8]]) -> Option<(u64, u64, u64)>
+    requires { length words.now ≡ 4 }
+    ensures { let words = map (λ word. word.now) words.now in
+        result ≡ (if all_numbers (later_words words) then Some (number_at words 1, number_at words 2, number_at words 3) else None) }
+{
+    let [_, rank, segment, size] = words else {
+        unreachable!()
+    };
+    let rank = read_number(rank)?;
+    let segment = read_number(segment)?;
+    let size = read_number(size)?;
+    Some((rank, segment, size))
+}
+
+/// The rank and the thread that a section line gives; none where a word is not of its form.
+pub(crate) fn read_section(words: &[&[u8]]) -> Option<(u64, u64)>
+    requires { length words.now ≡ 4 }
+    ensures { let words = map (λ word. word.now) words.now in
+        result ≡ (if is_section_line (later_words words) then Some (number_at words 1, number_at words 3) else None) }
+{
+    let [_, rank, word, thread] = words else {
+        unreachable!()
+    };
+    let rank = read_number(rank)?;
+    if !is_word(word, b"thread") {
+        return None;
+    }
+    let thread = read_number(thread)?;
+    Some((rank, thread))
+}
+
+/// The call that a call line gives, its timeout aside; none where its words spell none.
+pub(crate) fn read_call(
+    alloc: Global,
+    call: CallWord,
+    words: &[&[u8]],
+) -> Result<Option<Call>, NoMemory>
+    requires word { call_word_of (first_word (map (λ word. word.now) words.now)) ≡ Some call }
+    requires count { arguments_of call < length words.now }
+    ensures { IfOk result (λ call. call ≡ call_of (call_words_of (map (λ word. word.now) words.now))) }
+{
+    read_call_words(alloc, &words[..call.argument_count() + 1])
+}
+
+/// How many looks a word allows, where it is a timeout: a number of looks, or looks without end.
+fn read_looks(word: &[u8]) -> Option<Option<u64>>
+    ensures { result ≡ timeout_of word.now }
+{
+    if is_word(word, b"test") {
+        return Some(Some(1));
+    }
+    if is_word(word, b"block") {
+        return Some(None);
+    }
+    let looks = read_number(word)?;
+    Some(Some(looks))
+}
+
+/// How many looks a call line allows, where its timeout is one. A call that takes no timeout makes one look.
+pub(crate) fn read_line_looks(call: CallWord, words: &[&[u8]]) -> Option<Option<u64>>
+    requires { call_word_of (first_word (map (λ word. word.now) words.now)) ≡ Some call }
+    ensures { result ≡ line_timeout (map (λ word. word.now) words.now) }
+{
+    if call.takes_timeout() {
+        read_looks(last_word(words))
+    } else {
+        Some(Some(1))
+    }
+}
+
+/// The last of the words; no byte where there is none.
+fn last_word<'a>(words: &[&'a [u8]]) -> &'a [u8]
+    ensures { result.now ≡ last_word (map (λ word. word.now) words.now) }
+{
+    match words.split_last() {
+        Some((last, _)) => last,
+        None => &[],
+    }
+}
+
+/// The timeout of that many looks, where they are within the limits.
+pub(crate) fn timeout_of(looks: Option<u64>) -> Option<Timeout>
+    ensures { result ≡ (if is_timeout_within looks then Some (as_timeout looks) else None) }
+{
+    match looks {
+        None => Some(Timeout::Block),
+        Some(looks) if 1 <= looks && looks <= MOST_LOOKS => Some(Timeout::Looks(looks as u32)),
+        Some(_) => None,
+    }
+}

@@ -1,0 +1,231 @@
+ghost use Rattle.std.specs.Prelude.{◌≡◌, ◌<◌};
+
+use crate::{Cursor, Halted, RunOutcome, ScriptFault, Scripts, read_world};
+use gaspi_types::{Call, CallerId, RankId, Reply, Rows, Shape, ThreadId, Timeout};
+use std::alloc::Global;
+use std::process::Abort;
+use std::test::Fail;
+
+/// Asserts the number and the line of the first fault of a text.
+fn assert_faulty(rt: &impl Abort, alloc: Global, text: &[u8], number: u32, line: u64) {
+    let found = match read_world(alloc, text) {
+        Ok(_) => None,
+        Err(ScriptFault::At { number, line }) => Some((number, line)),
+        Err(ScriptFault::NoMemory) => None,
+    };
+    assert_eq!(rt; found, Some((number, line)));
+}
+
+#[test]
+fn world_lines_are_tested(rt: HostRuntime) {
+    let alloc = rt.alloc();
+    assert_faulty(&rt, alloc, b"", 1, 1);
+    assert_faulty(&rt, alloc, b"\n\n# nothing else\n", 1, 4);
+    assert_faulty(&rt, alloc, b"world\r", 1, 1);
+    assert_faulty(&rt, alloc, b"world 17 1 1 1 1 1", 7, 1);
+    assert_faulty(&rt, alloc, b"world 17 x 1 1 1 1", 6, 1);
+    assert_faulty(&rt, alloc, b"world 1 1 1 1 1", 5, 1);
+    assert_faulty(&rt, alloc, b"world 1 1 1 1 1 1\r", 2, 1);
+    assert_faulty(&rt, alloc, b"world 1\r 1 1 1 1 1\n", 2, 1);
+}
+
+#[test]
+fn declarations_are_tested(rt: HostRuntime) {
+    let alloc = rt.alloc();
+    assert_faulty(&rt, alloc, b"world 1 1 1 1 1 1\nworld 1 1 1 1 1 1\n", 4, 2);
+    assert_faulty(&rt, alloc, b"world 1 1 1 1 1 1\nsegment 0 32 1\n", 7, 2);
+    assert_faulty(
+        &rt,
+        alloc,
+        b"world 1 1 1 1 1 1\nsegment 0 0 1\nsegment 0 0 2\n",
+        8,
+        3,
+    );
+    assert_faulty(&rt, alloc, b"world 1 1 1 1 1 1\nrank 0 threads 0\n", 6, 2);
+    assert_faulty(
+        &rt,
+        alloc,
+        b"world 1 1 1 1 1 1\nrank 0 thread 0\nsegment 0 0 1\n",
+        4,
+        3,
+    );
+    assert_faulty(
+        &rt,
+        alloc,
+        b"world 1 1 1 1 1 2\nrank 0 thread 0\nrank 0 thread 0\n",
+        8,
+        3,
+    );
+    assert_faulty(
+        &rt,
+        alloc,
+        b"world 1 1 1 1 1 1\nrank 0 thread 0\nrank 0 thread 1\n",
+        9,
+        3,
+    );
+}
+
+#[test]
+fn call_lines_are_tested(rt: HostRuntime) {
+    let alloc = rt.alloc();
+    assert_faulty(&rt, alloc, b"world 1 1 1 1 1 1\nreset 0 \x80\n", 2, 2);
+    assert_faulty(&rt, alloc, b"world 1 1 1 1 1 1\njournal 1\n", 3, 2);
+    assert_faulty(&rt, alloc, b"world 1 1 1 1 1 1\nreset 0 0\n", 4, 2);
+    assert_faulty(
+        &rt,
+        alloc,
+        b"world 1 1 1 1 1 1\nrank 0 thread 0\nwait 0\n",
+        5,
+        3,
+    );
+    assert_faulty(
+        &rt,
+        alloc,
+        b"world 1 1 1 1 1 1\nrank 0 thread 0\nwait 0 0\n",
+        7,
+        3,
+    );
+    assert_faulty(
+        &rt,
+        alloc,
+        b"world 1 1 1 1 1 1\nrank 0 thread 0\nwait 0 x\n",
+        6,
+        3,
+    );
+    assert_faulty(
+        &rt,
+        alloc,
+        b"world 1 1 1 1 1 1\nrank 0 thread 0\nend\n",
+        3,
+        3,
+    );
+}
+
+/// Asserts that a text declares a world of one rank, and no script.
+fn assert_bare(rt: &impl Abort, alloc: Global, text: &[u8]) {
+    let found = match read_world(alloc, text) {
+        Ok((shape, scripts)) => shape.ranks() == 1 && scripts.is_empty(),
+        Err(_) => false,
+    };
+    assert!(rt; found);
+}
+
+#[test]
+fn blanks_and_comments_are_skipped(rt: HostRuntime) {
+    let alloc = rt.alloc();
+    assert_bare(&rt, alloc, b"world 1 1 1 1 1 1");
+    assert_bare(&rt, alloc, b"world 1 1 1 1 1 1\r\n");
+    assert_bare(&rt, alloc, b"\t world  1\t1 1 1 1 01 \t\n");
+    assert_bare(
+        &rt,
+        alloc,
+        b"\n# \x80 is no fault here\nworld 1 1 1 1 1 1\n \t\n",
+    );
+}
+
+const TWO_RANKS: &[u8] = b"world 2 1 4 8 4 1000\nsegment 0 0 16\nsegment 1 0 16\n\
+rank 0 thread 0\nstore 0 0 0102\nwrite_notify 0 0 1 0 4 2 3 7 0\nwait 0 block\n\
+rank 1 thread 0\nwaitsome 0 0 8 block\nreset 0 3\nload 0 4 2\n";
+
+/// What a text gives. Nothing is claimed of it, so that what a test proves does not hold the text's bytes.
+fn read(alloc: Global, text: &[u8]) -> Result<(Shape, Scripts), ScriptFault> {
+    read_world(alloc, text)
+}
+
+/// The script of the only thread of a rank, as a cursor before its first line.
+fn first_thread<'a>(rt: &impl Abort, scripts: &'a Scripts, rank: u32) -> Cursor<'a>
+    requires { rank < 16 }
+{
+    let caller = CallerId {
+        rank: RankId::of(rank),
+        thread: ThreadId::of(0),
+    };
+    Cursor::new(scripts.of(caller).expect(rt, "a script"))
+}
+
+/// Asserts the present call of a run with its line, and goes on after a reply.
+fn assert_present(
+    rt: &impl Abort,
+    run: &mut Cursor<'_>,
+    line: u64,
+    call: &Call,
+    timeout: Timeout,
+    reply: &Reply,
+) {
+    assert_eq!(rt; run.line(), line);
+    assert_eq!(rt; run.present(), Some((call, timeout)));
+    run.advance(reply);
+}
+
+#[test]
+fn a_run_is_stuck(rt: HostRuntime) -> Result<(), Fail> {
+    let alloc = rt.alloc();
+    let (_shape, scripts) = read(alloc, TWO_RANKS)?;
+    let store = Call::Store {
+        seg: 0,
+        offset: 0,
+        bytes: Rows::copied_from(alloc, &[1, 2])?,
+    };
+    let post = Call::WriteNotify {
+        seg: 0,
+        offset: 0,
+        rank: 1,
+        rseg: 0,
+        roffset: 4,
+        size: 2,
+        note: 3,
+        value: 7,
+        queue: 0,
+    };
+    let one = Timeout::Looks(1);
+    let mut run = first_thread(&rt, &scripts, 0);
+    assert_present(&rt, &mut run, 5, &store, one, &Reply::Done);
+    assert_present(&rt, &mut run, 6, &post, one, &Reply::Timeout);
+    assert_present(
+        &rt,
+        &mut run,
+        7,
+        &Call::Wait { queue: 0 },
+        Timeout::Block,
+        &Reply::Timeout,
+    );
+    assert_eq!(rt; run.outcome(), Some(RunOutcome::Stuck { line: 7 }));
+    Ok(())
+}
+
+#[test]
+fn a_run_ends(rt: HostRuntime) -> Result<(), Fail> {
+    let alloc = rt.alloc();
+    let (_shape, scripts) = read(alloc, TWO_RANKS)?;
+    let waitsome = Call::Waitsome {
+        seg: 0,
+        begin: 0,
+        num: 8,
+    };
+    let reset = Call::Reset { seg: 0, note: 3 };
+    let load = Call::Load {
+        seg: 0,
+        offset: 4,
+        size: 2,
+    };
+    let one = Timeout::Looks(1);
+    let mut run = first_thread(&rt, &scripts, 1);
+    assert_present(&rt, &mut run, 9, &waitsome, Timeout::Block, &Reply::Id(3));
+    assert_present(&rt, &mut run, 10, &reset, one, &Reply::Value(7));
+    assert_present(&rt, &mut run, 11, &load, one, &Reply::Done);
+    assert_eq!(rt; run.outcome(), Some(RunOutcome::Ended));
+    assert_eq!(rt; run.line(), 0);
+    Ok(())
+}
+
+#[test]
+fn a_run_is_stopped(rt: HostRuntime) -> Result<(), Fail> {
+    let (shape, scripts) = read(rt.alloc(), TWO_RANKS)?;
+    assert_eq!(rt; shape.ranks(), 2);
+    assert_eq!(rt; scripts.len(), 2);
+    assert_eq!(rt; scripts.at(1).lines.len(), 3);
+    let mut run = first_thread(&rt, &scripts, 1);
+    run.stop(Halted::NoMemory);
+    assert_eq!(rt; run.outcome(), Some(RunOutcome::NoMemory { line: 9 }));
+    Ok(())
+}
