@@ -1,4 +1,4 @@
-ghost use Rattle.std.specs.Prelude.{◌<◌};
+ghost use Rattle.std.specs.Prelude.{◌≡◌, ◌<◌};
 
 use crate::Machine;
 use gaspi_model::{StepFault, Why};
@@ -22,6 +22,8 @@ fn two_ranks(alloc: Global) -> Result<Machine, Fail> {
 
 fn caller(rank: u32) -> CallerId
     requires { rank < 2 }
+    ensures rank { result.rank ≡ rank }
+    ensures thread { result.thread ≡ 0 }
 {
     CallerId {
         rank: RankId::of(rank),
@@ -85,9 +87,8 @@ fn answers(
     call: &Call,
     expected: Ready,
 ) -> Result<(), Fail> {
-    let second = caller(1);
-    assert!(rt; machine.is_declared(second));
-    let ready = machine.answer(alloc, second, call)?;
+    assert!(rt; machine.is_declared(caller(1)));
+    let ready = machine.answer(alloc, caller(1), call)?;
     assert!(rt; ready == expected);
     Ok(())
 }
@@ -110,9 +111,8 @@ fn has_room(rt: &impl Abort, machine: &Machine, expected: u64) {
 }
 
 fn needs(rt: &impl Abort, machine: &Machine, call: &Call, expected: u64) {
-    let first = caller(0);
-    assert!(rt; machine.is_declared(first));
-    assert_eq!(rt; machine.need(first, call), expected);
+    assert!(rt; machine.is_declared(caller(0)));
+    assert_eq!(rt; machine.need(caller(0), call), expected);
 }
 
 #[test]
