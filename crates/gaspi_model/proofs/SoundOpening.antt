@@ -4,13 +4,14 @@ use Rattle.std.specs.List.{slice_get, count_by, list_any, range_with_len}
 use Rattle.std.specs.Option.{option_map}
 use Rattle.std.proofs.lemmas.Bool.Decides.{nat_tests}
 use Rattle.std.proofs.lemmas.List.{get_or-replicate, length-replicate}
+use Rattle.std.proofs.lemmas.List.FromFn.{length-map-range_with_len}
 use Rattle.std.proofs.lemmas.List.Folds.{sum_by-replicate}
 use Rattle.std.proofs.lemmas.List.Sums.{sum_by-cons}
 use Rattle.std.proofs.lemmas.Option.{slice_get-map, slice_get_within, get_or_from_slice_get}
 use Rattle.gaspi_types.specs.World.{World, IsWorld, is_caller}
 use Rattle.gaspi_types.specs.Lanes.{lane_owed}
 use Rattle.gaspi_types.specs.declared.shapes.CallerId.{CallerId}
-use Rattle.gaspi_model.specs.State.{opening, opening_posts, opening_queue, opening_thread, entries_owed, queue_owed, is_running}
+use Rattle.gaspi_model.specs.State.{opening, opening_memory, opening_posts, opening_queue, opening_thread, entries_owed, queue_owed, is_running}
 use Rattle.gaspi_model.specs.Sound.{IsSoundPosts, IsSound}
 use Rattle.gaspi_model.specs.declared.states.Queue.{Queue}
 use Rattle.gaspi_model.specs.declared.states.ThreadState.TheVariants.{Absent, Running}
@@ -96,14 +97,16 @@ opening-sound w rank world = record {
       omega arith);
   numbers = omega arith;
   rising = λ queue q at target lane here.
-    let opened = slice_get-replicate w.limits.queues (opening_queue w.limits.ranks) q queue at in
-    let none = slice_get-replicate w.limits.ranks [] lane target (subst (λ (x : Queue). slice_get x.lanes target ≡ Some lane) opened here) in
-    rw none tt;
+      let opened = slice_get-replicate w.limits.queues (opening_queue w.limits.ranks) q queue at in
+      let none = slice_get-replicate w.limits.ranks [] lane target (subst (λ (x : Queue). slice_get x.lanes target ≡ Some lane) opened here) in
+      rw none tt;
 }
 
 pub opens : (w : World) → IsWorld w → IsSound (opening w)
 opens w world = record {
   limits = world.limits;
+  ranks = length-map-range_with_len (opening_posts w) 0 w.limits.ranks;
+  memories = length-map-range_with_len (opening_memory w) 0 w.limits.ranks;
   posts = λ rank posts at.
       let here = option_map-some (opening_posts w) (slice_get (range_with_len 0 w.limits.ranks) rank) posts (sym (slice_get-map (opening_posts w) (range_with_len 0 w.limits.ranks) rank) ∙ at) in
       rw here.1 (opening-sound w here.0 world);

@@ -4,5 +4,5 @@
 mod laws;
 mod states;
 
-pub use laws::soundness;
+pub use laws::{enabled, soundness};
 pub use states::{Memory, Posts, Queue, Segment, State, StepFault, ThreadState, Why};

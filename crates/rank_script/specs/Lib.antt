@@ -1,3 +1,4 @@
 pub mod Runs
+pub mod Cursors
 pub mod Lines
 pub mod WorldText

@@ -1,6 +1,10 @@
 //! Scripts: the calls that a caller makes, line by line.
 
-use gaspi_types::{Call, CallerId, Rows, Timeout};
+ghost use Rattle.std.specs.Prelude.{◌≡◌, ◌<◌, ◌++◌, ◌∷◌, [], length, ◌==◌, find, option_copied, slice_get, Some, OnOk, OnErr};
+
+use gaspi_types::{Call, CallerId, NoMemory, Rows, Timeout};
+use std::alloc::Global;
+use std::marker::Model;
 use thiserror::Error;
 
 /// A line of a script: one call.
@@ -50,4 +54,64 @@ pub enum ScriptFault {
     /// Want of memory.
     #[error("out of memory")]
     NoMemory,
+}
+
+/// The scripts of a world, in the order of its callers.
+#[derive(Debug, Drop)]
+pub struct Scripts {
+    scripts: Rows<Script>,
+}
+
+impl Model for Scripts {
+    ghost use Rattle.std.specs.Prelude.{List};
+    ghost use Rattle.rank_script.specs.declared.scripts.Script.{Script};
+
+    ghost Value = { List Script };
+
+    ghost view = { λ s. s.scripts };
+}
+
+impl Scripts {
+    ghost use Rattle.rank_script.specs.WorldText.{is_script_of, with_section, with_line};
+
+    /// No script. It takes no memory.
+    pub fn new(alloc: Global) -> Scripts
+        ensures { result ≡ [] }
+    {
+        Scripts {
+            scripts: Rows::new(alloc),
+        }
+    }
+
+    /// How many scripts there are.
+    pub fn len(&self) -> usize
+        ensures { result ≡ length self.now }
+    {
+        self.scripts.len()
+    }
+
+    /// Whether there is no script.
+    pub fn is_empty(&self) -> bool
+        ensures { result ≡ (length self.now == 0) }
+    {
+        self.scripts.len() == 0
+    }
+
+    /// The script at a place.
+    pub fn at(&self, place: usize) -> &Script
+        requires { place < length self.now }
+        ensures { slice_get self.now place ≡ Some result.now }
+    {
+        self.scripts.at(place)
+    }
+
+    /// The script of a caller, where it has one.
+    pub fn of(&self, caller: CallerId) -> Option<&Script>
+        ensures { option_copied result ≡ find (is_script_of caller) self.now }
+    {
+        self.scripts
+            .as_slice()
+            .iter()
+            .find(|script| script.caller == caller)
+    }
 }

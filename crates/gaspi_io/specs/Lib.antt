@@ -1,0 +1,5 @@
+pub mod Faults
+pub mod Source
+pub mod Sink
+pub mod Memory
+pub mod Standard

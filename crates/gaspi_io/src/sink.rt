@@ -1,0 +1,26 @@
+//! Where bytes go.
+
+ghost use Rattle.std.specs.Prelude.{◌≤◌, ◌<◌, ◌≡◌, ℕ, List, Option, length, take, IfOk, OnErr};
+ghost use Rattle.gaspi_io.specs.Faults.{HasCause};
+ghost use Rattle.gaspi_io.specs.Sink.{with_more};
+
+use crate::faults::Failed;
+
+/// Where bytes go. A sink counts its faults, and a call that is answered `Failed` has counted one.
+pub trait Sink {
+    /// The bytes that it holds, where it tells them. It tells them always or never.
+    ghost held: { Self → Option (List ℕ) };
+
+    /// How often it has failed, standing still at `u64::MAX`.
+    ghost faults: { Self → ℕ };
+
+    /// Takes bytes from the front of the piece, at least one where there is one, and says how many.
+    fn write(&mut self, piece: &[u8]) -> Result<usize, Failed>
+        ensures count { IfOk result (λ n. n ≤ length piece.now) }
+        ensures some { IfOk result (λ n. 0 < length piece.now → 0 < n) }
+        ensures held { IfOk result (λ n. held self.new ≡ with_more (held self.old) (take n piece.now)) }
+        ensures kept { OnErr result (held self.new ≡ held self.old) }
+
+        ensures cause { OnErr result (HasCause (faults self.old) (faults self.new)) }
+        ensures counted { faults self.old ≤ faults self.new };
+}

@@ -1,0 +1,33 @@
+//! Where bytes come from.
+
+ghost use Rattle.std.specs.Prelude.{◌≤◌, ◌≡◌, ℕ, List, Option, length, IfOk, OnErr};
+ghost use Rattle.std.specs.Option.{ForSome};
+ghost use Rattle.gaspi_io.specs.Faults.{HasCause};
+ghost use Rattle.gaspi_io.specs.Source.{without, PutsFront, EndsOnly};
+
+use crate::faults::Failed;
+
+/// Where bytes come from. A source counts its faults, and a call that is answered `Failed` has counted one.
+/// After a fault the next read goes on where the last that succeeded ended.
+pub trait Source {
+    /// The bytes that are left, where it tells them. It tells them always or never.
+    ghost left: { Self → Option (List ℕ) };
+
+    /// How often it has failed, standing still at `u64::MAX`.
+    ghost faults: { Self → ℕ };
+
+    /// Puts the next bytes at the front of the buffer, and says how many. Into a buffer that isn't empty, 0 is the
+    /// end of the bytes.
+    fn read(&mut self, buf: &mut [u8]) -> Result<usize, Failed>
+        ensures count { IfOk result (λ n. n ≤ length buf.old) }
+
+        // Where it tells its bytes, these are the next of them.
+        ensures given { IfOk result (λ n. ForSome (left self.old) (λ bytes. n ≤ length bytes)) }
+        ensures front { IfOk result (λ n. ForSome (left self.old) (λ bytes. PutsFront bytes n buf.old buf.new)) }
+        ensures end { IfOk result (λ n. ForSome (left self.old) (λ bytes. EndsOnly bytes n buf.old)) }
+        ensures rest { IfOk result (λ n. left self.new ≡ without (left self.old) n) }
+        ensures kept { OnErr result (left self.new ≡ left self.old) }
+
+        ensures cause { OnErr result (HasCause (faults self.old) (faults self.new)) }
+        ensures counted { faults self.old ≤ faults self.new };
+}

@@ -1,0 +1,6 @@
+//! The commands of the program.
+#![tactic(auto)]
+
+mod schedules;
+
+pub use schedules::Finished;

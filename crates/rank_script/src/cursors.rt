@@ -1,0 +1,109 @@
+//! Walking a script, call by call.
+
+ghost use Rattle.std.specs.Prelude.{◌≡◌};
+ghost use Rattle.std.specs.Option.{option_map};
+ghost use Rattle.rank_script.specs.Runs.{going_on, advanced, stopped, present_of, line_of, outcome_of, is_stuck};
+
+use crate::scripts::{Halted, RunOutcome, Script, ScriptLine};
+use gaspi_types::{Call, Reply, Timeout};
+use std::marker::Model;
+
+/// How far a run of a script has come: the lines whose calls are still to be made, or how the run ended.
+#[derive(Debug, Drop)]
+pub struct Cursor<'a> {
+    /// The lines that are left, the present one first.
+    lines: &'a [ScriptLine],
+    /// How the run ended, where no line is left.
+    ending: RunOutcome,
+}
+
+impl<'a> Model for Cursor<'a> {
+    ghost use Rattle.rank_script.specs.Runs.{Progress};
+
+    ghost Value = { Progress };
+
+    ghost use Rattle.rank_script.specs.Cursors.{going_or_over};
+
+    ghost view = { λ c. going_or_over c.lines.now c.ending };
+}
+
+impl<'a> Cursor<'a> {
+    /// Before the first line.
+    pub fn new(script: &'a Script) -> Cursor<'a>
+        ensures { result ≡ going_on script.now.lines }
+    {
+        Cursor {
+            lines: script.lines.as_slice(),
+            ending: RunOutcome::Ended,
+        }
+    }
+
+    /// The call to be made next, with its timeout; none exactly where the run has ended.
+    pub fn present(&self) -> Option<(&'a Call, Timeout)>
+        ensures { option_map (λ call. (call.0.now, call.1)) result ≡ present_of self.now }
+    {
+        match self.lines {
+            [line, ..] => Some((&line.call, line.timeout)),
+            [] => None,
+        }
+    }
+
+    /// Goes on after the reply of the present call: to the next line, unless a line that blocks has timed out.
+    pub fn advance(&mut self, reply: &Reply)
+        ensures { self.new ≡ advanced self.old reply.now }
+    {
+        let [line, later @ ..] = self.lines else {
+            return;
+        };
+        if is_stuck(line, reply) {
+            self.lines = &[];
+            self.ending = RunOutcome::Stuck { line: line.number };
+        } else {
+            self.lines = later;
+            self.ending = RunOutcome::Ended;
+        }
+    }
+
+    /// Ends the run before the present call. A run that has ended stays as it is.
+    pub fn stop(&mut self, halted: Halted)
+        ensures { self.new ≡ stopped self.old halted }
+    {
+        let [line, ..] = self.lines else {
+            return;
+        };
+        let line = line.number;
+        self.lines = &[];
+        self.ending = match halted {
+            Halted::Limit => RunOutcome::Limit { line },
+            Halted::NoMemory => RunOutcome::NoMemory { line },
+        };
+    }
+
+    /// The number of the line whose call is to be made next; 0 where the run has ended.
+    pub fn line(&self) -> u64
+        ensures { result ≡ line_of self.now }
+    {
+        match self.lines {
+            [line, ..] => line.number,
+            [] => 0,
+        }
+    }
+
+    /// How the run ended, where it has.
+    pub fn outcome(&self) -> Option<RunOutcome>
+        ensures { result ≡ outcome_of self.now }
+    {
+        if self.lines.is_empty() {
+            Some(self.ending)
+        } else {
+            None
+        }
+    }
+}
+
+/// Whether a reply ends the run at its line: a timeout on a line that blocks.
+fn is_stuck(line: &ScriptLine, reply: &Reply) -> bool
+    ensures { result ≡ is_stuck line.now reply.now }
+{
+    matches!(line.timeout, Timeout::Block) && matches!(reply, Reply::Timeout)
+}

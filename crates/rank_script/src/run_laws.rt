@@ -1,0 +1,20 @@
+//! Laws of runs. Each is a clause of a function without a body.
+
+ghost use Rattle.std.specs.Prelude.{◌≡◌, ℕ, List, [], ◌∷◌, ◌++◌};
+ghost use Rattle.gaspi_types.specs.declared.calls.Call.{Call};
+ghost use Rattle.gaspi_types.specs.declared.replies.Reply.{Reply};
+ghost use Rattle.rank_script.specs.declared.scripts.ScriptLine.{ScriptLine};
+ghost use Rattle.rank_script.specs.declared.scripts.RunOutcome.{RunOutcome};
+ghost use Rattle.rank_script.specs.Runs.{Progress, Going, Over, going_on, advanced, end_pair, Follows, IsStopped, IsRun};
+
+/// Pairs that lead to a line, and one more with its call, lead to where the line's reply leads. Pairs that lead to an
+/// ending make a whole run with it, once the caller's end is added; so do pairs that lead to a line before which the
+/// run is stopped.
+pub fn runs()
+    ensures onward { (p : Progress) (pairs : List (Call × Reply)) (line : ScriptLine) (lines : List ScriptLine) (reply : Reply)
+        → Follows p pairs (Going line lines) → Follows p (pairs ++ (line.call, reply) ∷ []) (advanced (Going line lines) reply) }
+    ensures ended { (lines : List ScriptLine) (pairs : List (Call × Reply)) (outcome : RunOutcome)
+        → Follows (going_on lines) pairs (Over outcome) → IsRun lines (pairs ++ end_pair) outcome }
+    ensures stopped { (lines : List ScriptLine) (pairs : List (Call × Reply)) (line : ScriptLine) (rest : List ScriptLine) (outcome : RunOutcome)
+        → Follows (going_on lines) pairs (Going line rest) → IsStopped line.number outcome → IsRun lines (pairs ++ end_pair) outcome }
+{}
