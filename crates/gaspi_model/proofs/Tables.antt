@@ -86,4 +86,3 @@ enumerate-at n (x ∷ xs) zero p at =
     let same : ◌≡◌ {A = ℕ × _} (n, x) p = cc in
     (sym (ap (λ (q : ℕ × _). q.0) same) ∙ omega arith, ap (λ (q : ℕ × _). Some q.1) same)
 enumerate-at n (x ∷ xs) (suc i) p at = let rest = enumerate-at (n + 1) xs i p at in (rest.0 ∙ omega arith, rest.1)
-

@@ -71,10 +71,10 @@ pub IsWorld-counted : (w : World) (callers seen looked : List CallerId) (c : Cal
     → IsWorld (record { limits = w.limits; segments = w.segments; callers = callers })
 IsWorld-counted w callers seen looked c rank thread count sound is same same' read counted room read' new =
     IsWorld-caller w callers c sound is
-        (subst (λ (t : ℕ). list_any (is_caller c.rank t) w.callers ≡ false) (sym same')
-            (subst (λ (r : ℕ). list_any (is_caller r thread) w.callers ≡ false) (sym same)
-                (subst (λ (cs : List CallerId). list_any (is_caller rank thread) cs ≡ false) read' new)))
-        (subst (λ (n : ℕ). n < w.limits.events)
-            (counted ∙ ap (λ (cs : List CallerId). count_by (λ (d : CallerId). d.rank == rank) cs) read
-                ∙ ap (λ (n : ℕ). count_by (λ (d : CallerId). d.rank == n) w.callers) (sym same))
-            room)
+    (subst (λ (t : ℕ). list_any (is_caller c.rank t) w.callers ≡ false) (sym same')
+    (subst (λ (r : ℕ). list_any (is_caller r thread) w.callers ≡ false) (sym same)
+    (subst (λ (cs : List CallerId). list_any (is_caller rank thread) cs ≡ false) read' new)))
+    (subst (λ (n : ℕ). n < w.limits.events)
+    (counted ∙ ap (λ (cs : List CallerId). count_by (λ (d : CallerId). d.rank == rank) cs) read
+    ∙ ap (λ (n : ℕ). count_by (λ (d : CallerId). d.rank == n) w.callers) (sym same))
+    room)
