@@ -7,5 +7,5 @@ pub mod RunningEnds
 pub mod RunningAll
 pub mod NumberRanges
 pub mod Started
-pub mod StartSteps
 pub mod Scheduling
+mod Transcribing

@@ -2,7 +2,7 @@
 use Rattle.std.specs.Prelude.{ℕ, Bool, true, false, List, [], ◌∷◌, ◌++◌, Option, None, Some, if◌then◌else◌, codes, find}
 use Rattle.std.specs.Fmt.{decimal}
 use Rattle.std.specs.List.{flat_map, range_with_len}
-use Rattle.gaspi_types.specs.World.{World, is_caller}
+use Rattle.gaspi_types.specs.World.{World}
 use Rattle.gaspi_types.specs.ReplyText.{reply_text}
 use Rattle.gaspi_types.specs.declared.shapes.CallerId.{CallerId}
 use Rattle.gaspi_types.specs.declared.calls.Call.{Call}
@@ -10,6 +10,7 @@ use Rattle.gaspi_types.specs.declared.replies.Reply.{Reply}
 use Rattle.gaspi_types.specs.declared.events.Event.{Event}
 use Rattle.gaspi_model.specs.Step.{own_calls, is_end}
 use Rattle.rank_script.specs.Runs.{is_stuck}
+use Rattle.rank_script.specs.WorldText.{is_script_of}
 use Rattle.rank_script.specs.declared.scripts.Script.{Script}
 use Rattle.rank_script.specs.declared.scripts.ScriptLine.{ScriptLine}
 
@@ -45,8 +46,13 @@ abbrev pub script_transcript : List Event → Option Script → List ℕ
 script_transcript journal None = []
 script_transcript journal (Some script) = transcript script.caller script.lines (own_calls script.caller.rank script.caller.thread journal)
 
+abbrev pub thread_transcript : List Script → List Event → ℕ → ℕ → List ℕ
+thread_transcript scripts journal rank thread = script_transcript journal (find (is_script_of (record { rank = rank; thread = thread })) scripts)
+
+-- the callers of a rank, by thread
+abbrev pub rank_transcripts : List Script → List Event → ℕ → List ℕ
+rank_transcripts scripts journal rank = flat_map (thread_transcript scripts journal rank) (range_with_len 0 4)
+
 -- all callers, by rank and thread
 abbrev pub transcripts : World → List Script → List Event → List ℕ
-transcripts w scripts journal =
-    flat_map (λ rank. flat_map (λ thread. script_transcript journal (find (λ script. is_caller rank thread script.caller) scripts)) (range_with_len 0 4))
-        (range_with_len 0 w.limits.ranks)
+transcripts w scripts journal = flat_map (rank_transcripts scripts journal) (range_with_len 0 w.limits.ranks)

@@ -3,7 +3,9 @@
 
 mod moves;
 mod schedule;
+mod transcripts;
 mod turns;
 
 pub use schedule::{Journal, Ran};
+pub use transcripts::write_transcripts;
 pub use turns::{Finished, Turns, Waiting};

@@ -102,7 +102,7 @@ impl<'a> Cursor<'a> {
 }
 
 /// Whether a reply ends the run at its line: a timeout on a line that blocks.
-fn is_stuck(line: &ScriptLine, reply: &Reply) -> bool
+pub fn is_stuck(line: &ScriptLine, reply: &Reply) -> bool
     ensures { result ≡ is_stuck line.now reply.now }
 {
     matches!(line.timeout, Timeout::Block) && matches!(reply, Reply::Timeout)

@@ -10,7 +10,7 @@ mod run_laws;
 mod scripts;
 mod world_texts;
 
-pub use cursors::Cursor;
+pub use cursors::{Cursor, is_stuck};
 pub use run_laws::runs;
 pub use scripts::{Halted, RunOutcome, Script, ScriptFault, ScriptLine, Scripts};
 pub use world_texts::read_world;

@@ -1,0 +1,127 @@
+//! Transcripts: what each caller was told, line by line, and how its run ended.
+
+ghost use Rattle.std.specs.Prelude.{◌≡◌, ◌<◌, ◌++◌, OnOk};
+ghost use Rattle.gaspi_model.specs.Step.{own_calls};
+ghost use Rattle.gaspi_run.specs.Transcripts.{caller_text, call_line, ended_line, stuck_line, limit_line, transcript, thread_transcript, rank_transcripts, transcripts};
+
+use crate::schedule::Journal;
+use gaspi_types::{
+    Bytes, Call, CallerId, Event, NoMemory, RankId, Reply, Shape, ThreadId, write_number, write_reply,
+};
+use rank_script::{Script, Scripts, is_stuck};
+
+/// Adds a caller as its rank and thread.
+fn write_caller(text: &mut Bytes, caller: CallerId) -> Result<(), NoMemory>
+    ensures { OnOk result (text.new ≡ text.old ++ caller_text caller) }
+{
+    write_number(text, u64::from(caller.rank.number()))?;
+    text.append(b".")?;
+    write_number(text, u64::from(caller.thread.number()))
+}
+
+/// Adds the line of a recorded call.
+fn write_call(text: &mut Bytes, caller: CallerId, line: u64, reply: &Reply) -> Result<(), NoMemory>
+    ensures { OnOk result (text.new ≡ text.old ++ call_line caller line reply.now) }
+{
+    write_caller(text, caller)?;
+    text.append(b" ")?;
+    write_number(text, line)?;
+    text.append(b" ")?;
+    write_reply(text, reply)?;
+    text.append(b"\n")
+}
+
+/// Adds the line of a run that ended.
+fn write_ended(text: &mut Bytes, caller: CallerId) -> Result<(), NoMemory>
+    ensures { OnOk result (text.new ≡ text.old ++ ended_line caller) }
+{
+    write_caller(text, caller)?;
+    text.append(b" ended\n")
+}
+
+/// Adds the line of a run that is stuck.
+fn write_stuck(text: &mut Bytes, caller: CallerId, line: u64) -> Result<(), NoMemory>
+    ensures { OnOk result (text.new ≡ text.old ++ stuck_line caller line) }
+{
+    write_caller(text, caller)?;
+    text.append(b" stuck ")?;
+    write_number(text, line)?;
+    text.append(b"\n")
+}
+
+/// Adds the line of a run that stopped at the event limit.
+fn write_limit(text: &mut Bytes, caller: CallerId, line: u64) -> Result<(), NoMemory>
+    ensures { OnOk result (text.new ≡ text.old ++ limit_line caller line) }
+{
+    write_caller(text, caller)?;
+    text.append(b" limit ")?;
+    write_number(text, line)?;
+    text.append(b"\n")
+}
+
+/// Adds the transcript of one caller.
+fn write_transcript(text: &mut Bytes, script: &Script, journal: &Journal) -> Result<(), NoMemory>
+    ensures { OnOk result (text.new ≡ text.old
+        ++ transcript script.now.caller script.now.lines (own_calls script.now.caller.rank script.now.caller.thread journal.now)) }
+{
+    let mut done = 0;
+    for place in 0..journal.len() {
+        let Event::Called(caller, call, reply) = journal.at(place) else {
+            continue;
+        };
+        if *caller != script.caller {
+            continue;
+        }
+        let Some(line) = script.lines.get(done) else {
+            continue;
+        };
+        if matches!(call, Call::End) {
+            return write_limit(text, script.caller, line.number);
+        }
+        write_call(text, script.caller, line.number, reply)?;
+        if is_stuck(line, reply) {
+            return write_stuck(text, script.caller, line.number);
+        }
+        done += 1;
+    }
+    match script.lines.get(done) {
+        Some(line) => write_limit(text, script.caller, line.number),
+        None => write_ended(text, script.caller),
+    }
+}
+
+/// Adds the transcript of a caller that has a script.
+fn write_thread(text: &mut Bytes, caller: CallerId, scripts: &Scripts, journal: &Journal) -> Result<(), NoMemory>
+    ensures { OnOk result (text.new ≡ text.old ++ thread_transcript scripts.now journal.now caller.rank caller.thread) }
+{
+    match scripts.of(caller) {
+        Some(script) => write_transcript(text, script, journal),
+        None => Ok(()),
+    }
+}
+
+/// Adds the transcripts of a rank's callers, by thread.
+fn write_rank(text: &mut Bytes, rank: u32, scripts: &Scripts, journal: &Journal) -> Result<(), NoMemory>
+    requires { rank < 16 }
+    ensures { OnOk result (text.new ≡ text.old ++ rank_transcripts scripts.now journal.now rank) }
+{
+    for thread in 0..4u32 {
+        let caller = CallerId {
+            rank: RankId::of(rank),
+            thread: ThreadId::of(thread),
+        };
+        write_thread(text, caller, scripts, journal)?;
+    }
+    Ok(())
+}
+
+/// Adds the transcripts of all callers, by rank and thread. Without memory a part of them was added.
+pub fn write_transcripts(text: &mut Bytes, shape: &Shape, scripts: &Scripts, journal: &Journal) -> Result<(), NoMemory>
+    ensures { OnOk result (text.new ≡ text.old ++ transcripts shape.now scripts.now journal.now) }
+{
+    let limits = shape.limits();
+    for rank in 0..limits.ranks {
+        write_rank(text, rank, scripts, journal)?;
+    }
+    Ok(())
+}
