@@ -1,0 +1,11 @@
+//! Whole runs of the command: texts in, and status and bytes out. All is in the tests.
+#![tactic(auto)]
+
+#[cfg(test)]
+mod running;
+#[cfg(test)]
+mod streams;
+#[cfg(test)]
+mod texts;
+#[cfg(test)]
+mod worlds;

@@ -1,0 +1,101 @@
+//! Sources that give little at once, and sources and sinks that fail.
+
+use crate::running::STEP;
+use crate::worlds::{TOLD, TWO_RANKS};
+use gaspi_io::{MemSink, MemSource, SureSink, SureSource};
+use gaspi_run::gaspirun;
+use gaspi_types::{Bytes, NoMemory, Rows};
+use std::alloc::Global;
+use std::test::Fail;
+
+/// A source of the first world, which gives at most so many bytes a read.
+fn source_in_pieces(alloc: Global, piece: usize) -> Result<MemSource, NoMemory>
+    requires { 0 < piece }
+{
+    let mut source = MemSource::new(Bytes::copied_from(alloc, TWO_RANKS.as_bytes())?);
+    source.set_piece(piece);
+    Ok(source)
+}
+
+#[test]
+fn pieces_of_each_size_are_one_text(rt: HostRuntime) -> Result<(), Fail> {
+    let alloc = rt.alloc();
+    for piece in [1, 2, 7, 184, 185] {
+        let mut source = source_in_pieces(alloc, piece)?;
+        let mut sink = MemSink::with_room(alloc, 4096)?;
+        sink.set_piece(piece);
+        let answer = gaspirun(&rt, alloc, &STEP, &mut source, &mut sink);
+        assert_eq!(rt; answer.status, 0, "pieces of {piece}");
+        assert_eq!(rt; sink.bytes(), TOLD.as_bytes(), "pieces of {piece}");
+    }
+    Ok(())
+}
+
+// The text has 184 bytes: with 50 a read, four reads give bytes, and the fifth finds the end.
+#[test]
+fn each_read_fails_in_turn(rt: HostRuntime) -> Result<(), Fail> {
+    let alloc = rt.alloc();
+    for call in 0..5 {
+        let mut source = source_in_pieces(alloc, 50)?;
+        source.set_failing(Rows::copied_from(alloc, &[call])?);
+        let mut sink = SureSink::with_room(alloc, 4096)?;
+        let answer = gaspirun(&rt, alloc, &STEP, &mut source, &mut sink);
+        assert_eq!(rt; answer.status, 5, "read {call}");
+        assert!(rt; sink.bytes().is_empty(), "read {call}");
+        assert!(rt; answer.journal.is_empty(), "read {call}");
+    }
+    Ok(())
+}
+
+// The text has 97 bytes: with 25 a write, four writes take it.
+#[test]
+fn each_write_fails_in_turn(rt: HostRuntime) -> Result<(), Fail> {
+    let alloc = rt.alloc();
+    for (call, written) in [(0, 0), (1, 25), (2, 50), (3, 75)] {
+        let mut source = SureSource::new(Bytes::copied_from(alloc, TWO_RANKS.as_bytes())?);
+        let mut sink = MemSink::with_room(alloc, 4096)?;
+        sink.set_piece(25);
+        sink.set_failing(Rows::copied_from(alloc, &[call])?);
+        let answer = gaspirun(&rt, alloc, &STEP, &mut source, &mut sink);
+        assert_eq!(rt; answer.status, 6, "write {call}");
+        assert_eq!(rt; sink.bytes(), &TOLD.as_bytes()[..written], "write {call}");
+    }
+    Ok(())
+}
+
+/// A sink whose first write fails.
+fn failing_sink(alloc: Global) -> Result<MemSink, NoMemory> {
+    let mut sink = MemSink::new(alloc);
+    sink.set_failing(Rows::copied_from(alloc, &[0])?);
+    Ok(sink)
+}
+
+#[test]
+fn refusals_and_faults_that_cannot_be_written(rt: HostRuntime) -> Result<(), Fail> {
+    let alloc = rt.alloc();
+    let mut source = SureSource::new(Bytes::new(alloc));
+    let mut sink = failing_sink(alloc)?;
+    let answer = gaspirun(&rt, alloc, &["step"], &mut source, &mut sink);
+    assert_eq!(rt; answer.status, 6);
+    assert!(rt; sink.bytes().is_empty());
+
+    let mut sink = failing_sink(alloc)?;
+    let answer = gaspirun(&rt, alloc, &STEP, &mut source, &mut sink);
+    assert_eq!(rt; answer.status, 6);
+    assert!(rt; sink.bytes().is_empty());
+    Ok(())
+}
+
+// The words come first: nothing is read where they are refused.
+#[test]
+fn refused_words_read_nothing(rt: HostRuntime) -> Result<(), Fail> {
+    let alloc = rt.alloc();
+    let mut source = source_in_pieces(alloc, 50)?;
+    source.set_failing(Rows::copied_from(alloc, &[0])?);
+    let mut sink = SureSink::with_room(alloc, 4096)?;
+    let answer = gaspirun(&rt, alloc, &["run"], &mut source, &mut sink);
+    assert_eq!(rt; answer.status, 1);
+    assert_eq!(rt; sink.bytes(), b"gaspirun: words refused\n".as_slice());
+    assert_eq!(rt; source.faults(), 0);
+    Ok(())
+}
