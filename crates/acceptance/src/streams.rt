@@ -1,5 +1,7 @@
 //! Sources that give little at once, and sources and sinks that fail.
 
+ghost use Rattle.std.specs.Prelude.{◌<◌};
+
 use crate::running::STEP;
 use crate::worlds::{TOLD, TWO_RANKS};
 use gaspi_io::{MemSink, MemSource, SureSink, SureSource};
