@@ -215,63 +215,57 @@ wait 0 block\n",
     ),
 ];
 
-/// Whole worlds in which a caller is stuck, or ends at the event limit.
-const NOT_ENDED: [(&str, u8, &str); 10] = [
+/// Whole worlds in which a caller is stuck. Each of these runs takes a million looks.
+const STUCK: [(&str, &str); 2] = [
     // Nothing comes to wake it; the lines after are not reached.
     (
         "world 1 1 1 1 1 9\nsegment 0 0 8\nrank 0 thread 0\nwaitsome 0 0 1 block\nreset 0 0\n",
-        3,
         "0.0 4 timeout\n0.0 stuck 4\n",
     ),
     // Stuck comes before the event limit.
     (
         "world 2 1 1 1 1 2\nsegment 0 0 1\nrank 0 thread 0\nwaitsome 0 0 1 block\nrank 1 thread 0\nreset 0 0\nreset 0 0\n",
-        3,
         "0.0 4 timeout\n0.0 stuck 4\n1.0 6 refused 2\n1.0 limit 7\n",
     ),
+];
+
+/// Whole worlds in which a caller ends at the event limit, and none is stuck.
+const LIMITED: [(&str, &str); 8] = [
     // The room of the one event is kept for the end.
     (
         "world 1 1 1 1 1 1\nrank 0 thread 0\nreset 0 0\n",
-        8,
         "0.0 limit 3\n",
     ),
     (
         "world 1 1 1 1 1 2\nrank 0 thread 0\nreset 0 0\nreset 0 0\nreset 0 0\n",
-        8,
         "0.0 3 refused 2\n0.0 limit 4\n",
     ),
     (
         "world 1 1 1 1 1 1\nrank 0 thread 0\nwait 0 block\n",
-        8,
         "0.0 limit 3\n",
     ),
     // A post needs five events beside the one that is kept for the end.
     (
         "world 1 1 2 1 1 5\nsegment 0 0 2\nrank 0 thread 0\nwrite_notify 0 0 0 0 1 1 0 1 0\n",
-        8,
         "0.0 limit 4\n",
     ),
     (
         "world 1 1 2 1 1 6\nsegment 0 0 2\nrank 0 thread 0\nwrite_notify 0 0 0 0 1 1 0 1 0\nreset 0 0\n",
-        8,
         "0.0 4 done\n0.0 limit 5\n",
     ),
     // So does one that would be refused, which takes one.
     (
         "world 1 1 2 1 1 6\nsegment 0 0 2\nrank 0 thread 0\nwrite_notify 0 0 0 0 1 1 0 0 0\nwrite_notify 0 0 0 0 1 1 0 0 0\n",
-        8,
         "0.0 4 refused 11\n0.0 limit 5\n",
     ),
     // Other ranks have their own events.
     (
         "world 2 1 1 1 1 1\nrank 0 thread 0\nreset 0 0\nrank 1 thread 0\n",
-        8,
         "0.0 limit 3\n1.0 ended\n",
     ),
     // Two threads share those of their rank; with seed 0 the first draw picks the first of them.
     (
         "world 1 1 1 1 1 3\nrank 0 thread 0\nreset 0 0\nrank 0 thread 1\nreset 0 0\n",
-        8,
         "0.0 3 refused 2\n0.0 ended\n0.1 limit 5\n",
     ),
 ];
@@ -286,10 +280,19 @@ fn callers_end(rt: HostRuntime) -> Result<(), Fail> {
 }
 
 #[test]
-fn callers_are_stuck_or_at_the_limit(rt: HostRuntime) -> Result<(), Fail> {
+fn callers_are_stuck(rt: HostRuntime) -> Result<(), Fail> {
     let alloc = rt.alloc();
-    for (text, status, output) in NOT_ENDED {
-        runs_to(&rt, alloc, text, status, output)?;
+    for (text, output) in STUCK {
+        runs_to(&rt, alloc, text, 3, output)?;
+    }
+    Ok(())
+}
+
+#[test]
+fn callers_come_to_the_event_limit(rt: HostRuntime) -> Result<(), Fail> {
+    let alloc = rt.alloc();
+    for (text, output) in LIMITED {
+        runs_to(&rt, alloc, text, 8, output)?;
     }
     Ok(())
 }
