@@ -1,6 +1,6 @@
 -- What may come next is a step: a transfer that is listed, and a call with the reply that it has.
-use Rattle.std.proofs.Common.{◌≡◌, ℕ, zero, suc, ◌+◌, ◌*◌, ◌<◌, ◌≤◌, Bool, true, false, List, [], ◌∷◌, ◌++◌, length, Option, None, Some, Result, Ok, Err, refl, sym, ap, ◌∙◌, subst, arith, if◌then◌else◌, ◌⊎◌, inl, inr, is_none, IsOk, nat_eq}
-use Rattle.std.specs.List.{slice_get, slice_set, flat_map, enumerate_from}
+use Rattle.std.proofs.Common.{◌≡◌, ℕ, zero, suc, ◌+◌, ◌*◌, ◌<◌, ◌≤◌, Bool, true, false, List, [], ◌∷◌, Option, None, Some, Result, Ok, Err, refl, sym, ◌∙◌, subst, arith, if◌then◌else◌, is_none, IsOk, nat_eq}
+use Rattle.std.specs.List.{slice_get, slice_set, enumerate_from}
 use Rattle.std.specs.Cmp.Lexicographic.{pointwise}
 use Rattle.std.proofs.lemmas.Bool.{le-leb, eq-eqb}
 use Rattle.std.proofs.lemmas.Option.{slice_get_within}
@@ -36,6 +36,7 @@ use Rattle.gaspi_model.specs.declared.states.State.{State}
 use Rattle.gaspi_model.specs.declared.states.Why.{Why}
 use Rattle.gaspi_model.specs.declared.states.Why.TheVariants as whys
 use Rattle.gaspi_model.proofs.Rising.{place_of-rising}
+use Rattle.gaspi_model.proofs.Tables.{past-none, flat_map-parts, enumerate-at}
 
 -- Replies compare as the same as themselves.
 
@@ -109,11 +110,6 @@ active-posts s rank thread h = go (slice_get s.posts rank) refl
     go None at = absurd (let none = rw at at h in let no : ⊥ = cc in no)
     go (Some posts) at = (posts, at, rw at at h)
 
-past-none : {A : Type 0} (xs : List A) (i : ℕ) → i < length xs → slice_get xs i ≡ None → ⊥
-past-none [] i less at = omega arith
-past-none (x ∷ xs) zero less at = cc
-past-none (x ∷ xs) (suc i) less at = past-none xs i (omega arith) at
-
 memory-there : (s : State) (rank : ℕ) → IsSound s → rank < s.limits.ranks → (memory : Memory) × (slice_get s.memories rank ≡ Some memory)
 memory-there s rank sound within = go (slice_get s.memories rank) refl
   where
@@ -151,34 +147,6 @@ called-is_step s rank thread call ready sound active room is =
         (called-step s rank thread call posts memory hp hm running room')
 
 -- Transfers.
-
--- what stands in lists that were joined stands in one of them
-append-parts : {A : Type 0} (a b : List A) (k : ℕ) (y : A) → slice_get (a ++ b) k ≡ Some y → ((j : ℕ) × (slice_get a j ≡ Some y)) ⊎ ((j : ℕ) × (slice_get b j ≡ Some y))
-append-parts [] b k y at = inr (k, at)
-append-parts (x ∷ a) b zero y at = inl (0, at)
-append-parts (x ∷ a) b (suc k) y at = shift (append-parts a b k y at)
-  where
-    shift : ((j : ℕ) × (slice_get a j ≡ Some y)) ⊎ ((j : ℕ) × (slice_get b j ≡ Some y)) → ((j : ℕ) × (slice_get (x ∷ a) j ≡ Some y)) ⊎ ((j : ℕ) × (slice_get b j ≡ Some y))
-    shift (inl h) = inl (suc h.0, h.1)
-    shift (inr h) = inr h
-
-flat_map-parts : {A B : Type 0} (f : A → List B) (xs : List A) (k : ℕ) (y : B) → slice_get (flat_map f xs) k ≡ Some y
-    → (i : ℕ) × (x : A) × (j : ℕ) × (slice_get xs i ≡ Some x) × (slice_get (f x) j ≡ Some y)
-flat_map-parts f [] k y at = absurd (let no : ⊥ = cc in no)
-flat_map-parts {A} {B} f (x ∷ xs) k y at = go (append-parts (f x) (flat_map f xs) k y at) (λ j h. flat_map-parts f xs j y h)
-  where
-    go : ((j : ℕ) × (slice_get (f x) j ≡ Some y)) ⊎ ((j : ℕ) × (slice_get (flat_map f xs) j ≡ Some y))
-        → ((j : ℕ) → slice_get (flat_map f xs) j ≡ Some y → (i : ℕ) × (x' : A) × (j : ℕ) × (slice_get xs i ≡ Some x') × (slice_get (f x') j ≡ Some y))
-        → (i : ℕ) × (x' : A) × (j : ℕ) × (slice_get (x ∷ xs) i ≡ Some x') × (slice_get (f x') j ≡ Some y)
-    go (inl h) rest = (0, x, h.0, refl, h.1)
-    go (inr h) rest = let r = rest h.0 h.1 in (suc r.0, r.1, r.2, r.3, r.4)
-
-enumerate-at : {A : Type 0} (n : ℕ) (xs : List A) (i : ℕ) (p : ℕ × A) → slice_get (enumerate_from n xs) i ≡ Some p → (p.0 ≡ n + i) × (slice_get xs i ≡ Some p.1)
-enumerate-at n [] i p at = absurd (let no : ⊥ = cc in no)
-enumerate-at n (x ∷ xs) zero p at =
-    let same : ◌≡◌ {A = ℕ × _} (n, x) p = cc in
-    (sym (ap (λ (q : ℕ × _). q.0) same) ∙ omega arith, ap (λ (q : ℕ × _). Some q.1) same)
-enumerate-at n (x ∷ xs) (suc i) p at = let rest = enumerate-at (n + 1) xs i p at in (rest.0 ∙ omega arith, rest.1)
 
 -- where a listed transfer comes from
 pub record IsListed (limits : Limits) (table : List Posts) (t : Transfer) (posts : Posts) (q : Queue) (lane : List Entry) (place : ℕ) (e : Entry) : Type 0 where

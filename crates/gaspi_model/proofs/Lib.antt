@@ -8,4 +8,5 @@ pub mod Accounts
 pub mod CallAccounts
 pub mod SoundSteps
 pub mod SoundOpening
+pub mod Activity
 pub mod EnabledEvents

@@ -1,6 +1,6 @@
 -- The opening state is sound, and every step keeps a state sound.
-use Rattle.std.proofs.Common.{subst, ◌≡◌, ℕ, ◌+◌, ◌≤◌, Bool, true, false, List, ◌++◌, length, Option, None, Some, Result, Ok, Err, refl, ap, ◌∙◌, arith, if◌then◌else◌, ◌⊎◌, inl, inr, remove}
-use Rattle.std.specs.List.{slice_get, slice_set}
+use Rattle.std.proofs.Common.{◌-◌, subst, ◌≡◌, ℕ, ◌+◌, ◌≤◌, Bool, true, false, List, ◌++◌, length, Option, None, Some, Result, Ok, Err, refl, ap, ◌∙◌, arith, if◌then◌else◌, ◌⊎◌, inl, inr, remove}
+use Rattle.std.specs.List.{sum_by, slice_get, slice_set}
 use Rattle.std.proofs.lemmas.Bool.{leb-true}
 use Rattle.std.proofs.lemmas.List.{length-set}
 use Rattle.gaspi_types.specs.Lanes.{posted_entries}
@@ -22,13 +22,13 @@ use Rattle.gaspi_model.specs.State.{owed}
 use Rattle.gaspi_model.specs.Calls.{changed_at, with_entries, with_post, posts_done, counted}
 use Rattle.gaspi_model.specs.Transfers.{Found, with_lane, with_phase, put_with, taken_bytes, Parts}
 use Rattle.gaspi_model.specs.Step.{step}
-use Rattle.gaspi_model.specs.Sound.{IsSoundPosts, IsSound, AreRising}
+use Rattle.gaspi_model.specs.Sound.{IsSoundPosts, IsSound, AreRising, events_left}
 use Rattle.gaspi_model.proofs.Rising.{AreRising-more, AreRising-phase, AreRising-remove, AreRising-post}
 use Rattle.gaspi_model.specs.declared.states.Queue.{Queue}
 use Rattle.gaspi_model.specs.declared.states.Posts.{Posts}
 use Rattle.gaspi_model.specs.declared.states.Memory.{Memory}
 use Rattle.gaspi_model.specs.declared.states.State.{State}
-use Rattle.gaspi_model.proofs.Tables.{slice_get-set}
+use Rattle.gaspi_model.proofs.Tables.{sum_by-changed, slice_get-set}
 use Rattle.gaspi_model.proofs.Same.{same_reply-same}
 use Rattle.gaspi_model.proofs.Made.{IsFound, IsTake, IsPut, IsCalled, step-called, step-take, step-put}
 use Rattle.gaspi_model.proofs.Accounts.{take-owed, put-owed, kinds-two}
@@ -268,3 +268,50 @@ steps s t (Put origin queue target number outcome) sound h =
       memories = length-set s.memories target made.2.memory ∙ sound.memories;
       posts = posts-sound s.limits s.posts origin made.2.posts after sound.posts;
     })
+
+-- each event adds one to the events of its owner
+
+called-events : (limits : Limits) (me : ℕ) (posts : Posts) (memory : Memory) (thread : ℕ) (call : Call) (reply : Reply) (after : Parts)
+    → IsSoundPosts limits posts → IsCalled limits me posts memory thread call reply after → after.posts.events ≡ posts.events + 1
+called-events limits me posts memory thread call reply after sound h =
+    let keeps = after-keeps limits.ranks (is_idle reply) posts (posts_done limits me posts thread call) sound.lanes sound.rising (done-keeps limits.ranks limits me posts thread call sound.lanes sound.rising) in
+    rw h.leaves (ap (λ (n : ℕ). n + 1) keeps.events)
+
+put-events : (posts : Posts) (memory : Memory) (queue target number : ℕ) (outcome : Outcome) (after : Parts) (at : Found)
+    → IsPut posts memory queue target number outcome after at → after.posts.events ≡ posts.events + 1
+put-events posts memory queue target number Applied after at h = rw h.leaves refl
+put-events posts memory queue target number Failed after at h = rw h.leaves refl
+
+left-set : (limits : Limits) (table : List Posts) (rank : ℕ) (posts after : Posts) → slice_get table rank ≡ Some posts → after.events ≡ posts.events + 1 → after.events ≤ limits.events
+    → sum_by (λ (p : Posts). limits.events - p.events) (slice_set table rank after) + 1 ≡ sum_by (λ (p : Posts). limits.events - p.events) table
+left-set limits table rank posts after at more within =
+    let sum = sum_by-changed (λ (p : Posts). limits.events - p.events) table rank posts after at in
+    omega arith
+
+pub counts : (s t : State) (e : Event) → IsSound s → step s e ≡ Ok t → events_left t + 1 ≡ events_left s
+counts s t (Called c call reply) sound h =
+    let made = step-called s t c call reply h in
+    let m = made.3 in
+    let before = sound.posts c.rank made.0 m.posts_there in
+    let after = called-sound s.limits c.rank made.0 made.1 c.thread call reply made.2 before m.is in
+    let more = called-events s.limits c.rank made.0 made.1 c.thread call reply made.2 before m.is in
+    rw m.leaves (left-set s.limits s.posts c.rank made.0 made.2.posts m.posts_there more (let room = after.room in omega arith))
+counts s t (Take origin queue target number outcome) sound h =
+    let made = step-take s t origin queue target number outcome h in
+    let m = made.4 in
+    let before = sound.posts origin made.0 m.posts_there in
+    let after = take-sound s.limits made.0 made.1 queue target number outcome made.2 made.3 before m.is in
+    let more : made.2.events ≡ made.0.events + 1 = rw m.is.leaves refl in
+    rw m.leaves (left-set s.limits s.posts origin made.0 made.2 m.posts_there more (let room = after.room in omega arith))
+counts s t (Put origin queue target number outcome) sound h =
+    let made = step-put s t origin queue target number outcome h in
+    let m = made.4 in
+    let before = sound.posts origin made.0 m.posts_there in
+    let after = put-sound s.limits made.0 made.1 queue target number outcome made.2 made.3 before m.is in
+    let more = put-events made.0 made.1 queue target number outcome made.2 made.3 m.is in
+    rw m.leaves (left-set s.limits s.posts origin made.0 made.2.posts m.posts_there more (let room = after.room in omega arith))
+
+pub limits-stay : (s t : State) (e : Event) → step s e ≡ Ok t → t.limits ≡ s.limits
+limits-stay s t (Called c call reply) h = ap (λ (x : State). x.limits) (step-called s t c call reply h).3.leaves
+limits-stay s t (Take origin queue target number outcome) h = ap (λ (x : State). x.limits) (step-take s t origin queue target number outcome h).4.leaves
+limits-stay s t (Put origin queue target number outcome) h = ap (λ (x : State). x.limits) (step-put s t origin queue target number outcome h).4.leaves

@@ -1,5 +1,5 @@
 -- What holds in every state of a legal history, and is used by whoever runs the machine.
-use Rattle.std.specs.Prelude.{◌≡◌, ℕ, ◌+◌, ◌*◌, ◌<◌, ◌≤◌, true, List, [], ◌∷◌, length, slice_get, Some}
+use Rattle.std.specs.Prelude.{◌≡◌, ℕ, ◌+◌, ◌-◌, ◌*◌, ◌<◌, ◌≤◌, true, sum_by, List, [], ◌∷◌, length, slice_get, Some}
 use Rattle.gaspi_types.specs.declared.entries.Entry.{Entry}
 use Rattle.gaspi_types.specs.World.{are_limits}
 use Rattle.gaspi_types.specs.declared.shapes.Limits.{Limits}
@@ -31,3 +31,7 @@ pub record IsSound (s : State) : Type 0 where
   pub ranks : length s.posts ≡ s.limits.ranks
   pub memories : length s.memories ≡ s.limits.ranks
   pub posts : (rank : ℕ) (posts : Posts) → slice_get s.posts rank ≡ Some posts → IsSoundPosts s.limits posts
+
+-- the events that may still be recorded, in all ranks
+abbrev pub events_left : State → ℕ
+events_left s = sum_by (λ (p : Posts). s.limits.events - p.events) s.posts

@@ -1,10 +1,11 @@
 -- The step of the machine, and its legal histories.
-use Rattle.std.specs.Prelude.{◌≡◌, ℕ, ◌+◌, Bool, true, false, nat_le, List, [], ◌∷◌, Option, None, Some, Result, Ok, Err, if◌then◌else◌, slice_get, slice_set, is_ok}
+use Rattle.std.specs.Prelude.{◌&&◌, ◌≡◌, ℕ, ◌+◌, Bool, true, false, nat_le, List, [], ◌∷◌, Option, None, Some, Result, Ok, Err, if◌then◌else◌, slice_get, slice_set, is_ok}
 use Rattle.gaspi_types.specs.Checks.{◌>>=◌, check, found}
 use Rattle.gaspi_types.specs.Replies.{same_reply}
 use Rattle.gaspi_types.specs.World.{World, is_caller}
 use Rattle.gaspi_types.specs.declared.shapes.Limits.{Limits}
 use Rattle.gaspi_types.specs.declared.calls.Call.{Call}
+use Rattle.gaspi_types.specs.declared.calls.Call.TheVariants.{Store, Load, WriteNotify, Wait, Waitsome, Reset, End}
 use Rattle.gaspi_types.specs.declared.replies.Reply.{Reply}
 use Rattle.gaspi_types.specs.declared.replies.Ready.{Ready}
 use Rattle.gaspi_types.specs.declared.events.Outcome.{Outcome}
@@ -131,3 +132,18 @@ transfer_event s t = if t.put then Put t.origin t.queue t.target t.number (outco
     outcome_of None memory = Failed
     outcome_of (Some posts) None = Failed
     outcome_of (Some posts) (Some memory) = outcome_at (find_entry posts t.queue t.target t.number whys.Put) memory
+
+abbrev pub is_end : Call → Bool
+is_end (Store seg offset bytes) = false
+is_end (Load seg offset size) = false
+is_end (WriteNotify seg offset rank rseg roffset size note value queue) = false
+is_end (Wait queue) = false
+is_end (Waitsome seg begin num) = false
+is_end (Reset seg note) = false
+is_end End = true
+
+-- the end of a caller
+abbrev pub ends_caller : ℕ → ℕ → Event → Bool
+ends_caller rank thread (Called c call reply) = is_caller rank thread c && is_end call
+ends_caller rank thread (Take origin queue target number outcome) = false
+ends_caller rank thread (Put origin queue target number outcome) = false

@@ -10,8 +10,8 @@ ghost use Rattle.gaspi_types.specs.declared.events.Transfer.{Transfer};
 ghost use Rattle.gaspi_types.specs.declared.replies.Ready.{Ready};
 ghost use Rattle.gaspi_model.specs.Calls.{recorded_reply};
 ghost use Rattle.gaspi_model.specs.State.{opening};
-ghost use Rattle.gaspi_model.specs.Step.{step, answer_in, is_active, room_taken, transfer_event};
-ghost use Rattle.gaspi_model.specs.Sound.{IsSound};
+ghost use Rattle.gaspi_model.specs.Step.{step, ends_caller, answer_in, is_active, room_taken, transfer_event};
+ghost use Rattle.gaspi_model.specs.Sound.{IsSound, events_left};
 ghost use Rattle.gaspi_model.specs.Transfers.{transfers};
 ghost use Rattle.gaspi_model.specs.declared.states.State.{State};
 
@@ -21,6 +21,12 @@ ghost use Rattle.gaspi_model.specs.declared.states.State.{State};
 pub fn soundness()
     ensures opens { (w : World) → IsWorld w → IsSound (opening w) }
     ensures steps { (s t : State) (e : Event) → IsSound s → step s e ≡ Ok t → IsSound t }
+    ensures limits { (s t : State) (e : Event) → step s e ≡ Ok t → t.limits ≡ s.limits }
+    // Each event takes one of the events that are left.
+    ensures counts { (s t : State) (e : Event) → IsSound s → step s e ≡ Ok t → events_left t + 1 ≡ events_left s }
+    // A caller goes on until its end.
+    ensures active { (s t : State) (e : Event) (rank thread : ℕ) → step s e ≡ Ok t → ends_caller rank thread e ≡ false
+        → is_active t rank thread ≡ is_active s rank thread }
 {}
 
 /// What may come next is a step: each transfer that is listed, and each call of a caller that has not ended, with the

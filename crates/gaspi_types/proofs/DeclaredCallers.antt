@@ -1,8 +1,8 @@
 -- A world stays one when a caller is declared.
-use Rattle.std.proofs.Common.{◌≡◌, ℕ, ◌+◌, ◌<◌, ◌≤◌, Bool, true, false, cond, ◌&&◌, List, [], ◌∷◌, ◌++◌, count_by, ◌==◌, eqb, refl, ◌∙◌, zero-add, ap, arith, sym, subst}
+use Rattle.std.proofs.Common.{zero, suc, Some, ◌≡◌, ℕ, ◌+◌, ◌<◌, ◌≤◌, Bool, true, false, cond, ◌&&◌, List, [], ◌∷◌, ◌++◌, count_by, ◌==◌, eqb, refl, ◌∙◌, zero-add, ap, arith, sym, subst}
 use Rattle.std.proofs.lemmas.Bool.{eqb-true}
 use Rattle.std.proofs.lemmas.List.Sums.{sum_by-append, sum_by-cons, sum_by_push}
-use Rattle.std.specs.List.{list_any}
+use Rattle.std.specs.List.{list_any, slice_get}
 use Rattle.gaspi_types.specs.World.{World, IsWorld, is_caller}
 use Rattle.gaspi_types.specs.declared.shapes.CallerId.{CallerId}
 
@@ -54,27 +54,37 @@ once-more callers c rank thread new once = go (is_caller rank thread c) refl
         let none : cond {A = ℕ} (is_caller rank thread c) 1 0 ≡ 0 = ap (λ (b : Bool). cond {A = ℕ} b 1 0) is in
         omega arith
 
+-- what holds of each of a list holds of each with one more
+within-push : {P : CallerId → Type 0} (cs : List CallerId) (c d : CallerId) (place : ℕ) → ((p : ℕ) (e : CallerId) → slice_get cs p ≡ Some e → P e) → P c → slice_get (cs ++ c ∷ []) place ≡ Some d → P d
+within-push {P} [] c d zero all new at = let same : c ≡ d = cc in subst P same new
+within-push [] c d (suc place) all new at = absurd (let no : ⊥ = cc in no)
+within-push {P} (x ∷ cs) c d zero all new at = all 0 d at
+within-push (x ∷ cs) c d (suc place) all new at = within-push cs c d place (λ p e here. all (suc p) e here) new at
+
 -- a rank with room for one more caller
 pub IsWorld-caller : (w : World) (callers : List CallerId) (c : CallerId) → IsWorld w → callers ≡ w.callers ++ c ∷ []
     → list_any (is_caller c.rank c.thread) w.callers ≡ false → count_by (λ d. d.rank == c.rank) w.callers < w.limits.events
+    → c.rank < w.limits.ranks → c.thread < 4
     → IsWorld (record { limits = w.limits; segments = w.segments; callers = callers })
-IsWorld-caller w callers c sound is new room = record {
+IsWorld-caller w callers c sound is new room rank thread = record {
   limits = sound.limits;
   callers = λ r. rw is (more-fits _ _ _ (eqb c.rank r) (sound.callers r) (λ same. subst (λ (n : ℕ). count_by (λ (d : CallerId). d.rank == n) w.callers < w.limits.events) (eqb-true c.rank r same) room) (count_by-more w.callers c r));
-  once = λ rank thread. rw is (once-more w.callers c rank thread new (sound.once rank thread));
+  once = λ r t. rw is (once-more w.callers c r t new (sound.once r t));
+  within = λ place d at. within-push w.callers c d place (λ p e here. sound.within p e here) (rank, thread) (subst (λ (cs : List CallerId). slice_get cs place ≡ Some d) is at);
 }
 
 -- the same as the code has it: the count and the test are of lists that were read, at the numbers that were told
 pub IsWorld-counted : (w : World) (callers seen looked : List CallerId) (c : CallerId) (rank thread count : ℕ) → IsWorld w
     → callers ≡ w.callers ++ c ∷ [] → c.rank ≡ rank → c.thread ≡ thread → seen ≡ w.callers → count ≡ count_by (λ d. d.rank == rank) seen
-    → count < w.limits.events → looked ≡ w.callers → list_any (is_caller rank thread) looked ≡ false
+    → count < w.limits.events → looked ≡ w.callers → list_any (is_caller rank thread) looked ≡ false → rank < w.limits.ranks → thread < 4
     → IsWorld (record { limits = w.limits; segments = w.segments; callers = callers })
-IsWorld-counted w callers seen looked c rank thread count sound is same same' read counted room read' new =
+IsWorld-counted w callers seen looked c rank thread count sound is same same' read counted room read' new low few =
     IsWorld-caller w callers c sound is
-        (subst (λ (t : ℕ). list_any (is_caller c.rank t) w.callers ≡ false) (sym same')
-            (subst (λ (r : ℕ). list_any (is_caller r thread) w.callers ≡ false) (sym same)
-                (subst (λ (cs : List CallerId). list_any (is_caller rank thread) cs ≡ false) read' new)))
-        (subst (λ (n : ℕ). n < w.limits.events)
-            (counted ∙ ap (λ (cs : List CallerId). count_by (λ (d : CallerId). d.rank == rank) cs) read
-                ∙ ap (λ (n : ℕ). count_by (λ (d : CallerId). d.rank == n) w.callers) (sym same))
-            room)
+    (subst (λ (t : ℕ). list_any (is_caller c.rank t) w.callers ≡ false) (sym same')
+    (subst (λ (r : ℕ). list_any (is_caller r thread) w.callers ≡ false) (sym same)
+    (subst (λ (cs : List CallerId). list_any (is_caller rank thread) cs ≡ false) read' new)))
+    (subst (λ (n : ℕ). n < w.limits.events)
+    (counted ∙ ap (λ (cs : List CallerId). count_by (λ (d : CallerId). d.rank == rank) cs) read
+    ∙ ap (λ (n : ℕ). count_by (λ (d : CallerId). d.rank == n) w.callers) (sym same))
+    room)
+    (subst (λ (n : ℕ). n < w.limits.ranks) (sym same) low) (subst (λ (n : ℕ). n < 4) (sym same') few)

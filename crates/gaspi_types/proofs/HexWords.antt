@@ -31,7 +31,7 @@ bytes_of-no_bytes : bytes_of (hex_text []) ≡ Some []
 unfolding bytes_of hex_text
 bytes_of-no_bytes = refl
 
-hex_text-filled : (bytes : List ℕ) → (length bytes == 0) ≡ false → hex_text bytes ≡ encode_lower bytes
+pub hex_text-filled : (bytes : List ℕ) → (length bytes == 0) ≡ false → hex_text bytes ≡ encode_lower bytes
 unfolding hex_text
 hex_text-filled bytes filled = rw filled refl
 

@@ -1,3 +1,4 @@
+pub mod CallTexts
 pub mod DeclaredCallers
 pub mod HexWords
 pub mod NumberWords

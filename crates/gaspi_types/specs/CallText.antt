@@ -1,10 +1,13 @@
 -- The texts of calls.
-use Rattle.std.specs.Prelude.{ℕ, Bool, true, false, List, [], ◌∷◌, Option, Some, None, is_some, find, option_and_then, codes}
+use Rattle.std.specs.Prelude.{ℕ, ◌^◌, ◌<◌, Bool, true, false, List, [], ◌∷◌, Option, Some, None, is_some, find, option_and_then, codes}
+use Rattle.std.specs.Fmt.{decimal}
+use Rattle.std.specs.List.{join_with_byte}
 use Rattle.std.specs.Str.{bytes_eq}
 use Rattle.std.specs.Option.{option_map_or}
 use Rattle.gaspi_types.specs.Words.{words_of}
 use Rattle.gaspi_types.specs.Numbers.{number_of, value_of}
-use Rattle.gaspi_types.specs.Hex.{bytes_of}
+use Rattle.hex.specs.Hex.{IsBytes}
+use Rattle.gaspi_types.specs.Hex.{bytes_of, hex_text}
 use Rattle.gaspi_types.specs.declared.calls.Call.{Call}
 use Rattle.gaspi_types.specs.declared.calls.Call.TheVariants as calls
 use Rattle.gaspi_types.specs.declared.call_words.CallWord.{CallWord}
@@ -150,3 +153,36 @@ takes_memory (word ∷ arguments) = option_map_or holds_bytes (call_word_of word
 -- the call that a text spells
 abbrev pub call_of_text : List ℕ → Option Call
 call_of_text text = call_of (words_of text)
+
+-- the words of a call in the one form that is written; the end of a caller has no words of its own
+abbrev pub words_of_call : Call → List (List ℕ)
+words_of_call (calls.Store seg offset bytes) = codes "store" ∷ decimal seg ∷ decimal offset ∷ hex_text bytes ∷ []
+words_of_call (calls.Load seg offset size) = codes "load" ∷ decimal seg ∷ decimal offset ∷ decimal size ∷ []
+words_of_call (calls.WriteNotify seg offset rank rseg roffset size note value queue) =
+    codes "write_notify" ∷ decimal seg ∷ decimal offset ∷ decimal rank ∷ decimal rseg ∷ decimal roffset ∷ decimal size
+    ∷ decimal note ∷ decimal value ∷ decimal queue ∷ []
+words_of_call (calls.Wait queue) = codes "wait" ∷ decimal queue ∷ []
+words_of_call (calls.Waitsome seg begin num) =
+    codes "waitsome" ∷ decimal seg ∷ decimal begin ∷ decimal num ∷ []
+words_of_call (calls.Reset seg note) = codes "reset" ∷ decimal seg ∷ decimal note ∷ []
+words_of_call calls.End = []
+
+-- the text of a call: its words, one space between them
+abbrev pub call_text : Call → List ℕ
+call_text call = join_with_byte 32 (words_of_call call)
+
+-- a number of 64 bits
+abbrev pub IsNumber : ℕ → Type 0
+IsNumber n = n < 2 ^ 64
+
+-- a call that a caller can write: any call but its end, with the numbers of its types
+abbrev pub IsWritable : Call → Type 0
+IsWritable (calls.Store seg offset bytes) = IsNumber seg × IsNumber offset × IsBytes bytes
+IsWritable (calls.Load seg offset size) = IsNumber seg × IsNumber offset × IsNumber size
+IsWritable (calls.WriteNotify seg offset rank rseg roffset size note value queue) =
+    IsNumber seg × IsNumber offset × IsNumber rank × IsNumber rseg × IsNumber roffset × IsNumber size × IsNumber note
+    × (value < 2 ^ 32) × IsNumber queue
+IsWritable (calls.Wait queue) = IsNumber queue
+IsWritable (calls.Waitsome seg begin num) = IsNumber seg × IsNumber begin × IsNumber num
+IsWritable (calls.Reset seg note) = IsNumber seg × IsNumber note
+IsWritable calls.End = ⊥

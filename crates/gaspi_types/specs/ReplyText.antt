@@ -4,38 +4,9 @@ use Rattle.std.specs.Fmt.{decimal}
 use Rattle.std.specs.List.{flat_map, AllByRecursion}
 use Rattle.hex.specs.Hex.{IsBytes}
 use Rattle.gaspi_types.specs.Hex.{hex_text}
-use Rattle.gaspi_types.specs.declared.replies.Refusal.{Refusal}
-use Rattle.gaspi_types.specs.declared.replies.Refusal.TheVariants.{BadRank, NoSegment, Unregistered, BadRange, BadSize, BadQueue, QueueFull, QueueBroken, BadNote, ZeroValue, CallerEnded}
+pub use Rattle.gaspi_types.specs.Replies.{refusal_number, refusal_fields}
 use Rattle.gaspi_types.specs.declared.replies.Reply.{Reply}
 use Rattle.gaspi_types.specs.declared.replies.Reply.TheVariants.{Done, Value, Id, Bytes, Timeout, Refused}
-
--- own choice: the number of a refusal
-abbrev pub refusal_number : Refusal → ℕ
-refusal_number BadRank = 1
-refusal_number NoSegment = 2
-refusal_number Unregistered = 4
-refusal_number (BadRange size) = 5
-refusal_number BadSize = 6
-refusal_number BadQueue = 7
-refusal_number (QueueFull count need) = 8
-refusal_number (QueueBroken rank) = 9
-refusal_number BadNote = 10
-refusal_number ZeroValue = 11
-refusal_number CallerEnded = 25
-
--- own choice: what a refusal tells, in its order
-abbrev pub refusal_fields : Refusal → List ℕ
-refusal_fields BadRank = []
-refusal_fields NoSegment = []
-refusal_fields Unregistered = []
-refusal_fields (BadRange size) = size ∷ []
-refusal_fields BadSize = []
-refusal_fields BadQueue = []
-refusal_fields (QueueFull count need) = count ∷ need ∷ []
-refusal_fields (QueueBroken rank) = rank ∷ []
-refusal_fields BadNote = []
-refusal_fields ZeroValue = []
-refusal_fields CallerEnded = []
 
 -- numbers in decimal, each after one space
 abbrev pub spaced_numbers : List ℕ → List ℕ

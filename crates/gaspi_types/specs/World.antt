@@ -1,5 +1,5 @@
 -- A world: its limits, its declared segments and its callers.
-use Rattle.std.specs.Prelude.{◌≡◌, ℕ, ◌≤◌, Bool, true, ◌&&◌, List, [], ◌∷◌, ◌++◌, Result, Ok, Err, if◌then◌else◌, nat_lt, ◌==◌, count_by}
+use Rattle.std.specs.Prelude.{◌≡◌, ℕ, ◌≤◌, Bool, true, ◌&&◌, List, [], ◌∷◌, ◌++◌, Result, Ok, Err, if◌then◌else◌, nat_lt, ◌==◌, count_by, slice_get, Some, ◌<◌}
 use Rattle.std.specs.List.{list_any}
 use Rattle.gaspi_types.specs.Ranges.{is_between}
 use Rattle.gaspi_types.specs.declared.shapes.Limits.{Limits}
@@ -61,6 +61,7 @@ pub record IsWorld (w : World) : Type 0 where
   pub limits : are_limits w.limits ≡ true
   pub callers : (rank : ℕ) → count_by (λ c. c.rank == rank) w.callers ≤ w.limits.events
   pub once : (rank thread : ℕ) → count_by (is_caller rank thread) w.callers ≤ 1
+  pub within : (place : ℕ) (c : CallerId) → slice_get w.callers place ≡ Some c → (c.rank < w.limits.ranks) × (c.thread < 4)
 
 -- the world after a declaration that was tried: changed as the outcome says, and unchanged where it was refused
 abbrev pub Declares : Result (Unit {0}) ShapeFault → World → World → Result World ShapeFault → Type 0

@@ -1,8 +1,7 @@
 //! Bytes as words of a text.
 
-ghost use Rattle.std.specs.Prelude.{◌≡◌, ◌++◌, IfOk, OnOk, OnErr, false};
-ghost use Rattle.std.specs.Str.{bytes_eq};
-ghost use Rattle.gaspi_types.specs.Hex.{bytes_of, hex_text, no_bytes};
+ghost use Rattle.std.specs.Prelude.{◌≡◌, ◌++◌, ◌<◌, ◌%◌, length, IfOk, OnOk, OnErr};
+ghost use Rattle.gaspi_types.specs.Hex.{bytes_of, hex_text};
 
 use crate::lists::{Bytes, Rows};
 use crate::memory::NoMemory;
@@ -10,11 +9,11 @@ use hex::FromHexError;
 use std::alloc::Global;
 
 /// The bytes that a word spells: `-` for none, or an even number of hex digits of either case, at least two.
-/// `-` takes no memory.
+/// Only a word of even length takes memory.
 #[tactic(auto, unfolding(crate::specs::Hex::bytes_of))]
 pub fn read_bytes(alloc: Global, word: &[u8]) -> Result<Option<Bytes>, NoMemory>
     ensures ok { IfOk result (λ bytes. bytes ≡ bytes_of word.now) }
-    ensures memory { OnErr result (bytes_eq word.now no_bytes ≡ false) }
+    ensures memory { OnErr result ((0 < length word.now) × (length word.now % 2 ≡ 0)) }
 {
     if word == b"-".as_slice() {
         return Ok(Some(Rows::new(alloc)));

@@ -31,7 +31,9 @@ pub use numbers::{read_number, read_value, write_number};
 pub use replies::{Ready, Refusal, Reply};
 pub use reply_texts::write_reply;
 pub use shapes::{CallerId, Declared, Limits, Shape, ShapeFault};
-pub use text_laws::{bytes_read_back, numbers_read_back, replies_differ_in_text, words_read_back};
+pub use text_laws::{
+    bytes_read_back, calls_read_back, numbers_read_back, replies_differ_in_text, words_read_back,
+};
 
 #[cfg(test)]
 mod tests;

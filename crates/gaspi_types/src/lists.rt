@@ -1,7 +1,8 @@
 //! Lists that contracts see as lists: no capacity and no pointer stands in an equation about them.
 
-ghost use Rattle.std.specs.Prelude.{◌≡◌, ◌+◌, ◌<◌, ◌≤◌, ◌↔◌, ◌++◌, ◌∷◌, [], length, take, slice_set, slice_get, IsTrue, OnOk, OnErr, IfOk, IsOk, Some};
+ghost use Rattle.std.specs.Prelude.{◌≡◌, ◌+◌, ◌<◌, ◌≤◌, ◌↔◌, ◌++◌, ◌∷◌, [], length, slice_set, slice_get, take, drop, remove, IsTrue, OnOk, OnErr, IfOk, IsOk, Some};
 ghost use Rattle.std.specs.Borrow.{sem};
+ghost use Rattle.std.specs.Option.{option_copied};
 ghost use Rattle.std.specs.Cmp.Lexicographic.{pointwise, lists_per, lists_equiv};
 
 use crate::memory::NoMemory;
@@ -114,6 +115,34 @@ impl<T> Rows<T> {
     {
         self.items.truncate(count);
     }
+
+    /// The item at a place, where there is one.
+    pub fn get(&self, place: usize) -> Option<&T>
+        ensures { option_copied result ≡ slice_get self.now place }
+    {
+        self.items.get(place)
+    }
+
+    /// Takes the item at a place out. Those behind it move up.
+    pub fn remove(&mut self, place: usize) -> T
+        requires { place < length self.old }
+        ensures item { slice_get self.old place ≡ Some result }
+        ensures rest { self.new ≡ remove self.old place }
+    {
+        self.items.remove(place)
+    }
+
+    /// Moves the items of a list to the end. Without memory nothing changes but that those items are dropped.
+    pub fn extend(&mut self, more: Rows<T>) -> Result<(), NoMemory>
+    where
+        T: Drop,
+        ensures ok { OnOk result (self.new ≡ self.old ++ more) }
+        ensures err { OnErr result (self.new ≡ self.old) }
+    {
+        let Rows { mut items } = more;
+        self.items.append(&mut items)?;
+        Ok(())
+    }
 }
 
 impl<T: Copy> Rows<T> {
@@ -137,6 +166,17 @@ impl<T: Copy> Rows<T> {
     {
         self.items.extend_from_slice(items)?;
         Ok(())
+    }
+
+    /// Writes items over those from a place on.
+    pub fn overwrite(&mut self, place: usize, items: &[T])
+        requires { place + length items.now ≤ length self.old }
+        ensures { self.new ≡ take place self.old ++ items.now ++ drop (place + length items.now) self.old }
+    {
+        let _whole = self.items.len();
+        let all = self.items.as_mut_slice();
+        let end = place + items.len();
+        all[place..end].copy_from_slice(items);
     }
 }
 

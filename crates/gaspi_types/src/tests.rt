@@ -178,3 +178,66 @@ fn refusals_are_written(rt: HostRuntime) -> Result<(), Fail> {
     assert!(rt; is_written(alloc, Reply::Refused(Refusal::CallerEnded), b">refused 25")?);
     Ok(())
 }
+
+#[test]
+fn lists_keep_their_items(rt: HostRuntime) -> Result<(), Fail> {
+    let alloc = rt.alloc();
+    let mut rows: Rows<u32> = Rows::new(alloc);
+    assert!(rt; rows.is_empty());
+    rows.push(4)?;
+    rows.append(&[5, 6, 7])?;
+    assert_eq!(rt; rows.len(), 4);
+    *rows.at_mut(1) = 9;
+    assert_eq!(rt; *rows.at(1), 9);
+    rows.truncate(3);
+    assert_eq!(rt; rows, Rows::copied_from(alloc, &[4, 9, 6])?);
+    let items = rows.into_vec();
+    assert_eq!(rt; Rows::from_vec(items).as_slice(), [4, 9, 6].as_slice());
+    Ok(())
+}
+
+#[test]
+fn shapes_are_declared(rt: HostRuntime) -> Result<(), Fail> {
+    let mut shape = Shape::new(rt.alloc(), 2, 3, 4, 5, 6, 2)?;
+    shape.add_segment(0, 31, 16)?;
+    shape.add_caller(1, 0)?;
+    shape.add_caller(1, 3)?;
+    assert!(rt; matches!(shape.add_segment(2, 0, 16), Err(ShapeFault::Limit)));
+    assert!(rt; matches!(shape.add_segment(0, 31, 8), Err(ShapeFault::Twice)));
+    assert!(rt; matches!(shape.add_caller(1, 3), Err(ShapeFault::Twice)));
+    assert!(rt; matches!(shape.add_caller(1, 1), Err(ShapeFault::Threads)));
+    assert!(rt;
+        matches!(
+            Shape::new(rt.alloc(), 17, 3, 4, 5, 6, 2),
+            Err(ShapeFault::Limit)
+        )
+    );
+    assert_eq!(rt; shape.segments().len(), 1);
+    assert_eq!(rt; shape.callers().len(), 2);
+    assert_eq!(rt; RankId::new(1, &shape), Some(RankId::of(1)));
+    assert_eq!(rt; RankId::new(2, &shape), None);
+    assert_eq!(rt; QueueId::new(2, &shape), Some(QueueId::of(2)));
+    assert_eq!(rt; NoteId::new(5, &shape), None);
+    assert_eq!(rt; SegId::new(31, &shape), Some(SegId::of(31)));
+    assert_eq!(rt; ThreadId::new(4, &shape), None);
+    Ok(())
+}
+
+#[test]
+fn events_are_copied(rt: HostRuntime) -> Result<(), Fail> {
+    let alloc = rt.alloc();
+    let call = Call::Store {
+        seg: 0,
+        offset: 8,
+        bytes: Rows::copied_from(alloc, &[1, 2])?,
+    };
+    assert_eq!(rt; need(&call, false, false), 1);
+    assert_eq!(rt; need(&Call::End, false, false), 0);
+    let caller = CallerId {
+        rank: RankId::of(1),
+        thread: ThreadId::of(0),
+    };
+    let event = Event::Called(caller, call, Reply::Done);
+    assert_eq!(rt; event.copy(alloc)?, event);
+    Ok(())
+}

@@ -4,6 +4,8 @@ ghost use Rattle.std.specs.Prelude.{◌≡◌, ◌^◌, ◌<◌, ℕ, List, Some
 ghost use Rattle.std.specs.Fmt.{decimal};
 ghost use Rattle.std.specs.List.{AllByRecursion, join_with_byte};
 ghost use Rattle.hex.specs.Hex.{IsBytes};
+ghost use Rattle.gaspi_types.specs.CallText.{call_of_text, call_text, IsWritable};
+ghost use Rattle.gaspi_types.specs.declared.calls.Call.{Call};
 ghost use Rattle.gaspi_types.specs.declared.replies.Reply.{Reply};
 ghost use Rattle.gaspi_types.specs.Hex.{bytes_of, hex_text};
 ghost use Rattle.gaspi_types.specs.Numbers.{number_of, value_of};
@@ -30,4 +32,9 @@ pub fn bytes_read_back()
 pub fn replies_differ_in_text()
     ensures { (first second : Reply) → IsInRange first → IsInRange second
         → reply_text first ≡ reply_text second → first ≡ second }
+{}
+
+/// A call in the one form that is written reads back as that call.
+pub fn calls_read_back()
+    ensures { (call : Call) → IsWritable call → call_of_text (call_text call) ≡ Some call }
 {}

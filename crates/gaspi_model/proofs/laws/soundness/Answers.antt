@@ -1,5 +1,6 @@
 use Rattle.gaspi_model.proofs.SoundOpening.{opens}
-use Rattle.gaspi_model.proofs.SoundSteps.{steps}
+use Rattle.gaspi_model.proofs.SoundSteps.{steps, counts, limits-stay}
+use Rattle.gaspi_model.proofs.Activity.{active}
 use Rattle.gaspi_model.proofs.laws.soundness.Goals as goal
 
 pub returns-clause-opens : goal.returns-clause-opens
@@ -7,3 +8,12 @@ returns-clause-opens c = opens
 
 pub returns-clause-steps : goal.returns-clause-steps
 returns-clause-steps c = steps
+
+pub returns-clause-counts : goal.returns-clause-counts
+returns-clause-counts c = counts
+
+pub returns-clause-active : goal.returns-clause-active
+returns-clause-active c = active
+
+pub returns-clause-limits : goal.returns-clause-limits
+returns-clause-limits c = limits-stay

@@ -1,0 +1,149 @@
+-- What every turn of the schedule keeps.
+use Rattle.std.proofs.Common.{◌≡◌, ℕ, zero, suc, ◌+◌, ◌-◌, ◌<◌, ◌≤◌, Bool, true, false, List, [], ◌∷◌, ◌++◌, length, Option, None, Some, Result, Ok, Err, refl, sym, ap, ◌∙◌, subst, arith, nat_lt, nat_le, ◌==◌, remove, IsOk, ◌⊎◌, inl, inr, find}
+use Rattle.std.specs.List.{slice_get, slice_set, flat_map, range_with_len}
+use Rattle.std.proofs.lemmas.Bool.{eqb-true}
+use Rattle.gaspi_types.specs.World.{World, IsWorld, is_caller}
+use Rattle.gaspi_types.specs.Need.{need_of}
+use Rattle.gaspi_types.specs.declared.calls.Call.{Call}
+use Rattle.gaspi_types.specs.declared.calls.Call.TheVariants.{End}
+use Rattle.gaspi_types.specs.declared.replies.Reply.{Reply}
+use Rattle.gaspi_types.specs.declared.replies.Reply.TheVariants as replies
+use Rattle.gaspi_types.specs.declared.replies.Ready.{Ready}
+use Rattle.gaspi_types.specs.declared.replies.Ready.TheVariants as ready
+use Rattle.gaspi_types.specs.declared.events.Event.{Event}
+use Rattle.gaspi_types.specs.declared.events.Event.TheVariants.{Called}
+use Rattle.gaspi_types.specs.declared.events.Transfer.{Transfer}
+use Rattle.gaspi_model.specs.State.{opening}
+use Rattle.gaspi_model.specs.Sound.{IsSound}
+use Rattle.gaspi_model.specs.Step.{step, after, reached, transfer_event, answer_in, room_taken}
+use Rattle.gaspi_model.specs.Transfers.{transfers}
+use Rattle.gaspi_model.specs.declared.states.State.{State}
+use Rattle.gaspi_model.specs.declared.states.Why.{Why}
+use Rattle.gaspi_model.proofs.Tables.{slice_get-set, remove-part}
+use Rattle.rank_script.specs.Runs.{Progress, Going, Over, advanced, stopped}
+use Rattle.rank_script.specs.declared.scripts.Halted.TheVariants as halts
+use Rattle.rank_script.specs.declared.scripts.Script.{Script}
+use Rattle.rank_script.specs.declared.scripts.ScriptLine.{ScriptLine}
+use Rattle.rank_script.specs.declared.scripts.RunOutcome.{RunOutcome}
+use Rattle.gaspi_run.specs.Generator.{drawn, picked}
+use Rattle.gaspi_run.specs.declared.turns.Finished.{Finished}
+use Rattle.gaspi_run.specs.Schedule.{started, starts, starting, made, looks_of, with_waiting, recorded, looked, answered, going_turn, ending_turn, progress_turn, caller_turn, candidate_turn, candidates, with_draw, turn, turns}
+use Rattle.gaspi_run.specs.declared.turns.Waiting.{Waiting}
+use Rattle.gaspi_run.specs.declared.turns.Turns.{Turns}
+
+-- a history goes on by a step
+pub after-more : (s t u : State) (history : List Event) (e : Event) → after s history ≡ Ok t → step t e ≡ Ok u → after s (history ++ e ∷ []) ≡ Ok u
+after-more s t u [] e reached made = let same : s ≡ t = cc in rw same (rw made refl)
+after-more s t u (x ∷ history) e reached made = go (step s x) refl (λ next is. after-more next t u history e is made)
+  where
+    go : (r : Result State Why) → step s x ≡ r → ((next : State) → after next history ≡ Ok t → after next (history ++ e ∷ []) ≡ Ok u) → after s ((x ∷ history) ++ e ∷ []) ≡ Ok u
+    go (Ok next) is rest = rw is (rest next (rw is at reached))
+    go (Err why) is rest = absurd (let none = rw is at reached in let no : ⊥ = cc in no)
+
+-- where the schedule stands: its events lead to its state, which is sound, and its callers are of ranks that are there
+pub record IsGood (w : World) (t : Turns) : Type 0 where
+  pub legal : reached w t.journal ≡ Ok t.state
+  pub sound : IsSound t.state
+  pub limits : t.state.limits ≡ w.limits
+  pub ranked : (place : ℕ) (x : Waiting) → slice_get t.waiting place ≡ Some x → x.caller.rank < w.limits.ranks
+
+-- what the machine's laws say
+abbrev pub Steps : Type 0
+Steps = (s t : State) (e : Event) → IsSound s → step s e ≡ Ok t → IsSound t
+
+abbrev pub LimitsStay : Type 0
+LimitsStay = (s t : State) (e : Event) → step s e ≡ Ok t → t.limits ≡ s.limits
+
+pub good-made : Steps → LimitsStay → (w : World) (t : Turns) (e : Event) → IsGood w t → IsGood w (made t e)
+good-made steps stay w t e good = go (step t.state e) refl
+  where
+    go : (r : Result State Why) → step t.state e ≡ r → IsGood w (made t e)
+    go (Err why) is = rw is good
+    go (Ok s) is = rw is (record {
+      legal = after-more (opening w) t.state s t.journal e good.legal is;
+      sound = steps t.state s e good.sound is;
+      limits = stay t.state s e is ∙ good.limits;
+      ranked = good.ranked;
+    })
+
+pub good-waiting : (w : World) (t : Turns) (place : ℕ) (x x' : Waiting) → IsGood w t → slice_get t.waiting place ≡ Some x → x'.caller ≡ x.caller → IsGood w (with_waiting t place x')
+good-waiting w t place x x' good at same = record {
+  legal = good.legal;
+  sound = good.sound;
+  limits = good.limits;
+  ranked = λ p y here. parts p y (slice_get-set t.waiting place p x' y here);
+}
+  where
+    parts : (p : ℕ) (y : Waiting) → ((p ≡ place) × (y ≡ x')) ⊎ (slice_get t.waiting p ≡ Some y) → y.caller.rank < w.limits.ranks
+    parts p y (inl here) = rw (here.1, same) (good.ranked place x at)
+    parts p y (inr there) = good.ranked p y there
+
+good-recorded : Steps → LimitsStay → (w : World) (t : Turns) (place : ℕ) (x : Waiting) (call : Call) (reply : Reply) → IsGood w t → slice_get t.waiting place ≡ Some x → IsGood w (recorded t place x call reply)
+good-recorded steps stay w t place x call reply good at =
+    let x' : Waiting = record { caller = x.caller; cursor = advanced x.cursor reply; looks = 0 } in
+    good-made steps stay w (with_waiting t place x') (Called x.caller call reply) (good-waiting w t place x x' good at refl)
+
+good-looked : Steps → LimitsStay → (limit : ℕ) (w : World) (t : Turns) (place : ℕ) (x : Waiting) (line : ScriptLine) → IsGood w t → slice_get t.waiting place ≡ Some x → IsGood w (looked limit t place x line)
+good-looked steps stay limit w t place x line good at = go (nat_le (looks_of limit line.timeout) (x.looks + 1)) refl
+  where
+    go : (b : Bool) → nat_le (looks_of limit line.timeout) (x.looks + 1) ≡ b → IsGood w (looked limit t place x line)
+    go true last = rw last (good-recorded steps stay w t place x line.call replies.Timeout good at)
+    go false more =
+        let x' : Waiting = record { caller = x.caller; cursor = x.cursor; looks = x.looks + 1 } in
+        rw more (good-waiting w t place x x' good at refl)
+
+good-answered : Steps → LimitsStay → (limit : ℕ) (w : World) (t : Turns) (place : ℕ) (x : Waiting) (line : ScriptLine) (found : Option Ready) → IsGood w t → slice_get t.waiting place ≡ Some x → IsGood w (answered limit t place x line found)
+good-answered steps stay limit w t place x line None good at = good
+good-answered steps stay limit w t place x line (Some (ready.Reply reply)) good at = good-recorded steps stay w t place x line.call reply good at
+good-answered steps stay limit w t place x line (Some ready.NotReady) good at = good-looked steps stay limit w t place x line good at
+
+good-going : Steps → LimitsStay → (limit : ℕ) (w : World) (t : Turns) (place : ℕ) (x : Waiting) (line : ScriptLine) → IsGood w t → slice_get t.waiting place ≡ Some x → IsGood w (going_turn limit t place x line)
+good-going steps stay limit w t place x line good at = go (nat_lt t.state.limits.events (room_taken t.state x.caller.rank + need_of line.call false false)) refl
+  where
+    go : (b : Bool) → nat_lt t.state.limits.events (room_taken t.state x.caller.rank + need_of line.call false false) ≡ b → IsGood w (going_turn limit t place x line)
+    go true full =
+        let x' : Waiting = record { caller = x.caller; cursor = stopped x.cursor halts.Limit; looks = 0 } in
+        rw full (good-waiting w t place x x' good at refl)
+    go false room = rw room (good-answered steps stay limit w t place x line (answer_in t.state x.caller.rank x.caller.thread line.call) good at)
+
+good-ending : Steps → LimitsStay → (w : World) (t : Turns) (place : ℕ) (x : Waiting) (outcome : RunOutcome) → IsGood w t → IsGood w (ending_turn t place x outcome)
+good-ending steps stay w t place x outcome good =
+    let t' : Turns = record t { waiting = remove t.waiting place; finished = t.finished ++ record { caller = x.caller; outcome = outcome } ∷ [] } in
+    good-made steps stay w t' (Called x.caller End replies.Done) (record {
+      legal = good.legal;
+      sound = good.sound;
+      limits = good.limits;
+      ranked = λ p y here. (let was = remove-part t.waiting place p y here in good.ranked was.0 y was.1);
+    })
+
+good-progress : Steps → LimitsStay → (limit : ℕ) (w : World) (t : Turns) (place : ℕ) (x : Waiting) (p : Progress) → IsGood w t → slice_get t.waiting place ≡ Some x → IsGood w (progress_turn limit t place x p)
+good-progress steps stay limit w t place x (Going line lines) good at = good-going steps stay limit w t place x line good at
+good-progress steps stay limit w t place x (Over outcome) good at = good-ending steps stay w t place x outcome good
+
+good-candidate : Steps → LimitsStay → (limit : ℕ) (w : World) (t : Turns) (candidate : ℕ) → IsGood w t → IsGood w (candidate_turn limit t candidate)
+good-candidate steps stay limit w t candidate good = of-caller (slice_get t.waiting candidate) refl
+  where
+    of-transfer : (o : Option Transfer) → slice_get t.waiting candidate ≡ None → slice_get (transfers t.state.limits t.state.posts) (candidate - length t.waiting) ≡ o → IsGood w (candidate_turn limit t candidate)
+    of-transfer None past none = rw (past, none) good
+    of-transfer (Some transfer) past at = rw (past, at) (good-made steps stay w t (transfer_event t.state transfer) good)
+    of-caller : (o : Option Waiting) → slice_get t.waiting candidate ≡ o → IsGood w (candidate_turn limit t candidate)
+    of-caller (Some x) at = rw at (good-progress steps stay limit w t candidate x x.cursor good at)
+    of-caller None past = of-transfer (slice_get (transfers t.state.limits t.state.posts) (candidate - length t.waiting)) past refl
+
+pub good-turn : Steps → LimitsStay → (limit : ℕ) (w : World) (t : Turns) → IsGood w t → IsGood w (turn limit t)
+good-turn steps stay limit w t good = go (candidates t == 0) refl
+  where
+    draw : IsGood w (with_draw t)
+    draw = record { legal = good.legal; sound = good.sound; limits = good.limits; ranked = good.ranked }
+    go : (b : Bool) → (candidates t == 0) ≡ b → IsGood w (turn limit t)
+    go true over = rw over good
+    go false some = rw some (good-candidate steps stay limit w (with_draw t) (picked (drawn t.x) (candidates t)) draw)
+
+pub good-turns : Steps → LimitsStay → (limit n : ℕ) (w : World) (t : Turns) → IsGood w t → IsGood w (turns limit n t)
+good-turns steps stay limit zero w t good = good
+good-turns steps stay limit (suc n) w t good = good-turns steps stay limit n w (turn limit t) (good-turn steps stay limit w t good)
+
+-- one turn more
+pub turns-more : (limit n : ℕ) (t : Turns) → turns limit (suc n) t ≡ turn limit (turns limit n t)
+turns-more limit zero t = refl
+turns-more limit (suc n) t = turns-more limit n (turn limit t)

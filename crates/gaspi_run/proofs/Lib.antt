@@ -1,0 +1,11 @@
+pub mod Declared
+pub mod Work
+pub mod Good
+pub mod Running
+pub mod RunningTurns
+pub mod RunningEnds
+pub mod RunningAll
+pub mod NumberRanges
+pub mod Started
+pub mod StartSteps
+pub mod Scheduling

@@ -1,0 +1,12 @@
+-- What a list of numbers gives, one number more.
+use Rattle.std.proofs.Common.{◌≡◌, ℕ, zero, suc, ◌+◌, List, [], ◌∷◌, ◌++◌, refl, sym, ap, ◌∙◌, subst, arith, append_assoc, append-nil, add-one}
+use Rattle.std.specs.List.{flat_map, range_with_len}
+
+from-range : {B : Type 0} (f : ℕ → List B) (a n : ℕ) → flat_map f (range_with_len a (suc n)) ≡ flat_map f (range_with_len a n) ++ f (a + n)
+from-range {B} f a zero = append-nil (f a) ∙ ap f (let same : a ≡ a + 0 = omega arith in same)
+from-range {B} f a (suc n) =
+    ap (λ (r : List B). f a ++ r) (from-range f (a + 1) n) ∙ sym (append_assoc (f a) (flat_map f (range_with_len (a + 1) n)) (f (a + 1 + n)))
+    ∙ ap (λ (k : ℕ). (f a ++ flat_map f (range_with_len (a + 1) n)) ++ f k) (let same : a + 1 + n ≡ a + suc n = omega arith in same)
+
+pub flat_map-range : {B : Type 0} (f : ℕ → List B) (n : ℕ) → flat_map f (range_with_len 0 (n + 1)) ≡ flat_map f (range_with_len 0 n) ++ f n
+flat_map-range {B} f n = rw (add-one n) (from-range f 0 n) ∙ ap (λ (k : ℕ). flat_map f (range_with_len 0 n) ++ f k) (let same : 0 + n ≡ n = omega arith in same)

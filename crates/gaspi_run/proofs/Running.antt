@@ -1,0 +1,223 @@
+-- What every turn of the schedule keeps of the callers: their calls are runs of their scripts.
+use Rattle.std.proofs.Common.{◌≡◌, ℕ, zero, suc, ◌+◌, ◌-◌, ◌<◌, ◌≤◌, Bool, true, false, ◌&&◌, List, [], ◌∷◌, ◌++◌, length, Option, None, Some, Result, Ok, Err, refl, sym, ap, ◌∙◌, subst, arith, nat_lt, nat_le, ◌==◌, remove, IsOk, ◌⊎◌, inl, inr, find, cond, count_by, if◌then◌else◌, append_assoc, append-nil}
+use Rattle.std.specs.List.{slice_get, slice_set, sum_by}
+use Rattle.std.proofs.lemmas.Bool.{ltb-true, leb-false, eqb-true, eqb-false, eq-eqb}
+use Rattle.std.proofs.lemmas.List.Sums.{sum_by-set, sum_by-remove, sum_by_push, sum_by-cons, get_or-le-sum_by}
+use Rattle.std.proofs.lemmas.Option.{slice_get_within, get_or_from_slice_get}
+use Rattle.gaspi_types.specs.World.{World, IsWorld, is_caller}
+use Rattle.gaspi_types.specs.Need.{need_of}
+use Rattle.gaspi_types.specs.declared.shapes.CallerId.{CallerId}
+use Rattle.gaspi_types.specs.declared.calls.Call.{Call}
+use Rattle.gaspi_types.specs.declared.calls.Call.TheVariants.{End}
+use Rattle.gaspi_types.specs.declared.replies.Reply.{Reply}
+use Rattle.gaspi_types.specs.declared.replies.Reply.TheVariants as replies
+use Rattle.gaspi_types.specs.declared.replies.Ready.{Ready}
+use Rattle.gaspi_types.specs.declared.replies.Ready.TheVariants as ready
+use Rattle.gaspi_types.specs.declared.events.Event.{Event}
+use Rattle.gaspi_types.specs.declared.events.Event.TheVariants.{Called, Take, Put}
+use Rattle.gaspi_types.specs.declared.events.Transfer.{Transfer}
+use Rattle.gaspi_model.specs.State.{opening}
+use Rattle.gaspi_model.specs.Calls.{recorded_reply}
+use Rattle.gaspi_model.specs.Sound.{IsSound}
+use Rattle.gaspi_model.specs.Step.{step, after, reached, transfer_event, answer_in, room_taken, own_calls, is_active, is_end, ends_caller}
+use Rattle.gaspi_model.specs.Transfers.{transfers}
+use Rattle.gaspi_model.specs.declared.states.State.{State}
+use Rattle.gaspi_model.specs.declared.states.Why.{Why}
+use Rattle.gaspi_model.proofs.Tables.{slice_get-set_same, slice_get-set_other}
+use Rattle.rank_script.specs.Runs.{Progress, Going, Over, going_on, advanced, stopped, is_stuck, Follows, IsRun, IsStopped, end_pair}
+use Rattle.rank_script.specs.WorldText.{is_script_of}
+use Rattle.rank_script.specs.declared.scripts.Halted.TheVariants as halts
+use Rattle.rank_script.specs.declared.scripts.Script.{Script}
+use Rattle.rank_script.specs.declared.scripts.ScriptLine.{ScriptLine}
+use Rattle.rank_script.specs.declared.scripts.RunOutcome.{RunOutcome}
+use Rattle.rank_script.specs.declared.scripts.RunOutcome.TheVariants as outcomes
+use Rattle.gaspi_run.specs.declared.turns.Finished.{Finished}
+use Rattle.gaspi_run.specs.Schedule.{HadNoRoom, HasLimitCause, HasEnded, made, looks_of, with_waiting, recorded, looked, answered, going_turn, ending_turn, progress_turn, caller_turn, candidate_turn, candidates, with_draw, turn, turns, ArePlain}
+use Rattle.gaspi_run.specs.declared.turns.Waiting.{Waiting}
+use Rattle.gaspi_run.specs.declared.turns.Turns.{Turns}
+use Rattle.gaspi_run.proofs.Good.{IsGood}
+
+-- What a caller's own events are.
+
+-- the calls of a caller in one event
+abbrev pub own_of : ℕ → ℕ → Event → List (Call × Reply)
+own_of rank thread e = own_calls rank thread (e ∷ [])
+
+pub own_calls-append : (rank thread : ℕ) (a b : List Event) → own_calls rank thread (a ++ b) ≡ own_calls rank thread a ++ own_calls rank thread b
+own_calls-append rank thread [] b = refl
+own_calls-append rank thread (Called c call reply ∷ a) b = go (is_caller rank thread c) (own_calls-append rank thread a b)
+  where
+    go : (x : Bool) → own_calls rank thread (a ++ b) ≡ own_calls rank thread a ++ own_calls rank thread b
+      → (if x then (call, reply) ∷ own_calls rank thread (a ++ b) else own_calls rank thread (a ++ b))
+        ≡ (if x then (call, reply) ∷ own_calls rank thread a else own_calls rank thread a) ++ own_calls rank thread b
+    go true rest = ap (λ (ps : List (Call × Reply)). (call, reply) ∷ ps) rest
+    go false rest = rest
+own_calls-append rank thread (Take origin queue target number outcome ∷ a) b = own_calls-append rank thread a b
+own_calls-append rank thread (Put origin queue target number outcome ∷ a) b = own_calls-append rank thread a b
+
+pub own-same : (c : CallerId) (call : Call) (reply : Reply) → own_of c.rank c.thread (Called c call reply) ≡ (call, reply) ∷ []
+own-same c call reply = rw (eq-eqb c.rank c.rank refl, eq-eqb c.thread c.thread refl) refl
+
+pub own-other : (rank thread : ℕ) (c : CallerId) (call : Call) (reply : Reply) → is_caller rank thread c ≡ false → own_of rank thread (Called c call reply) ≡ []
+own-other rank thread c call reply apart = rw apart refl
+
+-- Callers that are counted.
+
+abbrev pub waiting_count : ℕ → ℕ → List Waiting → ℕ
+waiting_count rank thread ws = count_by (λ (x : Waiting). is_caller rank thread x.caller) ws
+
+abbrev pub finished_count : ℕ → ℕ → List Finished → ℕ
+finished_count rank thread fs = count_by (λ (f : Finished). is_caller rank thread f.caller) fs
+
+one-if : Bool → ℕ
+one-if b = cond b 1 0
+
+-- one item that passes is counted
+pub count-at : {A : Type 0} (p : A → Bool) (xs : List A) (i : ℕ) (x : A) → slice_get xs i ≡ Some x → p x ≡ true → 1 ≤ count_by p xs
+count-at {A} p xs i x at pass =
+    let le = get_or-le-sum_by (λ (y : A). cond (p y) 1 0) xs i x (slice_get_within xs i x at) in
+    let one : cond {A = ℕ} (p x) 1 0 ≡ 1 = ap (λ (b : Bool). cond {A = ℕ} b 1 0) pass in
+    let there = get_or_from_slice_get xs i x x at in
+    let le' = subst (λ (y : A). cond {A = ℕ} (p y) 1 0 ≤ count_by p xs) there le in
+    omega arith
+
+-- two items that pass, at two places, are counted
+pub count-two : {A : Type 0} (p : A → Bool) (xs : List A) (i j : ℕ) (x y : A) → slice_get xs i ≡ Some x → slice_get xs j ≡ Some y → (i ≡ j → ⊥) → p x ≡ true → p y ≡ true → 2 ≤ count_by p xs
+count-two p [] i j x y ati atj apart px py = absurd (let no : ⊥ = cc in no)
+count-two p (z ∷ xs) zero zero x y ati atj apart px py = absurd (apart refl)
+count-two {A} p (z ∷ xs) zero (suc j) x y ati atj apart px py =
+    let same : z ≡ x = cc in
+    let one : cond {A = ℕ} (p z) 1 0 ≡ 1 = ap (λ (w : A). cond {A = ℕ} (p w) 1 0) same ∙ ap (λ (b : Bool). cond {A = ℕ} b 1 0) px in
+    let rest = count-at p xs j y atj py in
+    let sum = sum_by-cons (λ (w : A). cond (p w) 1 0) z xs in
+    omega arith
+count-two {A} p (z ∷ xs) (suc i) zero x y ati atj apart px py =
+    let same : z ≡ y = cc in
+    let one : cond {A = ℕ} (p z) 1 0 ≡ 1 = ap (λ (w : A). cond {A = ℕ} (p w) 1 0) same ∙ ap (λ (b : Bool). cond {A = ℕ} b 1 0) py in
+    let rest = count-at p xs i x ati px in
+    let sum = sum_by-cons (λ (w : A). cond (p w) 1 0) z xs in
+    omega arith
+count-two {A} p (z ∷ xs) (suc i) (suc j) x y ati atj apart px py =
+    let rest = count-two p xs i j x y ati atj (λ e. apart (ap (λ (n : ℕ). suc n) e)) px py in
+    let sum = sum_by-cons (λ (w : A). cond (p w) 1 0) z xs in
+    omega arith
+
+-- Lines of a script.
+
+over-stays : (outcome : RunOutcome) (pairs : List (Call × Reply)) (line : ScriptLine) (rest : List ScriptLine) → Follows (Over outcome) pairs (Going line rest) → ⊥
+over-stays outcome [] line rest follows = let no : ⊥ = cc in no
+over-stays outcome (pair ∷ pairs) line rest follows = follows
+
+-- a line that a run comes to is one of the script's
+pub line-there : (lines : List ScriptLine) (pairs : List (Call × Reply)) (line : ScriptLine) (rest : List ScriptLine) → Follows (going_on lines) pairs (Going line rest)
+    → (place : ℕ) × (slice_get lines place ≡ Some line)
+line-there [] pairs line rest follows = absurd (over-stays outcomes.Ended pairs line rest follows)
+line-there (l ∷ lines) [] line rest follows = (0, (let same : ◌≡◌ {A = Progress} (Going line rest) (Going l lines) = follows in let one : line ≡ l = cc in ap (λ (x : ScriptLine). Some x) (sym one)))
+line-there (l ∷ lines) (pair ∷ pairs) line rest follows = go (is_stuck l pair.1) follows.1 (λ f. line-there lines pairs line rest f)
+  where
+    go : (b : Bool) → Follows (if b then Over (outcomes.Stuck l.number) else going_on lines) pairs (Going line rest)
+      → (Follows (going_on lines) pairs (Going line rest) → (place : ℕ) × (slice_get lines place ≡ Some line)) → (place : ℕ) × (slice_get (l ∷ lines) place ≡ Some line)
+    go true f later = absurd (over-stays (outcomes.Stuck l.number) pairs line rest f)
+    go false f later = let found = later f in (suc found.0, found.1)
+
+pub find-there : {A : Type 0} (p : A → Bool) (xs : List A) (x : A) → find p xs ≡ Some x → (k : ℕ) × (slice_get xs k ≡ Some x)
+find-there p [] x h = absurd (let no : ⊥ = cc in no)
+find-there {A} p (y ∷ xs) x h = go (p y) h (λ e. find-there p xs x e)
+  where
+    go : (b : Bool) → (if b then Some y else find p xs) ≡ Some x → (find p xs ≡ Some x → (k : ℕ) × (slice_get xs k ≡ Some x)) → (k : ℕ) × (slice_get (y ∷ xs) k ≡ Some x)
+    go true e later = (0, e)
+    go false e later = let rest = later e in (suc rest.0, rest.1)
+
+-- How far the run of a caller has come, in a history.
+
+-- it was stopped before a line, since its rank had no room after the history that all its calls stand in
+pub record WasStopped (w : World) (journal : List Event) (c : CallerId) (lines : List ScriptLine) (outcome : RunOutcome) : Type 0 where
+  pub line : ScriptLine
+  pub rest : List ScriptLine
+  pub follows : Follows (going_on lines) (own_calls c.rank c.thread journal) (Going line rest)
+  pub limit : outcome ≡ outcomes.Limit line.number
+  pub before : List Event
+  pub later : List Event
+  pub begins : before ++ later ≡ journal
+  pub calls : own_calls c.rank c.thread before ≡ own_calls c.rank c.thread journal
+  pub state : State
+  pub leads : reached w before ≡ Ok state
+  pub full : w.limits.events < room_taken state c.rank + need_of line.call false false
+
+abbrev pub HasCome : World → List Event → CallerId → List ScriptLine → Progress → Type 0
+HasCome w journal c lines p =
+    Follows (going_on lines) (own_calls c.rank c.thread journal) p ⊎ ((outcome : RunOutcome) × (p ≡ Over outcome) × WasStopped w journal c lines outcome)
+
+pub record Goes (w : World) (scripts : List Script) (journal : List Event) (x : Waiting) : Type 0 where
+  pub script : Script
+  pub is_script : find (is_script_of x.caller) scripts ≡ Some script
+  pub come : HasCome w journal x.caller script.lines x.cursor
+
+-- what each turn keeps of the callers
+pub record IsRunning (w : World) (scripts : List Script) (t : Turns) : Type 0 where
+  pub active : (place : ℕ) (x : Waiting) → slice_get t.waiting place ≡ Some x → is_active t.state x.caller.rank x.caller.thread ≡ true
+  pub goes : (place : ℕ) (x : Waiting) → slice_get t.waiting place ≡ Some x → Goes w scripts t.journal x
+  pub ended : (place : ℕ) (f : Finished) → slice_get t.finished place ≡ Some f → HasEnded w scripts t.journal f
+  pub counted : (rank thread : ℕ) → waiting_count rank thread t.waiting + finished_count rank thread t.finished ≡ count_by (λ (s : Script). is_caller rank thread s.caller) scripts
+  pub once : (rank thread : ℕ) → count_by (λ (s : Script). is_caller rank thread s.caller) scripts ≤ 1
+
+-- An event that is not a caller's own leaves what was said of it.
+
+pub stopped-more : (w : World) (journal : List Event) (e : Event) (c : CallerId) (lines : List ScriptLine) (outcome : RunOutcome) → own_of c.rank c.thread e ≡ []
+    → WasStopped w journal c lines outcome → WasStopped w (journal ++ e ∷ []) c lines outcome
+stopped-more w journal e c lines outcome foreign s =
+    let same : own_calls c.rank c.thread (journal ++ e ∷ []) ≡ own_calls c.rank c.thread journal = own_calls-append c.rank c.thread journal (e ∷ []) ∙ rw foreign (append-nil _) in
+    record {
+      line = s.line; rest = s.rest;
+      follows = subst (λ (ps : List (Call × Reply)). Follows (going_on lines) ps (Going s.line s.rest)) (sym same) s.follows;
+      limit = s.limit; before = s.before; later = s.later ++ e ∷ [];
+      begins = sym (append_assoc s.before s.later (e ∷ [])) ∙ ap (λ (h : List Event). h ++ e ∷ []) s.begins;
+      calls = s.calls ∙ sym same;
+      state = s.state; leads = s.leads; full = s.full;
+    }
+
+pub come-more : (w : World) (journal : List Event) (e : Event) (c : CallerId) (lines : List ScriptLine) (p : Progress) → own_of c.rank c.thread e ≡ []
+    → HasCome w journal c lines p → HasCome w (journal ++ e ∷ []) c lines p
+come-more w journal e c lines p foreign (inl follows) =
+    let same : own_calls c.rank c.thread (journal ++ e ∷ []) ≡ own_calls c.rank c.thread journal = own_calls-append c.rank c.thread journal (e ∷ []) ∙ rw foreign (append-nil _) in
+    inl (subst (λ (ps : List (Call × Reply)). Follows (going_on lines) ps p) (sym same) follows)
+come-more w journal e c lines p foreign (inr stopped) = inr (stopped.0, stopped.1, stopped-more w journal e c lines stopped.0 foreign stopped.2)
+
+limit-more : (w : World) (journal : List Event) (e : Event) (c : CallerId) (lines : List ScriptLine) (outcome : RunOutcome) → own_of c.rank c.thread e ≡ []
+    → HasLimitCause w journal c lines outcome → HasLimitCause w (journal ++ e ∷ []) c lines outcome
+limit-more w journal e c lines outcomes.Ended foreign h = tt
+limit-more w journal e c lines (outcomes.Stuck number) foreign h = tt
+limit-more w journal e c lines (outcomes.NoMemory number) foreign h = h
+limit-more w journal e c lines (outcomes.Limit number) foreign h =
+    let same : own_calls c.rank c.thread (journal ++ e ∷ []) ≡ own_calls c.rank c.thread journal = own_calls-append c.rank c.thread journal (e ∷ []) ∙ rw foreign (append-nil _) in
+    let r = h.4 in
+    (h.0, h.1, h.2, h.3, record {
+      before = r.before; later = r.later ++ e ∷ [];
+      begins = sym (append_assoc r.before r.later (e ∷ [])) ∙ ap (λ (x : List Event). x ++ e ∷ []) r.begins;
+      calls = r.calls ∙ sym same;
+      state = r.state; leads = r.leads; full = r.full;
+    })
+
+pub ended-more : (w : World) (scripts : List Script) (journal : List Event) (e : Event) (f : Finished) → own_of f.caller.rank f.caller.thread e ≡ []
+    → HasEnded w scripts journal f → HasEnded w scripts (journal ++ e ∷ []) f
+ended-more w scripts journal e f foreign h =
+    let same : own_calls f.caller.rank f.caller.thread (journal ++ e ∷ []) ≡ own_calls f.caller.rank f.caller.thread journal = own_calls-append f.caller.rank f.caller.thread journal (e ∷ []) ∙ rw foreign (append-nil _) in
+    record {
+      script = h.script; is_script = h.is_script;
+      run = subst (λ (ps : List (Call × Reply)). IsRun h.script.lines ps f.outcome) (sym same) h.run;
+      limit = limit-more w journal e f.caller h.script.lines f.outcome foreign h.limit;
+    }
+
+-- what stands in a table after a change: at the place what was set, at another what was there
+pub set-cases : {A : Type 0} (xs : List A) (i j : ℕ) (x y z : A) → slice_get xs i ≡ Some x → slice_get (slice_set xs i y) j ≡ Some z
+    → ((j ≡ i) × (z ≡ y)) ⊎ ((i ≡ j → ⊥) × (slice_get xs j ≡ Some z))
+set-cases {A} xs i j x y z at h = go (i == j) refl
+  where
+    go : (b : Bool) → (i == j) ≡ b → ((j ≡ i) × (z ≡ y)) ⊎ ((i ≡ j → ⊥) × (slice_get xs j ≡ Some z))
+    go true is =
+        let same = eqb-true i j is in
+        let set : ◌≡◌ {A = Option A} (Some y) (Some z) = sym (subst (λ (n : ℕ). slice_get (slice_set xs i y) n ≡ Some y) same (slice_get-set_same xs i x y at)) ∙ h in
+        inl (sym same, (let one : y ≡ z = cc in sym one))
+    go false is =
+        let apart : i ≡ j → ⊥ = λ e. eqb-false i j is e in
+        inr (apart, sym (slice_get-set_other xs i j y apart) ∙ h)

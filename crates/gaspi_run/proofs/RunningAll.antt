@@ -1,0 +1,214 @@
+-- Every turn of the schedule keeps that the callers' calls are runs of their scripts.
+use Rattle.std.proofs.Common.{◌≡◌, ℕ, zero, suc, ◌+◌, ◌-◌, ◌<◌, ◌≤◌, Bool, true, false, List, [], ◌∷◌, ◌++◌, length, Option, None, Some, Result, Ok, Err, refl, sym, ap, ◌∙◌, subst, arith, nat_lt, nat_le, ◌==◌, remove, IsOk, ◌⊎◌, inl, inr, append-nil, if◌then◌else◌}
+use Rattle.std.specs.List.{slice_get, slice_set}
+use Rattle.std.proofs.lemmas.Bool.{ltb-true, ltb-false}
+use Rattle.gaspi_types.specs.World.{World}
+use Rattle.gaspi_types.specs.Need.{need_of}
+use Rattle.gaspi_types.specs.declared.calls.Call.{Call}
+use Rattle.gaspi_types.specs.declared.calls.Call.TheVariants.{End}
+use Rattle.gaspi_types.specs.declared.replies.Reply.{Reply}
+use Rattle.gaspi_types.specs.declared.replies.Reply.TheVariants as replies
+use Rattle.gaspi_types.specs.declared.replies.Ready.{Ready}
+use Rattle.gaspi_types.specs.declared.replies.Ready.TheVariants as ready
+use Rattle.gaspi_types.specs.declared.events.Event.{Event}
+use Rattle.gaspi_types.specs.declared.events.Event.TheVariants.{Called, Take, Put}
+use Rattle.gaspi_types.specs.declared.events.Outcome.{Outcome}
+use Rattle.gaspi_types.specs.declared.events.Transfer.{Transfer}
+use Rattle.gaspi_model.specs.State.{owed, thread_at, is_running}
+use Rattle.gaspi_model.specs.Calls.{recorded_reply, answer}
+use Rattle.gaspi_model.specs.Sound.{IsSound}
+use Rattle.gaspi_model.specs.Step.{step, reached, transfer_event, answer_in, room_taken, own_calls, is_active, is_end, ends_caller}
+use Rattle.gaspi_model.specs.Transfers.{transfers}
+use Rattle.gaspi_model.specs.declared.states.Posts.{Posts}
+use Rattle.gaspi_model.specs.declared.states.Memory.{Memory}
+use Rattle.gaspi_model.specs.declared.states.State.{State}
+use Rattle.gaspi_model.specs.declared.states.Why.{Why}
+use Rattle.gaspi_model.proofs.Tables.{past-none}
+use Rattle.rank_script.specs.Runs.{Progress, Going, Over, going_on, advanced, stopped, Follows}
+use Rattle.rank_script.specs.declared.scripts.Halted.TheVariants as halts
+use Rattle.rank_script.specs.declared.scripts.Script.{Script}
+use Rattle.rank_script.specs.declared.scripts.ScriptLine.{ScriptLine}
+use Rattle.rank_script.specs.declared.scripts.RunOutcome.{RunOutcome}
+use Rattle.rank_script.specs.declared.scripts.RunOutcome.TheVariants as outcomes
+use Rattle.gaspi_run.specs.declared.turns.Finished.{Finished}
+use Rattle.gaspi_run.specs.Generator.{drawn, picked}
+use Rattle.gaspi_run.specs.Schedule.{made, looks_of, with_waiting, recorded, looked, answered, going_turn, ending_turn, progress_turn, caller_turn, candidate_turn, candidates, with_draw, turn, turns, ArePlain}
+use Rattle.gaspi_run.specs.declared.turns.Waiting.{Waiting}
+use Rattle.gaspi_run.specs.declared.turns.Turns.{Turns}
+use Rattle.gaspi_run.proofs.Work.{answer-some}
+use Rattle.gaspi_run.proofs.Good.{IsGood, Steps, LimitsStay, good-turn}
+use Rattle.gaspi_run.proofs.Running.{IsRunning, Goes, HasCome, WasStopped, own_of, line-there, find-there}
+use Rattle.gaspi_run.proofs.RunningTurns.{ActiveStays, Onward, foreign-step, waiting-changed, called-step}
+use Rattle.gaspi_run.proofs.RunningEnds.{EndsRun, StopsRun, ending-step}
+
+-- a call of an active caller, with the reply that it has, is a step where there is room
+abbrev pub CallsAreSteps : Type 0
+CallsAreSteps = (s : State) (rank thread : ℕ) (call : Call) (ready : Ready) → IsSound s → is_active s rank thread ≡ true
+    → room_taken s rank + need_of call false false ≤ s.limits.events → answer_in s rank thread call ≡ Some ready
+    → IsOk (step s (Called (record { rank = rank; thread = thread }) call (recorded_reply ready)))
+
+-- the laws that the turns rest on
+pub record Laws : Type 0 where
+  pub steps : Steps
+  pub stay : LimitsStay
+  pub active : ActiveStays
+  pub calls : CallsAreSteps
+  pub onward : Onward
+  pub ends : EndsRun
+  pub stops : StopsRun
+
+-- the present line of a caller is one of its script, and makes no end
+plain-line : (w : World) (scripts : List Script) (journal : List Event) (x : Waiting) (line : ScriptLine) (lines : List ScriptLine) → ArePlain scripts → Goes w scripts journal x → x.cursor ≡ Going line lines → is_end line.call ≡ false
+plain-line w scripts journal x line lines plain g going = by-come g.come
+  where
+    by-come : HasCome w journal x.caller g.script.lines x.cursor → is_end line.call ≡ false
+    by-come (inl f) =
+        let follows = subst (λ (p : Progress). Follows (going_on g.script.lines) (own_calls x.caller.rank x.caller.thread journal) p) going f in
+        let there = line-there g.script.lines (own_calls x.caller.rank x.caller.thread journal) line lines follows in
+        let script = find-there _ scripts g.script g.is_script in
+        plain script.0 g.script script.1 there.0 line there.1
+    by-come (inr stopped) = absurd (let over : ◌≡◌ {A = Progress} (Going line lines) (Over stopped.0) = sym going ∙ stopped.1 in let no : ⊥ = cc in no)
+
+ok-state : (r : Result State Why) → IsOk r → (s : State) × (r ≡ Ok s)
+ok-state (Ok s) h = (s, refl)
+ok-state (Err why) h = absurd (let no : ⊥ = cc in no)
+
+-- a reply recorded
+recorded-running : Laws → (w : World) (scripts : List Script) (t : Turns) (place : ℕ) (x : Waiting) (line : ScriptLine) (lines : List ScriptLine) (found : Ready) → ArePlain scripts → IsGood w t → IsRunning w scripts t
+    → slice_get t.waiting place ≡ Some x → x.cursor ≡ Going line lines → room_taken t.state x.caller.rank + need_of line.call false false ≤ t.state.limits.events
+    → answer_in t.state x.caller.rank x.caller.thread line.call ≡ Some found → IsRunning w scripts (recorded t place x line.call (recorded_reply found))
+recorded-running laws w scripts t place x line lines found plain good running at going room answers =
+    let ok = ok-state (step t.state (Called x.caller line.call (recorded_reply found))) (laws.calls t.state x.caller.rank x.caller.thread line.call found good.sound (running.active place x at) room answers) in
+    let made = called-step laws.active laws.onward w scripts t place x line lines (recorded_reply found) ok.0 running at going (plain-line w scripts t.journal x line lines plain (running.goes place x at) going) ok.1 in
+    rw ok.1 made
+
+looked-running : Laws → (limit : ℕ) (w : World) (scripts : List Script) (t : Turns) (place : ℕ) (x : Waiting) (line : ScriptLine) (lines : List ScriptLine) → ArePlain scripts → IsGood w t → IsRunning w scripts t
+    → slice_get t.waiting place ≡ Some x → x.cursor ≡ Going line lines → room_taken t.state x.caller.rank + need_of line.call false false ≤ t.state.limits.events
+    → answer_in t.state x.caller.rank x.caller.thread line.call ≡ Some ready.NotReady → IsRunning w scripts (looked limit t place x line)
+looked-running laws limit w scripts t place x line lines plain good running at going room answers = go (nat_le (looks_of limit line.timeout) (x.looks + 1)) refl
+  where
+    go : (b : Bool) → nat_le (looks_of limit line.timeout) (x.looks + 1) ≡ b → IsRunning w scripts (looked limit t place x line)
+    go true last = rw last (recorded-running laws w scripts t place x line lines ready.NotReady plain good running at going room answers)
+    go false more =
+        let x' : Waiting = record { caller = x.caller; cursor = x.cursor; looks = x.looks + 1 } in
+        let g = running.goes place x at in
+        rw more (waiting-changed w scripts t place x x' running at refl (record { script = g.script; is_script = g.is_script; come = g.come }))
+
+answered-running : Laws → (limit : ℕ) (w : World) (scripts : List Script) (t : Turns) (place : ℕ) (x : Waiting) (line : ScriptLine) (lines : List ScriptLine) (found : Option Ready) → ArePlain scripts → IsGood w t → IsRunning w scripts t
+    → slice_get t.waiting place ≡ Some x → x.cursor ≡ Going line lines → room_taken t.state x.caller.rank + need_of line.call false false ≤ t.state.limits.events
+    → answer_in t.state x.caller.rank x.caller.thread line.call ≡ found → IsRunning w scripts (answered limit t place x line found)
+answered-running laws limit w scripts t place x line lines None plain good running at going room answers = running
+answered-running laws limit w scripts t place x line lines (Some (ready.Reply reply)) plain good running at going room answers =
+    recorded-running laws w scripts t place x line lines (ready.Reply reply) plain good running at going room answers
+answered-running laws limit w scripts t place x line lines (Some ready.NotReady) plain good running at going room answers =
+    looked-running laws limit w scripts t place x line lines plain good running at going room answers
+
+-- a run that is stopped, since there is no room
+stopped-goes : (w : World) (scripts : List Script) (t : Turns) (x : Waiting) (line : ScriptLine) (lines : List ScriptLine) → IsGood w t → Goes w scripts t.journal x → x.cursor ≡ Going line lines
+    → t.state.limits.events < room_taken t.state x.caller.rank + need_of line.call false false
+    → Goes w scripts t.journal (record { caller = x.caller; cursor = stopped x.cursor halts.Limit; looks = 0 })
+stopped-goes w scripts t x line lines good g going full = record {
+  script = g.script; is_script = g.is_script;
+  come = inr (outcomes.Limit line.number, ap (λ (p : Progress). stopped p halts.Limit) going, record {
+    line = line; rest = lines; follows = follows g.come; limit = refl;
+    before = t.journal; later = []; begins = append-nil t.journal; calls = refl;
+    state = t.state; leads = good.legal;
+    full = subst (λ (n : ℕ). n < room_taken t.state x.caller.rank + need_of line.call false false) (ap (λ (l : Rattle.gaspi_types.specs.declared.shapes.Limits.Limits). l.events) good.limits) full;
+  });
+}
+  where
+    follows : HasCome w t.journal x.caller g.script.lines x.cursor → Follows (going_on g.script.lines) (own_calls x.caller.rank x.caller.thread t.journal) (Going line lines)
+    follows (inl f) = subst (λ (p : Progress). Follows (going_on g.script.lines) (own_calls x.caller.rank x.caller.thread t.journal) p) going f
+    follows (inr stopped) = absurd (let over : ◌≡◌ {A = Progress} (Going line lines) (Over stopped.0) = sym going ∙ stopped.1 in let no : ⊥ = cc in no)
+
+going-running : Laws → (limit : ℕ) (w : World) (scripts : List Script) (t : Turns) (place : ℕ) (x : Waiting) (line : ScriptLine) (lines : List ScriptLine) → ArePlain scripts → IsGood w t → IsRunning w scripts t
+    → slice_get t.waiting place ≡ Some x → x.cursor ≡ Going line lines → IsRunning w scripts (going_turn limit t place x line)
+going-running laws limit w scripts t place x line lines plain good running at going = go (nat_lt t.state.limits.events (room_taken t.state x.caller.rank + need_of line.call false false)) refl
+  where
+    go : (b : Bool) → nat_lt t.state.limits.events (room_taken t.state x.caller.rank + need_of line.call false false) ≡ b → IsRunning w scripts (going_turn limit t place x line)
+    go true full =
+        let x' : Waiting = record { caller = x.caller; cursor = stopped x.cursor halts.Limit; looks = 0 } in
+        rw full (waiting-changed w scripts t place x x' running at refl
+            (stopped-goes w scripts t x line lines good (running.goes place x at) going (ltb-true t.state.limits.events (room_taken t.state x.caller.rank + need_of line.call false false) full)))
+    go false room =
+        let fits = ltb-false t.state.limits.events (room_taken t.state x.caller.rank + need_of line.call false false) room in
+        rw room (answered-running laws limit w scripts t place x line lines (answer_in t.state x.caller.rank x.caller.thread line.call) plain good running at going fits refl)
+
+-- an active caller's end is answered
+end-answer : (s : State) (rank thread : ℕ) → IsSound s → rank < s.limits.ranks → is_active s rank thread ≡ true → answer_in s rank thread End ≡ Some (ready.Reply replies.Done)
+end-answer s rank thread sound within active = go (slice_get s.posts rank) (slice_get s.memories rank) refl refl
+  where
+    go : (p : Option Posts) (m : Option Memory) → slice_get s.posts rank ≡ p → slice_get s.memories rank ≡ m → answer_in s rank thread End ≡ Some (ready.Reply replies.Done)
+    go None m hp hm = absurd (past-none s.posts rank (let same = sound.ranks in omega arith) hp)
+    go (Some posts) None hp hm = absurd (past-none s.memories rank (let same = sound.memories in omega arith) hm)
+    go (Some posts) (Some memory) hp hm =
+        let running : is_running (thread_at posts thread) ≡ true = rw hp at active in
+        rw (hp, hm, running) refl
+
+room-end : (s : State) (rank : ℕ) → IsSound s → room_taken s rank + need_of End false false ≤ s.limits.events
+room-end s rank sound = go (slice_get s.posts rank) refl
+  where
+    go : (p : Option Posts) → slice_get s.posts rank ≡ p → room_taken s rank + need_of End false false ≤ s.limits.events
+    go None hp = rw hp (omega arith)
+    go (Some posts) hp = rw hp (let room = (sound.posts rank posts hp).room in omega arith)
+
+ending-running : Laws → (w : World) (scripts : List Script) (t : Turns) (place : ℕ) (x : Waiting) (outcome : RunOutcome) → IsGood w t → IsRunning w scripts t
+    → slice_get t.waiting place ≡ Some x → x.cursor ≡ Over outcome → IsRunning w scripts (ending_turn t place x outcome)
+ending-running laws w scripts t place x outcome good running at over =
+    let within : x.caller.rank < t.state.limits.ranks = subst (λ (l : Rattle.gaspi_types.specs.declared.shapes.Limits.Limits). x.caller.rank < l.ranks) (sym good.limits) (good.ranked place x at) in
+    let active = running.active place x at in
+    let answers = end-answer t.state x.caller.rank x.caller.thread good.sound within active in
+    let ok = ok-state (step t.state (Called x.caller End replies.Done)) (laws.calls t.state x.caller.rank x.caller.thread End (ready.Reply replies.Done) good.sound active (room-end t.state x.caller.rank good.sound) answers) in
+    let made = ending-step laws.active laws.ends laws.stops w scripts t place x outcome ok.0 running at over ok.1 in
+    rw ok.1 made
+
+caller-running : Laws → (limit : ℕ) (w : World) (scripts : List Script) (t : Turns) (place : ℕ) (x : Waiting) → ArePlain scripts → IsGood w t → IsRunning w scripts t → slice_get t.waiting place ≡ Some x
+    → IsRunning w scripts (caller_turn limit t place x)
+caller-running laws limit w scripts t place x plain good running at = go x.cursor refl
+  where
+    go : (p : Progress) → x.cursor ≡ p → IsRunning w scripts (caller_turn limit t place x)
+    go (Going line lines) is =
+        subst (λ (u : Turns). IsRunning w scripts u) (sym (ap (λ (p : Progress). progress_turn limit t place x p) is)) (going-running laws limit w scripts t place x line lines plain good running at is)
+    go (Over outcome) is =
+        subst (λ (u : Turns). IsRunning w scripts u) (sym (ap (λ (p : Progress). progress_turn limit t place x p) is)) (ending-running laws w scripts t place x outcome good running at is)
+
+-- a transfer is no caller's event
+transfer-running : Laws → (w : World) (scripts : List Script) (t : Turns) (transfer : Transfer) → IsRunning w scripts t → IsRunning w scripts (made t (transfer_event t.state transfer))
+transfer-running laws w scripts t transfer running = go (step t.state (transfer_event t.state transfer)) refl
+  where
+    foreign : (b : Bool) (put take : Event) → ((rank thread : ℕ) → own_of rank thread put ≡ []) → ((rank thread : ℕ) → own_of rank thread take ≡ []) → (rank thread : ℕ) → own_of rank thread (if b then put else take) ≡ []
+    foreign true put take p q rank thread = p rank thread
+    foreign false put take p q rank thread = q rank thread
+    ends : (b : Bool) (put take : Event) → ((rank thread : ℕ) → ends_caller rank thread put ≡ false) → ((rank thread : ℕ) → ends_caller rank thread take ≡ false) → (rank thread : ℕ) → ends_caller rank thread (if b then put else take) ≡ false
+    ends true put take p q rank thread = p rank thread
+    ends false put take p q rank thread = q rank thread
+    go : (r : Result State Why) → step t.state (transfer_event t.state transfer) ≡ r → IsRunning w scripts (made t (transfer_event t.state transfer))
+    go (Err why) is = rw is running
+    go (Ok s) is = rw is (foreign-step laws.active w scripts t (transfer_event t.state transfer) s running is
+        (foreign transfer.put _ _ (λ rank thread. refl) (λ rank thread. refl)) (ends transfer.put _ _ (λ rank thread. refl) (λ rank thread. refl)))
+
+candidate-running : Laws → (limit : ℕ) (w : World) (scripts : List Script) (t : Turns) (candidate : ℕ) → ArePlain scripts → IsGood w t → IsRunning w scripts t → IsRunning w scripts (candidate_turn limit t candidate)
+candidate-running laws limit w scripts t candidate plain good running = of-caller (slice_get t.waiting candidate) refl
+  where
+    of-transfer : (o : Option Transfer) → slice_get t.waiting candidate ≡ None → slice_get (transfers t.state.limits t.state.posts) (candidate - length t.waiting) ≡ o → IsRunning w scripts (candidate_turn limit t candidate)
+    of-transfer None past none = rw (past, none) running
+    of-transfer (Some transfer) past at = rw (past, at) (transfer-running laws w scripts t transfer running)
+    of-caller : (o : Option Waiting) → slice_get t.waiting candidate ≡ o → IsRunning w scripts (candidate_turn limit t candidate)
+    of-caller (Some x) at = rw at (caller-running laws limit w scripts t candidate x plain good running at)
+    of-caller None past = of-transfer (slice_get (transfers t.state.limits t.state.posts) (candidate - length t.waiting)) past refl
+
+pub running-turn : Laws → (limit : ℕ) (w : World) (scripts : List Script) (t : Turns) → ArePlain scripts → IsGood w t → IsRunning w scripts t → IsRunning w scripts (turn limit t)
+running-turn laws limit w scripts t plain good running = go (candidates t == 0) refl
+  where
+    good-draw : IsGood w (with_draw t)
+    good-draw = record { legal = good.legal; sound = good.sound; limits = good.limits; ranked = good.ranked }
+    draw : IsRunning w scripts (with_draw t)
+    draw = record { active = running.active; goes = running.goes; ended = running.ended; counted = running.counted; once = running.once }
+    go : (b : Bool) → (candidates t == 0) ≡ b → IsRunning w scripts (turn limit t)
+    go true over = rw over running
+    go false some = rw some (candidate-running laws limit w scripts (with_draw t) (picked (drawn t.x) (candidates t)) plain good-draw draw)
+
+pub running-turns : Laws → (limit n : ℕ) (w : World) (scripts : List Script) (t : Turns) → ArePlain scripts → IsGood w t → IsRunning w scripts t → IsRunning w scripts (turns limit n t)
+running-turns laws limit zero w scripts t plain good running = running
+running-turns laws limit (suc n) w scripts t plain good running =
+    running-turns laws limit n w scripts (turn limit t) plain (good-turn laws.steps laws.stay limit w t good) (running-turn laws limit w scripts t plain good running)

@@ -1,0 +1,138 @@
+-- The end of a caller keeps that the callers' calls are runs of their scripts.
+use Rattle.std.proofs.Common.{◌≡◌, ℕ, zero, suc, ◌+◌, ◌-◌, ◌<◌, ◌≤◌, Bool, true, false, ◌&&◌, List, [], ◌∷◌, ◌++◌, length, Option, None, Some, Result, Ok, Err, refl, sym, ap, ◌∙◌, subst, arith, remove, ◌⊎◌, inl, inr, find, cond, count_by, if◌then◌else◌, append_assoc}
+use Rattle.std.specs.List.{slice_get, slice_set, sum_by}
+use Rattle.std.proofs.lemmas.List.Sums.{sum_by-remove, sum_by_push}
+use Rattle.std.proofs.lemmas.Option.{slice_get_within, get_or_from_slice_get}
+use Rattle.gaspi_types.specs.World.{World, is_caller}
+use Rattle.gaspi_types.specs.Need.{need_of}
+use Rattle.gaspi_types.specs.declared.shapes.CallerId.{CallerId}
+use Rattle.gaspi_types.specs.declared.calls.Call.{Call}
+use Rattle.gaspi_types.specs.declared.calls.Call.TheVariants.{End}
+use Rattle.gaspi_types.specs.declared.replies.Reply.{Reply}
+use Rattle.gaspi_types.specs.declared.replies.Reply.TheVariants as replies
+use Rattle.gaspi_types.specs.declared.events.Event.{Event}
+use Rattle.gaspi_types.specs.declared.events.Event.TheVariants.{Called}
+use Rattle.gaspi_model.specs.Step.{step, reached, room_taken, own_calls, is_active, ends_caller}
+use Rattle.gaspi_model.specs.declared.states.State.{State}
+use Rattle.gaspi_model.proofs.Tables.{append-parts}
+use Rattle.rank_script.specs.Runs.{Progress, Going, Over, going_on, advanced, is_stuck, Follows, IsRun, IsStopped, end_pair}
+use Rattle.rank_script.specs.WorldText.{is_script_of}
+use Rattle.rank_script.specs.declared.scripts.Script.{Script}
+use Rattle.rank_script.specs.declared.scripts.ScriptLine.{ScriptLine}
+use Rattle.rank_script.specs.declared.scripts.RunOutcome.{RunOutcome}
+use Rattle.rank_script.specs.declared.scripts.RunOutcome.TheVariants as outcomes
+use Rattle.gaspi_run.specs.declared.turns.Finished.{Finished}
+use Rattle.gaspi_run.specs.Schedule.{HadNoRoom, HasLimitCause, HasEnded}
+use Rattle.gaspi_run.specs.declared.turns.Waiting.{Waiting}
+use Rattle.gaspi_run.specs.declared.turns.Turns.{Turns}
+use Rattle.gaspi_run.proofs.Running.{IsRunning, Goes, HasCome, WasStopped, waiting_count, finished_count, line-there, come-more, ended-more, own-other}
+use Rattle.gaspi_run.proofs.RunningTurns.{ActiveStays, apart-waiting, apart-finished, own-more}
+
+abbrev pub EndsRun : Type 0
+EndsRun = (lines : List ScriptLine) (pairs : List (Call × Reply)) (outcome : RunOutcome) → Follows (going_on lines) pairs (Over outcome) → IsRun lines (pairs ++ end_pair) outcome
+
+abbrev pub StopsRun : Type 0
+StopsRun = (lines : List ScriptLine) (pairs : List (Call × Reply)) (line : ScriptLine) (rest : List ScriptLine) (outcome : RunOutcome)
+    → Follows (going_on lines) pairs (Going line rest) → IsStopped line.number outcome → IsRun lines (pairs ++ end_pair) outcome
+
+-- what stands in a list with an item taken out stood in it, at another place
+remove-apart : {A : Type 0} (xs : List A) (i j : ℕ) (y : A) → slice_get (remove xs i) j ≡ Some y → (k : ℕ) × (i ≡ k → ⊥) × (slice_get xs k ≡ Some y)
+remove-apart [] zero j y at = absurd (let no : ⊥ = cc in no)
+remove-apart [] (suc i) j y at = absurd (let no : ⊥ = cc in no)
+remove-apart (x ∷ xs) zero j y at = (suc j, (λ e. omega (arith, e)), at)
+remove-apart (x ∷ xs) (suc i) zero y at = (0, (λ e. omega (arith, e)), at)
+remove-apart (x ∷ xs) (suc i) (suc j) y at = let rest = remove-apart xs i j y at in (suc rest.0, (λ e. rest.1 (omega (arith, e))), rest.2)
+
+-- a run that pairs alone led to its end was not stopped
+over-cause : (w : World) (journal : List Event) (c : CallerId) (all : List ScriptLine) (made outcome : RunOutcome) (pairs : List (Call × Reply)) → HasLimitCause w journal c all made → Follows (Over made) pairs (Over outcome) → HasLimitCause w journal c all outcome
+over-cause w journal c all made outcome [] cause follows = let same : outcome ≡ made = cc in subst (λ (o : RunOutcome). HasLimitCause w journal c all o) (sym same) cause
+over-cause w journal c all made outcome (pair ∷ pairs) cause follows = absurd follows
+
+follows-cause : (w : World) (journal : List Event) (c : CallerId) (all lines : List ScriptLine) (pairs : List (Call × Reply)) (outcome : RunOutcome) → Follows (going_on lines) pairs (Over outcome) → HasLimitCause w journal c all outcome
+follows-cause w journal c all [] pairs outcome follows = over-cause w journal c all outcomes.Ended outcome pairs tt follows
+follows-cause w journal c all (l ∷ lines) [] outcome follows = absurd (let no : ⊥ = cc in no)
+follows-cause w journal c all (l ∷ lines) (pair ∷ pairs) outcome follows = go (is_stuck l pair.1) follows.1 (λ f. follows-cause w journal c all lines pairs outcome f)
+  where
+    go : (b : Bool) → Follows (if b then Over (outcomes.Stuck l.number) else going_on lines) pairs (Over outcome) → (Follows (going_on lines) pairs (Over outcome) → HasLimitCause w journal c all outcome)
+      → HasLimitCause w journal c all outcome
+    go true f later = over-cause w journal c all (outcomes.Stuck l.number) outcome pairs tt f
+    go false f later = later f
+
+-- how a caller has ended
+ended-of : EndsRun → StopsRun → (w : World) (scripts : List Script) (journal : List Event) (x : Waiting) (outcome : RunOutcome) → x.cursor ≡ Over outcome → Goes w scripts journal x
+    → HasEnded w scripts (journal ++ Called x.caller End replies.Done ∷ []) (record { caller = x.caller; outcome = outcome })
+ended-of ends stops w scripts journal x outcome over g = by-come g.come
+  where
+    pairs-is : own_calls x.caller.rank x.caller.thread (journal ++ Called x.caller End replies.Done ∷ []) ≡ own_calls x.caller.rank x.caller.thread journal ++ end_pair
+    pairs-is = own-more w journal x.caller End replies.Done
+    by-come : HasCome w journal x.caller g.script.lines x.cursor → HasEnded w scripts (journal ++ Called x.caller End replies.Done ∷ []) (record { caller = x.caller; outcome = outcome })
+    by-come (inl f) =
+        let follows = subst (λ (p : Progress). Follows (going_on g.script.lines) (own_calls x.caller.rank x.caller.thread journal) p) over f in
+        record {
+          script = g.script; is_script = g.is_script;
+          run = subst (λ (ps : List (Call × Reply)). IsRun g.script.lines ps outcome) (sym pairs-is) (ends g.script.lines (own_calls x.caller.rank x.caller.thread journal) outcome follows);
+          limit = follows-cause w (journal ++ Called x.caller End replies.Done ∷ []) x.caller g.script.lines g.script.lines (own_calls x.caller.rank x.caller.thread journal) outcome follows;
+        }
+    by-come (inr stopped) =
+        let s = stopped.2 in
+        let two : ◌≡◌ {A = Progress} (Over outcome) (Over stopped.0) = sym over ∙ stopped.1 in
+        let same : outcome ≡ stopped.0 = cc in
+        let limit : outcome ≡ outcomes.Limit s.line.number = same ∙ s.limit in
+        let there = line-there g.script.lines (own_calls x.caller.rank x.caller.thread journal) s.line s.rest s.follows in
+        let cause : HasLimitCause w (journal ++ Called x.caller End replies.Done ∷ []) x.caller g.script.lines (outcomes.Limit s.line.number) =
+            (there.0, s.line, there.1, refl, record {
+              before = s.before; later = s.later ++ Called x.caller End replies.Done ∷ [];
+              begins = sym (append_assoc s.before s.later (Called x.caller End replies.Done ∷ [])) ∙ ap (λ (h : List Event). h ++ Called x.caller End replies.Done ∷ []) s.begins;
+              calls = ap (λ (ps : List (Call × Reply)). ps ++ end_pair) s.calls ∙ sym pairs-is;
+              state = s.state; leads = s.leads; full = s.full;
+            }) in
+        record {
+          script = g.script; is_script = g.is_script;
+          run = subst (λ (ps : List (Call × Reply)). IsRun g.script.lines ps outcome) (sym pairs-is)
+            (stops g.script.lines (own_calls x.caller.rank x.caller.thread journal) s.line s.rest outcome s.follows (inl limit));
+          limit = subst (λ (o : RunOutcome). HasLimitCause w (journal ++ Called x.caller End replies.Done ∷ []) x.caller g.script.lines o) (sym limit) cause;
+        }
+
+-- the end of a caller, made
+pub ending-step : ActiveStays → EndsRun → StopsRun → (w : World) (scripts : List Script) (t : Turns) (place : ℕ) (x : Waiting) (outcome : RunOutcome) (s : State)
+    → IsRunning w scripts t → slice_get t.waiting place ≡ Some x → x.cursor ≡ Over outcome → step t.state (Called x.caller End replies.Done) ≡ Ok s
+    → IsRunning w scripts (record t { state = s; waiting = remove t.waiting place; finished = t.finished ++ record { caller = x.caller; outcome = outcome } ∷ []; journal = t.journal ++ Called x.caller End replies.Done ∷ [] })
+ending-step stays ends stops w scripts t place x outcome s running at over is = record {
+  active = λ q y here. active-at y (remove-apart t.waiting place q y here);
+  goes = λ q y here. goes-at y (remove-apart t.waiting place q y here);
+  ended = λ k f here. ended-at f (append-parts t.finished (record { caller = x.caller; outcome = outcome } ∷ []) k f here);
+  counted = counts;
+  once = running.once;
+}
+  where
+    foreign : (rank thread : ℕ) → is_caller rank thread x.caller ≡ false → ends_caller rank thread (Called x.caller End replies.Done) ≡ false
+    foreign rank thread apart = rw apart refl
+    active-at : (y : Waiting) → ((k : ℕ) × (place ≡ k → ⊥) × (slice_get t.waiting k ≡ Some y)) → is_active s y.caller.rank y.caller.thread ≡ true
+    active-at y here =
+        stays t.state s (Called x.caller End replies.Done) y.caller.rank y.caller.thread is (foreign y.caller.rank y.caller.thread (apart-waiting w scripts t place here.0 x y running at here.2 here.1))
+        ∙ running.active here.0 y here.2
+    goes-at : (y : Waiting) → ((k : ℕ) × (place ≡ k → ⊥) × (slice_get t.waiting k ≡ Some y)) → Goes w scripts (t.journal ++ Called x.caller End replies.Done ∷ []) y
+    goes-at y here =
+        let g = running.goes here.0 y here.2 in
+        record {
+          script = g.script; is_script = g.is_script;
+          come = come-more w t.journal (Called x.caller End replies.Done) y.caller g.script.lines y.cursor
+            (own-other y.caller.rank y.caller.thread x.caller End replies.Done (apart-waiting w scripts t place here.0 x y running at here.2 here.1)) g.come;
+        }
+    new-at : (f : Finished) (j : ℕ) → slice_get (record { caller = x.caller; outcome = outcome } ∷ []) j ≡ Some f → HasEnded w scripts (t.journal ++ Called x.caller End replies.Done ∷ []) f
+    new-at f zero here =
+        let same : ◌≡◌ {A = Finished} (record { caller = x.caller; outcome = outcome }) f = cc in
+        subst (λ (g : Finished). HasEnded w scripts (t.journal ++ Called x.caller End replies.Done ∷ []) g) same (ended-of ends stops w scripts t.journal x outcome over (running.goes place x at))
+    new-at f (suc j) here = absurd (let no : ⊥ = cc in no)
+    ended-at : (f : Finished) → ((j : ℕ) × (slice_get t.finished j ≡ Some f)) ⊎ ((j : ℕ) × (slice_get (record { caller = x.caller; outcome = outcome } ∷ []) j ≡ Some f)) → HasEnded w scripts (t.journal ++ Called x.caller End replies.Done ∷ []) f
+    ended-at f (inl here) = ended-more w scripts t.journal (Called x.caller End replies.Done) f
+        (own-other f.caller.rank f.caller.thread x.caller End replies.Done (apart-finished w scripts t place here.0 x f running at here.1)) (running.ended here.0 f here.1)
+    ended-at f (inr here) = new-at f here.0 here.1
+    counts : (rank thread : ℕ) → waiting_count rank thread (remove t.waiting place) + finished_count rank thread (t.finished ++ record { caller = x.caller; outcome = outcome } ∷ [])
+      ≡ count_by (λ (s : Script). is_caller rank thread s.caller) scripts
+    counts rank thread =
+        let f = λ (z : Waiting). cond {A = ℕ} (is_caller rank thread z.caller) 1 0 in
+        let gone = subst (λ (y : Waiting). sum_by f (remove t.waiting place) + f y ≡ sum_by f t.waiting) (get_or_from_slice_get t.waiting place x x at) (sum_by-remove f t.waiting place x (slice_get_within t.waiting place x at)) in
+        let more = sum_by_push (λ (z : Finished). cond {A = ℕ} (is_caller rank thread z.caller) 1 0) t.finished (record { caller = x.caller; outcome = outcome }) in
+        let all = running.counted rank thread in
+        omega arith

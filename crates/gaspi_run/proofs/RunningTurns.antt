@@ -1,0 +1,164 @@
+-- Each turn keeps that the callers' calls are runs of their scripts.
+use Rattle.std.proofs.Common.{◌≡◌, ℕ, zero, suc, ◌+◌, ◌-◌, ◌<◌, ◌≤◌, Bool, true, false, ◌&&◌, List, [], ◌∷◌, ◌++◌, length, Option, None, Some, Result, Ok, Err, refl, sym, ap, ◌∙◌, subst, arith, nat_lt, nat_le, ◌==◌, remove, IsOk, ◌⊎◌, inl, inr, find, cond, count_by, if◌then◌else◌, append_assoc, append-nil}
+use Rattle.std.specs.List.{slice_get, slice_set, sum_by}
+use Rattle.std.proofs.lemmas.Bool.{ltb-true, ltb-false, leb-false, eqb-true, eq-eqb}
+use Rattle.std.proofs.lemmas.List.Sums.{sum_by-set, sum_by-remove, sum_by_push}
+use Rattle.std.proofs.lemmas.Option.{slice_get_within, get_or_from_slice_get}
+use Rattle.gaspi_types.specs.World.{World, is_caller}
+use Rattle.gaspi_types.specs.Need.{need_of}
+use Rattle.gaspi_types.specs.declared.shapes.CallerId.{CallerId}
+use Rattle.gaspi_types.specs.declared.calls.Call.{Call}
+use Rattle.gaspi_types.specs.declared.calls.Call.TheVariants.{End}
+use Rattle.gaspi_types.specs.declared.replies.Reply.{Reply}
+use Rattle.gaspi_types.specs.declared.replies.Reply.TheVariants as replies
+use Rattle.gaspi_types.specs.declared.replies.Ready.{Ready}
+use Rattle.gaspi_types.specs.declared.replies.Ready.TheVariants as ready
+use Rattle.gaspi_types.specs.declared.events.Event.{Event}
+use Rattle.gaspi_types.specs.declared.events.Event.TheVariants.{Called, Take, Put}
+use Rattle.gaspi_types.specs.declared.events.Transfer.{Transfer}
+use Rattle.gaspi_model.specs.Calls.{recorded_reply}
+use Rattle.gaspi_model.specs.Sound.{IsSound}
+use Rattle.gaspi_model.specs.Step.{step, reached, transfer_event, answer_in, room_taken, own_calls, is_active, is_end, ends_caller}
+use Rattle.gaspi_model.specs.Transfers.{transfers}
+use Rattle.gaspi_model.specs.declared.states.State.{State}
+use Rattle.gaspi_model.specs.declared.states.Why.{Why}
+use Rattle.gaspi_model.proofs.Tables.{slice_get-set, remove-part}
+use Rattle.rank_script.specs.Runs.{Progress, Going, Over, going_on, advanced, stopped, Follows, IsRun, IsStopped, end_pair}
+use Rattle.rank_script.specs.WorldText.{is_script_of}
+use Rattle.rank_script.specs.declared.scripts.Halted.TheVariants as halts
+use Rattle.rank_script.specs.declared.scripts.Script.{Script}
+use Rattle.rank_script.specs.declared.scripts.ScriptLine.{ScriptLine}
+use Rattle.rank_script.specs.declared.scripts.RunOutcome.{RunOutcome}
+use Rattle.rank_script.specs.declared.scripts.RunOutcome.TheVariants as outcomes
+use Rattle.gaspi_run.specs.declared.turns.Finished.{Finished}
+use Rattle.gaspi_run.specs.Schedule.{HasEnded, made, with_waiting, recorded}
+use Rattle.gaspi_run.specs.declared.turns.Waiting.{Waiting}
+use Rattle.gaspi_run.specs.declared.turns.Turns.{Turns}
+use Rattle.gaspi_run.proofs.Good.{IsGood}
+use Rattle.gaspi_run.proofs.Running.{IsRunning, Goes, HasCome, WasStopped, own_of, own_calls-append, own-same, own-other, waiting_count, finished_count, count-at, count-two, line-there, find-there, come-more, ended-more, set-cases}
+
+-- what the machine's and the runs' laws say
+abbrev pub ActiveStays : Type 0
+ActiveStays = (s t : State) (e : Event) (rank thread : ℕ) → step s e ≡ Ok t → ends_caller rank thread e ≡ false → is_active t rank thread ≡ is_active s rank thread
+
+abbrev pub Onward : Type 0
+Onward = (p : Progress) (pairs : List (Call × Reply)) (line : ScriptLine) (lines : List ScriptLine) (reply : Reply)
+    → Follows p pairs (Going line lines) → Follows p (pairs ++ (line.call, reply) ∷ []) (advanced (Going line lines) reply)
+
+-- an event of no caller
+pub foreign-step : ActiveStays → (w : World) (scripts : List Script) (t : Turns) (e : Event) (s : State) → IsRunning w scripts t → step t.state e ≡ Ok s
+    → ((rank thread : ℕ) → own_of rank thread e ≡ []) → ((rank thread : ℕ) → ends_caller rank thread e ≡ false)
+    → IsRunning w scripts (record t { state = s; journal = t.journal ++ e ∷ [] })
+foreign-step stays w scripts t e s running is foreign ends = record {
+  active = λ place x at. stays t.state s e x.caller.rank x.caller.thread is (ends x.caller.rank x.caller.thread) ∙ running.active place x at;
+  goes = λ place x at. (let g = running.goes place x at in record {
+    script = g.script; is_script = g.is_script;
+    come = come-more w t.journal e x.caller g.script.lines x.cursor (foreign x.caller.rank x.caller.thread) g.come;
+  });
+  ended = λ place f at. ended-more w scripts t.journal e f (foreign f.caller.rank f.caller.thread) (running.ended place f at);
+  counted = running.counted;
+  once = running.once;
+}
+
+is_caller-self : (c : CallerId) → is_caller c.rank c.thread c ≡ true
+is_caller-self c = rw (eq-eqb c.rank c.rank refl, eq-eqb c.thread c.thread refl) refl
+
+-- no two callers that wait, and none that waits and one that has finished, are the same
+pub apart-waiting : (w : World) (scripts : List Script) (t : Turns) (i j : ℕ) (x y : Waiting) → IsRunning w scripts t → slice_get t.waiting i ≡ Some x → slice_get t.waiting j ≡ Some y → (i ≡ j → ⊥)
+    → is_caller y.caller.rank y.caller.thread x.caller ≡ false
+apart-waiting w scripts t i j x y running ati atj apart = go (is_caller y.caller.rank y.caller.thread x.caller) refl
+  where
+    go : (b : Bool) → is_caller y.caller.rank y.caller.thread x.caller ≡ b → is_caller y.caller.rank y.caller.thread x.caller ≡ false
+    go false is = is
+    go true is =
+        let two = count-two (λ (z : Waiting). is_caller y.caller.rank y.caller.thread z.caller) t.waiting i j x y ati atj apart is (is_caller-self y.caller) in
+        let all = running.counted y.caller.rank y.caller.thread in
+        let one = running.once y.caller.rank y.caller.thread in
+        absurd (omega arith)
+
+pub apart-finished : (w : World) (scripts : List Script) (t : Turns) (i j : ℕ) (x : Waiting) (f : Finished) → IsRunning w scripts t → slice_get t.waiting i ≡ Some x → slice_get t.finished j ≡ Some f
+    → is_caller f.caller.rank f.caller.thread x.caller ≡ false
+apart-finished w scripts t i j x f running ati atj = go (is_caller f.caller.rank f.caller.thread x.caller) refl
+  where
+    go : (b : Bool) → is_caller f.caller.rank f.caller.thread x.caller ≡ b → is_caller f.caller.rank f.caller.thread x.caller ≡ false
+    go false is = is
+    go true is =
+        let waits = count-at (λ (z : Waiting). is_caller f.caller.rank f.caller.thread z.caller) t.waiting i x ati is in
+        let ended = count-at (λ (z : Finished). is_caller f.caller.rank f.caller.thread z.caller) t.finished j f atj (is_caller-self f.caller) in
+        let all = running.counted f.caller.rank f.caller.thread in
+        let one = running.once f.caller.rank f.caller.thread in
+        absurd (omega arith)
+
+-- a caller changed in place is counted as before
+count-set : (ws : List Waiting) (place : ℕ) (x x' : Waiting) (rank thread : ℕ) → slice_get ws place ≡ Some x → x'.caller ≡ x.caller → waiting_count rank thread (slice_set ws place x') ≡ waiting_count rank thread ws
+count-set ws place x x' rank thread at same =
+    let f = λ (z : Waiting). cond {A = ℕ} (is_caller rank thread z.caller) 1 0 in
+    let sum = subst (λ (y : Waiting). sum_by f (slice_set ws place x') + f y ≡ sum_by f ws + f x') (get_or_from_slice_get ws place x x at) (sum_by-set f ws place x' x (slice_get_within ws place x at)) in
+    let one : f x' ≡ f x = ap (λ (c : CallerId). cond {A = ℕ} (is_caller rank thread c) 1 0) same in
+    omega arith
+
+-- where a caller's run stands is changed, and no event is made
+pub waiting-changed : (w : World) (scripts : List Script) (t : Turns) (place : ℕ) (x x' : Waiting) → IsRunning w scripts t → slice_get t.waiting place ≡ Some x → x'.caller ≡ x.caller
+    → Goes w scripts t.journal x' → IsRunning w scripts (with_waiting t place x')
+waiting-changed w scripts t place x x' running at same goes = record {
+  active = λ q y here. active-at q y (slice_get-set t.waiting place q x' y here);
+  goes = λ q y here. goes-at q y (slice_get-set t.waiting place q x' y here);
+  ended = running.ended;
+  counted = λ rank thread. ap (λ (n : ℕ). n + finished_count rank thread t.finished) (count-set t.waiting place x x' rank thread at same) ∙ running.counted rank thread;
+  once = running.once;
+}
+  where
+    active-at : (q : ℕ) (y : Waiting) → ((q ≡ place) × (y ≡ x')) ⊎ (slice_get t.waiting q ≡ Some y) → is_active t.state y.caller.rank y.caller.thread ≡ true
+    active-at q y (inl here) = rw (here.1, same) (running.active place x at)
+    active-at q y (inr there) = running.active q y there
+    goes-at : (q : ℕ) (y : Waiting) → ((q ≡ place) × (y ≡ x')) ⊎ (slice_get t.waiting q ≡ Some y) → Goes w scripts t.journal y
+    goes-at q y (inl here) = subst (λ (z : Waiting). Goes w scripts t.journal z) (sym here.1) goes
+    goes-at q y (inr there) = running.goes q y there
+
+and-false : (b : Bool) → (b && false) ≡ false
+and-false true = refl
+and-false false = refl
+
+-- a whole caller's turn with a call of its own
+pub own-more : (w : World) (journal : List Event) (c : CallerId) (call : Call) (reply : Reply) → own_calls c.rank c.thread (journal ++ Called c call reply ∷ []) ≡ own_calls c.rank c.thread journal ++ (call, reply) ∷ []
+own-more w journal c call reply = own_calls-append c.rank c.thread journal (Called c call reply ∷ []) ∙ ap (λ (ps : List (Call × Reply)). own_calls c.rank c.thread journal ++ ps) (own-same c call reply)
+
+-- the run of a caller whose present call was recorded
+goes-on : Onward → (w : World) (scripts : List Script) (journal : List Event) (x : Waiting) (line : ScriptLine) (lines : List ScriptLine) (reply : Reply) → x.cursor ≡ Going line lines → Goes w scripts journal x
+    → Goes w scripts (journal ++ Called x.caller line.call reply ∷ []) (record { caller = x.caller; cursor = advanced x.cursor reply; looks = 0 })
+goes-on onward w scripts journal x line lines reply going g = record {
+  script = g.script; is_script = g.is_script;
+  come = inl (subst (λ (ps : List (Call × Reply)). Follows (going_on g.script.lines) ps (advanced x.cursor reply)) (sym (own-more w journal x.caller line.call reply))
+    (subst (λ (p : Progress). Follows (going_on g.script.lines) (own_calls x.caller.rank x.caller.thread journal ++ (line.call, reply) ∷ []) (advanced p reply)) (sym going)
+      (onward (going_on g.script.lines) (own_calls x.caller.rank x.caller.thread journal) line lines reply (follows g.come))));
+}
+  where
+    follows : HasCome w journal x.caller g.script.lines x.cursor → Follows (going_on g.script.lines) (own_calls x.caller.rank x.caller.thread journal) (Going line lines)
+    follows (inl f) = subst (λ (p : Progress). Follows (going_on g.script.lines) (own_calls x.caller.rank x.caller.thread journal) p) going f
+    follows (inr stopped) = absurd (let over : ◌≡◌ {A = Progress} (Going line lines) (Over stopped.0) = sym going ∙ stopped.1 in let no : ⊥ = cc in no)
+
+-- a call of the present line, recorded
+pub called-step : ActiveStays → Onward → (w : World) (scripts : List Script) (t : Turns) (place : ℕ) (x : Waiting) (line : ScriptLine) (lines : List ScriptLine) (reply : Reply) (s : State)
+    → IsRunning w scripts t → slice_get t.waiting place ≡ Some x → x.cursor ≡ Going line lines → is_end line.call ≡ false → step t.state (Called x.caller line.call reply) ≡ Ok s
+    → IsRunning w scripts (record t { state = s; waiting = slice_set t.waiting place (record { caller = x.caller; cursor = advanced x.cursor reply; looks = 0 }); journal = t.journal ++ Called x.caller line.call reply ∷ [] })
+called-step stays onward w scripts t place x line lines reply s running at going plain is = record {
+  active = λ q y here. active-at q y (set-cases t.waiting place q x (record { caller = x.caller; cursor = advanced x.cursor reply; looks = 0 }) y at here);
+  goes = λ q y here. goes-at q y (set-cases t.waiting place q x (record { caller = x.caller; cursor = advanced x.cursor reply; looks = 0 }) y at here);
+  ended = λ k f here. ended-more w scripts t.journal (Called x.caller line.call reply) f (own-other f.caller.rank f.caller.thread x.caller line.call reply (apart-finished w scripts t place k x f running at here)) (running.ended k f here);
+  counted = λ rank thread. ap (λ (n : ℕ). n + finished_count rank thread t.finished) (count-set t.waiting place x (record { caller = x.caller; cursor = advanced x.cursor reply; looks = 0 }) rank thread at refl) ∙ running.counted rank thread;
+  once = running.once;
+}
+  where
+    ends : (rank thread : ℕ) → ends_caller rank thread (Called x.caller line.call reply) ≡ false
+    ends rank thread = rw plain (and-false (is_caller rank thread x.caller))
+    active-at : (q : ℕ) (y : Waiting) → ((q ≡ place) × (y ≡ record { caller = x.caller; cursor = advanced x.cursor reply; looks = 0 })) ⊎ ((place ≡ q → ⊥) × (slice_get t.waiting q ≡ Some y)) → is_active s y.caller.rank y.caller.thread ≡ true
+    active-at q y (inl here) = rw here.1 (stays t.state s (Called x.caller line.call reply) x.caller.rank x.caller.thread is (ends x.caller.rank x.caller.thread) ∙ running.active place x at)
+    active-at q y (inr there) = stays t.state s (Called x.caller line.call reply) y.caller.rank y.caller.thread is (ends y.caller.rank y.caller.thread) ∙ running.active q y there.1
+    goes-at : (q : ℕ) (y : Waiting) → ((q ≡ place) × (y ≡ record { caller = x.caller; cursor = advanced x.cursor reply; looks = 0 })) ⊎ ((place ≡ q → ⊥) × (slice_get t.waiting q ≡ Some y)) → Goes w scripts (t.journal ++ Called x.caller line.call reply ∷ []) y
+    goes-at q y (inl here) = subst (λ (z : Waiting). Goes w scripts (t.journal ++ Called x.caller line.call reply ∷ []) z) (sym here.1) (goes-on onward w scripts t.journal x line lines reply going (running.goes place x at))
+    goes-at q y (inr there) =
+        let g = running.goes q y there.1 in
+        record {
+          script = g.script; is_script = g.is_script;
+          come = come-more w t.journal (Called x.caller line.call reply) y.caller g.script.lines y.cursor (own-other y.caller.rank y.caller.thread x.caller line.call reply (apart-waiting w scripts t place q x y running at there.1 there.0)) g.come;
+        }

@@ -1,0 +1,191 @@
+-- The work that is left falls with each turn.
+use Rattle.std.proofs.Common.{◌≡◌, ℕ, zero, suc, ◌+◌, ◌-◌, ◌*◌, ◌/◌, ◌%◌, ◌<◌, ◌≤◌, Bool, true, false, List, [], ◌∷◌, ◌++◌, length, Option, None, Some, Result, Ok, Err, refl, sym, ap, ◌∙◌, subst, arith, if◌then◌else◌, nat_lt, nat_le, ◌==◌, remove, IsOk, cond}
+use Rattle.std.specs.List.{slice_get, slice_set, sum_by}
+use Rattle.std.proofs.lemmas.Bool.{leb-false, ne_eqb}
+use Rattle.std.proofs.lemmas.List.Sums.{sum_by-cons, sum_by-set, sum_by-remove}
+use Rattle.std.proofs.lemmas.Option.{slice_get_within, get_or_from_slice_get}
+use Rattle.gaspi_types.specs.Need.{need_of}
+use Rattle.gaspi_types.specs.declared.calls.Call.{Call}
+use Rattle.gaspi_types.specs.declared.calls.Call.TheVariants.{End}
+use Rattle.gaspi_types.specs.declared.replies.Reply.{Reply}
+use Rattle.gaspi_types.specs.declared.replies.Reply.TheVariants as replies
+use Rattle.gaspi_types.specs.declared.replies.Ready.{Ready}
+use Rattle.gaspi_types.specs.declared.replies.Ready.TheVariants as ready
+use Rattle.gaspi_types.specs.declared.events.Event.{Event}
+use Rattle.gaspi_types.specs.declared.events.Event.TheVariants.{Called}
+use Rattle.gaspi_types.specs.declared.events.Transfer.{Transfer}
+use Rattle.gaspi_model.specs.Sound.{IsSound, events_left}
+use Rattle.gaspi_model.specs.Step.{step, transfer_event, answer_in, room_taken}
+use Rattle.gaspi_model.specs.Transfers.{transfers}
+use Rattle.gaspi_model.specs.declared.states.State.{State}
+use Rattle.gaspi_model.specs.declared.states.Posts.{Posts}
+use Rattle.gaspi_model.specs.declared.states.Memory.{Memory}
+use Rattle.gaspi_model.specs.declared.states.Why.{Why}
+use Rattle.rank_script.specs.Runs.{Progress, Going, Over, going_on, advanced, stopped, is_stuck}
+use Rattle.rank_script.specs.declared.scripts.Halted.TheVariants as halts
+use Rattle.rank_script.specs.declared.scripts.ScriptLine.{ScriptLine}
+use Rattle.rank_script.specs.declared.scripts.RunOutcome.{RunOutcome}
+use Rattle.gaspi_run.specs.Generator.{drawn, picked}
+use Rattle.gaspi_run.specs.Schedule.{made, looks_of, with_waiting, recorded, looked, answered, going_turn, ending_turn, progress_turn, caller_turn, candidate_turn, candidates, with_draw, turn}
+use Rattle.gaspi_run.specs.declared.turns.Waiting.{Waiting}
+use Rattle.gaspi_run.specs.declared.turns.Turns.{Turns}
+
+-- what a caller may still do: two for each line and its looks, and one for its end
+abbrev pub line_work : ℕ → ScriptLine → ℕ
+line_work limit line = 2 + looks_of limit line.timeout
+
+abbrev pub run_work : ℕ → Progress → ℕ → ℕ
+run_work limit (Over outcome) looks = 1
+run_work limit (Going line lines) looks = 3 + (looks_of limit line.timeout - looks) + sum_by (line_work limit) lines
+
+abbrev pub waiting_work : ℕ → Waiting → ℕ
+waiting_work limit w = run_work limit w.cursor w.looks
+
+-- what the schedule may still do: the work of its callers, and the events that are left
+abbrev pub work : ℕ → Turns → ℕ
+work limit t = sum_by (waiting_work limit) t.waiting + events_left t.state
+
+-- a run that goes on with lines has less work than a line more
+going-less : (limit : ℕ) (lines : List ScriptLine) → run_work limit (going_on lines) 0 < 3 + sum_by (line_work limit) lines
+going-less limit [] = omega arith
+going-less limit (line ∷ lines) = let sum = sum_by-cons (line_work limit) line lines in omega arith
+
+advanced-less : (limit : ℕ) (line : ScriptLine) (lines : List ScriptLine) (reply : Reply) (looks : ℕ)
+    → run_work limit (advanced (Going line lines) reply) 0 < run_work limit (Going line lines) looks
+advanced-less limit line lines reply looks = go (is_stuck line reply) refl
+  where
+    go : (b : Bool) → is_stuck line reply ≡ b → run_work limit (advanced (Going line lines) reply) 0 < run_work limit (Going line lines) looks
+    go true is = rw is (omega arith)
+    go false is = rw is (let less = going-less limit lines in omega arith)
+
+-- what follows from the facts about a sound step: a step takes an event
+abbrev pub Counts : Type 0
+Counts = (s t : State) (e : Event) → IsSound s → step s e ≡ Ok t → events_left t + 1 ≡ events_left s
+
+-- an event that was tried leaves no more work, and less where it was made
+made-work : Counts → (limit : ℕ) (t : Turns) (e : Event) → IsSound t.state → work limit (made t e) ≤ work limit t
+made-work counts limit t e sound = go (step t.state e) refl
+  where
+    go : (r : Result State Why) → step t.state e ≡ r → work limit (made t e) ≤ work limit t
+    go (Ok s) is = rw is (let one = counts t.state s e sound is in omega arith)
+    go (Err why) is = rw is (omega arith)
+
+made-less : Counts → (limit : ℕ) (t : Turns) (e : Event) → IsSound t.state → IsOk (step t.state e) → work limit (made t e) < work limit t
+made-less counts limit t e sound ok = go (step t.state e) refl
+  where
+    go : (r : Result State Why) → step t.state e ≡ r → work limit (made t e) < work limit t
+    go (Ok s) is = rw is (let one = counts t.state s e sound is in omega arith)
+    go (Err why) is = absurd (let no = rw is at ok in let none : ⊥ = cc in none)
+
+-- a caller that is changed to one with less work
+waiting-less : (limit : ℕ) (t : Turns) (place : ℕ) (w w' : Waiting) → slice_get t.waiting place ≡ Some w → waiting_work limit w' < waiting_work limit w
+    → work limit (with_waiting t place w') < work limit t
+waiting-less limit t place w w' at less =
+    let within = slice_get_within t.waiting place w at in
+    let there = get_or_from_slice_get t.waiting place w w at in
+    let sum = subst (λ (x : Waiting). sum_by (waiting_work limit) (slice_set t.waiting place w') + waiting_work limit x ≡ sum_by (waiting_work limit) t.waiting + waiting_work limit w') there (sum_by-set (waiting_work limit) t.waiting place w' w within) in
+    omega arith
+
+past-none : {A : Type 0} (xs : List A) (i : ℕ) → i < length xs → slice_get xs i ≡ None → ⊥
+past-none [] i less at = omega arith
+past-none (x ∷ xs) zero less at = cc
+past-none (x ∷ xs) (suc i) less at = past-none xs i (omega arith) at
+
+none-past : {A : Type 0} (xs : List A) (i : ℕ) → slice_get xs i ≡ None → length xs ≤ i
+none-past [] i at = omega arith
+none-past (x ∷ xs) zero at = absurd (let no : ⊥ = cc in no)
+none-past (x ∷ xs) (suc i) at = let rest = none-past xs i at in omega arith
+
+recorded-less : Counts → (limit : ℕ) (t : Turns) (place : ℕ) (w : Waiting) (line : ScriptLine) (lines : List ScriptLine) (call : Call) (reply : Reply) → IsSound t.state
+    → slice_get t.waiting place ≡ Some w → w.cursor ≡ Going line lines → work limit (recorded t place w call reply) < work limit t
+recorded-less counts limit t place w line lines call reply sound at going =
+    let w' : Waiting = record { caller = w.caller; cursor = advanced w.cursor reply; looks = 0 } in
+    let event = made-work counts limit (with_waiting t place w') (Called w.caller call reply) sound in
+    let less = waiting-less limit t place w w' at (rw going (advanced-less limit line lines reply w.looks)) in
+    omega arith
+
+looked-less : Counts → (limit : ℕ) (t : Turns) (place : ℕ) (w : Waiting) (line : ScriptLine) (lines : List ScriptLine) → IsSound t.state
+    → slice_get t.waiting place ≡ Some w → w.cursor ≡ Going line lines → work limit (looked limit t place w line) < work limit t
+looked-less counts limit t place w line lines sound at going = go (nat_le (looks_of limit line.timeout) (w.looks + 1)) refl
+  where
+    go : (b : Bool) → nat_le (looks_of limit line.timeout) (w.looks + 1) ≡ b → work limit (looked limit t place w line) < work limit t
+    go true last = rw last (recorded-less counts limit t place w line lines line.call replies.Timeout sound at going)
+    go false more =
+        let w' : Waiting = record { caller = w.caller; cursor = w.cursor; looks = w.looks + 1 } in
+        let looks = leb-false (looks_of limit line.timeout) (w.looks + 1) more in
+        rw more (waiting-less limit t place w w' at (rw going (omega arith)))
+
+answered-less : Counts → (limit : ℕ) (t : Turns) (place : ℕ) (w : Waiting) (line : ScriptLine) (lines : List ScriptLine) (found : Option Ready) → IsSound t.state
+    → slice_get t.waiting place ≡ Some w → w.cursor ≡ Going line lines → (found ≡ None → ⊥) → work limit (answered limit t place w line found) < work limit t
+answered-less counts limit t place w line lines None sound at going some = absurd (some refl)
+answered-less counts limit t place w line lines (Some (ready.Reply reply)) sound at going some = recorded-less counts limit t place w line lines line.call reply sound at going
+answered-less counts limit t place w line lines (Some ready.NotReady) sound at going some = looked-less counts limit t place w line lines sound at going
+
+-- a look at a call finds something where the caller's rank is there
+pub answer-some : (s : State) (rank thread : ℕ) (call : Call) → IsSound s → rank < s.limits.ranks → answer_in s rank thread call ≡ None → ⊥
+answer-some s rank thread call sound within none = go (slice_get s.posts rank) (slice_get s.memories rank) refl refl
+  where
+    go : (p : Option Posts) (m : Option Memory) → slice_get s.posts rank ≡ p → slice_get s.memories rank ≡ m → ⊥
+    go None m hp hm = past-none s.posts rank (let same = sound.ranks in omega arith) hp
+    go (Some posts) None hp hm = past-none s.memories rank (let same = sound.memories in omega arith) hm
+    go (Some posts) (Some memory) hp hm = let no = rw (hp, hm) at none in cc
+
+going-less-turn : Counts → (limit : ℕ) (t : Turns) (place : ℕ) (w : Waiting) (line : ScriptLine) (lines : List ScriptLine) → IsSound t.state → w.caller.rank < t.state.limits.ranks
+    → slice_get t.waiting place ≡ Some w → w.cursor ≡ Going line lines → work limit (going_turn limit t place w line) < work limit t
+going-less-turn counts limit t place w line lines sound within at going = go (nat_lt t.state.limits.events (room_taken t.state w.caller.rank + need_of line.call false false)) refl
+  where
+    go : (b : Bool) → nat_lt t.state.limits.events (room_taken t.state w.caller.rank + need_of line.call false false) ≡ b → work limit (going_turn limit t place w line) < work limit t
+    go true full =
+        let w' : Waiting = record { caller = w.caller; cursor = stopped w.cursor halts.Limit; looks = 0 } in
+        rw full (waiting-less limit t place w w' at (rw going (omega arith)))
+    go false room = rw room (answered-less counts limit t place w line lines (answer_in t.state w.caller.rank w.caller.thread line.call) sound at going
+        (answer-some t.state w.caller.rank w.caller.thread line.call sound within))
+
+ending-less : Counts → (limit : ℕ) (t : Turns) (place : ℕ) (w : Waiting) (outcome : RunOutcome) → IsSound t.state
+    → slice_get t.waiting place ≡ Some w → w.cursor ≡ Over outcome → work limit (ending_turn t place w outcome) < work limit t
+ending-less counts limit t place w outcome sound at over =
+    let t' : Turns = record t { waiting = remove t.waiting place; finished = t.finished ++ record { caller = w.caller; outcome = outcome } ∷ [] } in
+    let event = made-work counts limit t' (Called w.caller End replies.Done) sound in
+    let one : waiting_work limit w ≡ 1 = rw over refl in
+    let there = get_or_from_slice_get t.waiting place w w at in
+    let sum = subst (λ (x : Waiting). sum_by (waiting_work limit) (remove t.waiting place) + waiting_work limit x ≡ sum_by (waiting_work limit) t.waiting) there
+        (sum_by-remove (waiting_work limit) t.waiting place w (slice_get_within t.waiting place w at)) in
+    omega arith
+
+caller-less : Counts → (limit : ℕ) (t : Turns) (place : ℕ) (w : Waiting) → IsSound t.state → w.caller.rank < t.state.limits.ranks
+    → slice_get t.waiting place ≡ Some w → work limit (caller_turn limit t place w) < work limit t
+caller-less counts limit t place w sound within at = go w.cursor refl
+  where
+    go : (p : Progress) → w.cursor ≡ p → work limit (caller_turn limit t place w) < work limit t
+    go (Going line lines) is =
+        subst (λ (x : Turns). work limit x < work limit t) (sym (ap (λ (p : Progress). progress_turn limit t place w p) is)) (going-less-turn counts limit t place w line lines sound within at is)
+    go (Over outcome) is =
+        subst (λ (x : Turns). work limit x < work limit t) (sym (ap (λ (p : Progress). progress_turn limit t place w p) is)) (ending-less counts limit t place w outcome sound at is)
+
+-- each transfer that is listed is a step
+abbrev pub TransfersAreSteps : Type 0
+TransfersAreSteps = (s : State) (t : Transfer) (k : ℕ) → IsSound s → slice_get (transfers s.limits s.posts) k ≡ Some t → IsOk (step s (transfer_event s t))
+
+-- the callers that wait are of ranks that are there
+abbrev pub AreRanked : Turns → Type 0
+AreRanked t = (place : ℕ) (w : Waiting) → slice_get t.waiting place ≡ Some w → w.caller.rank < t.state.limits.ranks
+
+candidate-less : Counts → TransfersAreSteps → (limit : ℕ) (t : Turns) (candidate : ℕ) → IsSound t.state → AreRanked t → candidate < candidates t
+    → work limit (candidate_turn limit t candidate) < work limit t
+candidate-less counts enabled limit t candidate sound ranked less = of-caller (slice_get t.waiting candidate) refl
+  where
+    of-transfer : (o : Option Transfer) → slice_get t.waiting candidate ≡ None → slice_get (transfers t.state.limits t.state.posts) (candidate - length t.waiting) ≡ o
+      → work limit (candidate_turn limit t candidate) < work limit t
+    of-transfer None past none =
+        let over = none-past t.waiting candidate past in
+        absurd (past-none (transfers t.state.limits t.state.posts) (candidate - length t.waiting) (omega arith) none)
+    of-transfer (Some transfer) past at = rw (past, at) (made-less counts limit t (transfer_event t.state transfer) sound (enabled t.state transfer (candidate - length t.waiting) sound at))
+    of-caller : (o : Option Waiting) → slice_get t.waiting candidate ≡ o → work limit (candidate_turn limit t candidate) < work limit t
+    of-caller (Some w) at = rw at (caller-less counts limit t candidate w sound (ranked candidate w at) at)
+    of-caller None past = of-transfer (slice_get (transfers t.state.limits t.state.posts) (candidate - length t.waiting)) past refl
+
+-- each turn with a candidate leaves less work
+pub turn-less : Counts → TransfersAreSteps → (limit : ℕ) (t : Turns) → IsSound t.state → AreRanked t → 0 < candidates t → work limit (turn limit t) < work limit t
+turn-less counts enabled limit t sound ranked some =
+    let apart : (candidates t == 0) ≡ false = ne_eqb (candidates t) 0 (omega arith) in
+    rw apart (candidate-less counts enabled limit (with_draw t) (picked (drawn t.x) (candidates t)) sound ranked (omega arith))

@@ -1,0 +1,4 @@
+pub mod Generator
+pub mod Schedule
+pub mod Transcripts
+pub mod Command

@@ -1,0 +1,206 @@
+//! What a turn does: the present call of a caller, its end, or a transfer.
+
+ghost use Rattle.std.specs.Prelude.{◌≡◌, ℕ, ◌+◌, ◌<◌, ◌≤◌, ◌++◌, ◌∷◌, [], OnOk, Ok, Some, true, false, length, slice_get};
+ghost use Rattle.gaspi_model.specs.Step.{transfer_event};
+ghost use Rattle.gaspi_model.specs.Transfers.{transfers};
+ghost use Rattle.gaspi_run.specs.Generator.{drawn};
+ghost use Rattle.gaspi_run.specs.Schedule.{made, looks_of, recorded, looked, going_turn, ending_turn, caller_turn, candidate_turn, candidates, turn, AreDeclared};
+ghost use Rattle.rank_script.specs.declared.scripts.ScriptLine.{ScriptLine};
+ghost use Rattle.gaspi_run.specs.declared.turns.Waiting.{Waiting};
+
+use crate::turns::{Finished, Turns};
+use gaspi_model::StepFault;
+use gaspi_types::{Call, Event, NoMemory, Ready, Reply, Timeout, Transfer, need};
+use rank_script::{Halted, RunOutcome};
+use std::alloc::Global;
+
+/// The generator's number after a draw.
+fn drawn(x: u32) -> u32
+    ensures { result ≡ drawn x }
+{
+    ((69069 * u64::from(x) + 1) % 4_294_967_296) as u32
+}
+
+/// How many looks a call may have.
+fn looks_of(limit: u32, timeout: Timeout) -> u32
+    ensures { result ≡ looks_of limit timeout }
+{
+    match timeout {
+        Timeout::Looks(n) => n,
+        Timeout::Block => limit,
+    }
+}
+
+/// Makes an event. One that is no step is not made.
+fn make(turns: &mut Turns, alloc: Global, event: Event) -> Result<(), NoMemory>
+    ensures { OnOk result (turns.new ≡ made turns.old event) }
+{
+    match turns.state.step(alloc, &event) {
+        Ok(()) => {
+            turns.journal.push(event)?;
+            Ok(())
+        }
+        Err(StepFault::Illegal(_)) => Ok(()),
+        Err(StepFault::NoMemory) => Err(NoMemory),
+    }
+}
+
+/// Records the present call of a waiting caller with its reply.
+fn record_call(
+    turns: &mut Turns,
+    alloc: Global,
+    place: usize,
+    call: &Call,
+    reply: Reply,
+) -> Result<(), NoMemory>
+    requires { place < length turns.old.waiting }
+    ensures { (w : Waiting) → slice_get turns.old.waiting place ≡ Some w → OnOk result (turns.new ≡ recorded turns.old place w call.now reply) }
+{
+    let call = call.copy(alloc)?;
+    let waiting = turns.waiting.at_mut(place);
+    waiting.cursor.advance(&reply);
+    waiting.looks = 0;
+    let caller = waiting.caller;
+    make(turns, alloc, Event::Called(caller, call, reply))
+}
+
+/// The end of a waiting caller whose run is over.
+fn end_caller(
+    turns: &mut Turns,
+    alloc: Global,
+    place: usize,
+    outcome: RunOutcome,
+) -> Result<(), NoMemory>
+    requires { place < length turns.old.waiting }
+    ensures { (w : Waiting) → slice_get turns.old.waiting place ≡ Some w → OnOk result (turns.new ≡ ending_turn turns.old place w outcome) }
+{
+    let end = Event::Called(turns.waiting.at(place).caller, Call::End, Reply::Done);
+    let caller = turns.waiting.at(place).caller;
+    drop(turns.waiting.remove(place));
+    turns.finished.push(Finished { caller, outcome })?;
+    make(turns, alloc, end)
+}
+
+/// A look at the present call of a waiting caller that is not ready: at the last one a timeout is recorded.
+fn look(
+    turns: &mut Turns,
+    alloc: Global,
+    limit: u32,
+    place: usize,
+    call: &Call,
+    timeout: Timeout,
+) -> Result<(), NoMemory>
+    requires { place < length turns.old.waiting }
+    ensures { (w : Waiting) (line : ScriptLine) → slice_get turns.old.waiting place ≡ Some w → line.call ≡ call.now → line.timeout ≡ timeout
+        → OnOk result (turns.new ≡ looked limit turns.old place w line) }
+{
+    let looks = turns.waiting.at(place).looks;
+    let most = looks_of(limit, timeout);
+    if u64::from(most) <= u64::from(looks) + 1 {
+        return record_call(turns, alloc, place, call, Reply::Timeout);
+    }
+    turns.waiting.at_mut(place).looks = looks + 1;
+    Ok(())
+}
+
+/// The turn of a waiting caller whose script goes on.
+fn go_on(
+    turns: &mut Turns,
+    alloc: Global,
+    limit: u32,
+    place: usize,
+    call: &Call,
+    timeout: Timeout,
+) -> Result<(), NoMemory>
+    requires place { place < length turns.old.waiting }
+    requires declared { AreDeclared turns.old }
+    ensures { (w : Waiting) (line : ScriptLine) → slice_get turns.old.waiting place ≡ Some w → line.call ≡ call.now → line.timeout ≡ timeout
+        → OnOk result (turns.new ≡ going_turn limit turns.old place w line) }
+{
+    let caller = turns.waiting.at(place).caller;
+    if turns.state.room(caller.rank) < need(call, false, false) {
+        let waiting = turns.waiting.at_mut(place);
+        waiting.cursor.stop(Halted::Limit);
+        waiting.looks = 0;
+        return Ok(());
+    }
+    match turns.state.answer(alloc, caller, call)? {
+        Ready::Reply(reply) => record_call(turns, alloc, place, call, reply),
+        Ready::NotReady => look(turns, alloc, limit, place, call, timeout),
+    }
+}
+
+/// The turn of a waiting caller.
+fn caller_turn(
+    turns: &mut Turns,
+    alloc: Global,
+    limit: u32,
+    place: usize,
+) -> Result<(), NoMemory>
+    requires place { place < length turns.old.waiting }
+    requires declared { AreDeclared turns.old }
+    ensures { (w : Waiting) → slice_get turns.old.waiting place ≡ Some w → OnOk result (turns.new ≡ caller_turn limit turns.old place w) }
+{
+    let cursor = &turns.waiting.at(place).cursor;
+    if let Some(outcome) = cursor.outcome() {
+        return end_caller(turns, alloc, place, outcome);
+    }
+    match cursor.present() {
+        Some((call, timeout)) => go_on(turns, alloc, limit, place, call, timeout),
+        None => Ok(()),
+    }
+}
+
+/// The turn of a transfer, with the machine's outcome.
+fn transfer_turn(
+    turns: &mut Turns,
+    alloc: Global,
+    transfer: &Transfer,
+) -> Result<(), NoMemory>
+    ensures { OnOk result (turns.new ≡ made turns.old (transfer_event turns.old.state transfer.now)) }
+{
+    let outcome = turns.state.outcome(transfer);
+    let event = if transfer.put {
+        Event::Put(transfer.origin, transfer.queue, transfer.target, transfer.number, outcome)
+    } else {
+        Event::Take(transfer.origin, transfer.queue, transfer.target, transfer.number, outcome)
+    };
+    make(turns, alloc, event)
+}
+
+/// The turn of a candidate: the callers that wait come first, then the transfers that may come next.
+fn candidate_turn(
+    turns: &mut Turns,
+    alloc: Global,
+    limit: u32,
+    listed: &[Transfer],
+    candidate: usize,
+) -> Result<(), NoMemory>
+    requires declared { AreDeclared turns.old }
+    requires listed { listed.now ≡ transfers turns.old.state.limits turns.old.state.posts }
+    requires within { candidate < length turns.old.waiting + length listed.now }
+    ensures { OnOk result (turns.new ≡ candidate_turn limit turns.old candidate) }
+{
+    let waiting = turns.waiting.len();
+    if candidate < waiting {
+        return caller_turn(turns, alloc, limit, candidate);
+    }
+    transfer_turn(turns, alloc, &listed[candidate - waiting])
+}
+
+/// One turn: a draw picks the candidate. False where there is none, and then nothing has happened.
+pub fn turn(turns: &mut Turns, alloc: Global, limit: u32) -> Result<bool, NoMemory>
+    requires { AreDeclared turns.old }
+    ensures over { result ≡ Ok false → (candidates turns.old ≡ 0) × (turns.new ≡ turns.old) }
+    ensures turned { result ≡ Ok true → (0 < candidates turns.old) × (turns.new ≡ turn limit turns.old) }
+{
+    let transfers = turns.state.transfers(alloc)?;
+    let count = turns.waiting.len() as u128 + transfers.len() as u128;
+    if count == 0 {
+        return Ok(false);
+    }
+    turns.x = drawn(turns.x);
+    let candidate = (u128::from(turns.x / 65536) % count) as usize;
+    candidate_turn(turns, alloc, limit, transfers.as_slice(), candidate)?;
+    Ok(true)
+}

@@ -1,0 +1,110 @@
+//! The schedule of a world's scripts on one thread.
+
+ghost use Rattle.std.specs.Prelude.{◌≡◌, ℕ, ◌<◌, ◌≤◌, ◌++◌, OnOk, IfOk, true};
+ghost use Rattle.gaspi_model.specs.Step.{is_legal};
+ghost use Rattle.rank_script.specs.WorldText.{AreScriptsOf};
+ghost use Rattle.gaspi_run.specs.Schedule.{starts, rank_starts, thread_starts, started, IsScheduled, HaveEnded, ArePlain};
+
+use crate::moves::turn;
+use crate::turns::{Finished, Turns, Waiting};
+use gaspi_model::{enabled, soundness};
+use gaspi_types::{CallerId, Event, NoMemory, RankId, Rows, Shape, ThreadId};
+use plain_machine::Machine;
+use rank_script::{Cursor, Scripts, runs};
+use std::alloc::Global;
+
+/// A history: its events, in order.
+pub type Journal = Rows<Event>;
+
+/// What a schedule gave: the events, and how each caller ended.
+#[derive(Debug, Drop)]
+pub struct Ran {
+    pub journal: Journal,
+    pub finished: Rows<Finished>,
+}
+
+/// A caller at its start, added to those before where it has a script.
+fn add_start<'a>(
+    waiting: &mut Rows<Waiting<'a>>,
+    caller: CallerId,
+    scripts: &'a Scripts,
+) -> Result<(), NoMemory>
+    ensures { OnOk result (waiting.new ≡ waiting.old ++ thread_starts scripts.now caller.rank caller.thread) }
+{
+    let Some(script) = scripts.of(caller) else {
+        return Ok(());
+    };
+    waiting.push(Waiting {
+        caller: script.caller,
+        cursor: Cursor::new(script),
+        looks: 0,
+    })
+}
+
+/// The callers of a rank at their start, by thread, added to those of the ranks before.
+fn add_starts<'a>(
+    waiting: &mut Rows<Waiting<'a>>,
+    rank: u32,
+    scripts: &'a Scripts,
+) -> Result<(), NoMemory>
+    requires { rank < 16 }
+    ensures { OnOk result (waiting.new ≡ waiting.old ++ rank_starts scripts.now rank) }
+{
+    for thread in 0..4u32 {
+        let caller = CallerId {
+            rank: RankId::of(rank),
+            thread: ThreadId::of(thread),
+        };
+        add_start(waiting, caller, scripts)?;
+    }
+    Ok(())
+}
+
+/// All callers at their start, by rank and thread.
+fn starts<'a>(alloc: Global, shape: &Shape, scripts: &'a Scripts) -> Result<Rows<Waiting<'a>>, NoMemory>
+    ensures { IfOk result (λ waiting. waiting ≡ starts shape.now scripts.now) }
+{
+    let limits = shape.limits();
+    let mut waiting = Rows::new(alloc);
+    for rank in 0..limits.ranks {
+        add_starts(&mut waiting, rank, scripts)?;
+    }
+    Ok(waiting)
+}
+
+/// The scheduled history of a world's scripts, and how each caller ended. A call that blocks has `limit` looks.
+pub fn schedule(
+    alloc: Global,
+    shape: &Shape,
+    scripts: &Scripts,
+    seed: u32,
+    limit: u32,
+) -> Result<Ran, NoMemory>
+    requires limit { 1 ≤ limit }
+    requires scripts { AreScriptsOf shape.now scripts.now }
+    requires plain { ArePlain scripts.now }
+    ensures scheduled { IfOk result (λ ran. IsScheduled shape.now scripts.now seed limit ran.journal ran.finished) }
+    ensures legal { IfOk result (λ ran. is_legal shape.now ran.journal ≡ true) }
+    ensures runs { IfOk result (λ ran. HaveEnded shape.now scripts.now ran.journal ran.finished) }
+{
+    soundness();
+    enabled();
+    runs();
+    let _limits = shape.limits();
+    let mut turns = Turns {
+        x: seed,
+        state: Machine::start(alloc, shape)?,
+        waiting: starts(alloc, shape, scripts)?,
+        finished: Rows::new(alloc),
+        journal: Rows::new(alloc),
+    };
+    while turn(&mut turns, alloc, limit)? {}
+    let Turns {
+        x: _,
+        state: _,
+        waiting: _,
+        finished,
+        journal,
+    } = turns;
+    Ok(Ran { journal, finished })
+}

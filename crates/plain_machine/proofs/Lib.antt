@@ -1,0 +1,11 @@
+pub mod CallRoom
+pub mod Chains
+pub mod Fitting
+pub mod Items
+pub mod Kept
+pub mod Lifted
+pub mod Opened
+pub mod Listed
+pub mod Owed
+pub mod Ranges
+pub mod Running

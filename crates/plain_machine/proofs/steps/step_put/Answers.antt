@@ -1,0 +1,17 @@
+use Rattle.plain_machine.specs.Machine.{state_of, taken_of}
+use Rattle.plain_machine.proofs.Lifted.{put_steps, put_taken, events_fit, map_kept}
+use Rattle.plain_machine.proofs.steps.step_put.Goals as goal
+
+pub put-requires : goal.put-requires
+put-requires c = events_fit c.args.limits.now _ c.requires.limits (c.requires.posts _ _ c.at_mut.ensures.value)
+
+pub returns-clause-step : goal.returns-clause-step
+returns-clause-step c =
+    let there = rw c.index-rank.ensures.value at c.at_mut.ensures.value in
+    let memory = rw c.index-owner.ensures.value at c.at_mut-2.ensures.value in
+    rw (c.index-rank.ensures.value, c.index-owner.ensures.value)
+    (put_steps (state_of c.args.limits.now c.args.posts.now c.args.memories.now) c.args.origin c.args.queue c.args.target c.args.number c.args.outcome _ _ _ _ c.put.result there memory c.put.ensures.step)
+
+pub returns-clause-taken : goal.returns-clause-taken
+returns-clause-taken c =
+    map_kept taken_of _ _ _ _ c.at_mut.ensures.value (put_taken _ _ _ _ c.args.queue c.args.target c.args.number c.args.outcome c.put.result c.put.ensures.step)

@@ -1,0 +1,17 @@
+use Rattle.plain_machine.specs.Machine.{state_of, taken_of}
+use Rattle.plain_machine.proofs.Lifted.{take_steps, take_taken, events_fit, map_kept}
+use Rattle.plain_machine.proofs.steps.step_take.Goals as goal
+
+pub take-requires : goal.take-requires
+take-requires c = events_fit c.args.limits.now _ c.requires.limits (c.requires.posts _ _ c.at_mut.ensures.value)
+
+pub returns-clause-step : goal.returns-clause-step
+returns-clause-step c =
+    let there = rw c.index-rank.ensures.value at c.at_mut.ensures.value in
+    let memory = rw c.index-rank.ensures.value at c.at.ensures in
+    rw c.index-rank.ensures.value
+    (take_steps (state_of c.args.limits.now c.args.posts.now c.args.memories.now) c.args.origin c.args.queue c.args.target c.args.number c.args.outcome _ _ _ c.take.result there memory c.take.ensures)
+
+pub returns-clause-taken : goal.returns-clause-taken
+returns-clause-taken c =
+    map_kept taken_of _ _ _ _ c.at_mut.ensures.value (take_taken c.args.limits.now _ _ _ c.args.queue c.args.target c.args.number c.args.outcome c.take.result c.take.ensures)

@@ -1,0 +1,5 @@
+pub mod Entries
+pub mod Fields
+pub mod Machine
+pub mod Memory
+pub mod Room

@@ -1,0 +1,44 @@
+-- The machine: a sound state, and the room that each rank has taken.
+use Rattle.std.specs.Prelude.{◌≡◌, ℕ, ◌+◌, ◌≤◌, List, map, length, slice_get, Some, if◌then◌else◌}
+use Rattle.gaspi_types.specs.declared.shapes.Limits.{Limits}
+use Rattle.gaspi_types.specs.declared.events.Event.{Event}
+use Rattle.gaspi_types.specs.declared.events.Event.TheVariants.{Take, Put}
+use Rattle.gaspi_types.specs.declared.events.Outcome.{Outcome}
+use Rattle.gaspi_types.specs.declared.events.Transfer.{Transfer}
+use Rattle.gaspi_model.specs.State.{owed}
+use Rattle.gaspi_model.specs.Sound.{IsSound}
+use Rattle.gaspi_model.specs.declared.states.Queue.{Queue}
+use Rattle.gaspi_model.specs.declared.states.Posts.{Posts}
+use Rattle.gaspi_model.specs.declared.states.Memory.{Memory}
+use Rattle.gaspi_model.specs.declared.states.State.{State}
+
+abbrev pub state_of : Limits → List Posts → List Memory → State
+state_of limits posts memories = record { limits = limits; posts = posts; memories = memories }
+
+-- the room that a rank has taken: what it has recorded, and what it owes
+abbrev pub taken_of : Posts → ℕ
+taken_of posts = posts.events + owed posts
+
+-- ranks and queues have numbers in their ranges, and each rank has a memory
+pub record IsFitting (s : State) : Type 0 where
+  pub ranks : length s.posts ≤ 16
+  pub memories : length s.memories ≡ length s.posts
+  pub queues : (rank : ℕ) (posts : Posts) → slice_get s.posts rank ≡ Some posts → length posts.queues ≤ 8
+
+pub record IsMachine (s : State) (rooms : List ℕ) : Type 0 where
+  pub sound : IsSound s
+  pub fitting : IsFitting s
+  pub taken : rooms ≡ map taken_of s.posts
+
+-- the event of a transfer with an outcome
+abbrev pub event_of : Transfer → Outcome → Event
+event_of t outcome = if t.put then Put t.origin t.queue t.target t.number outcome else Take t.origin t.queue t.target t.number outcome
+
+-- queues and lanes have numbers in their ranges
+pub record IsListable (posts : Posts) : Type 0 where
+  pub queues : length posts.queues ≤ 8
+  pub lanes : (queue : ℕ) (q : Queue) → slice_get posts.queues queue ≡ Some q → length q.lanes ≤ 16
+
+pub record AreListable (posts : List Posts) : Type 0 where
+  pub ranks : length posts ≤ 16
+  pub each : (rank : ℕ) (p : Posts) → slice_get posts rank ≡ Some p → IsListable p

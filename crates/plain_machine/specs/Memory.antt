@@ -1,0 +1,41 @@
+-- Which calls and events take memory, and what a load reads.
+use Rattle.std.specs.Prelude.{◌≡◌, ℕ, Bool, true, false, ◌||◌, List, Option, Some, Result, Ok, Err}
+use Rattle.std.specs.Borrow.{Bor}
+use Rattle.gaspi_types.specs.declared.calls.Call.{Call}
+use Rattle.gaspi_types.specs.declared.calls.Call.TheVariants.{Store, Load, WriteNotify, Wait, Waitsome, Reset, End}
+use Rattle.gaspi_types.specs.declared.replies.Refusal.{Refusal}
+use Rattle.gaspi_types.specs.declared.replies.Reply.{Reply}
+use Rattle.gaspi_types.specs.declared.replies.Reply.TheVariants as replies
+use Rattle.gaspi_types.specs.declared.events.Event.{Event}
+use Rattle.gaspi_types.specs.declared.events.Event.TheVariants.{Called, Take, Put}
+
+-- an answer of these copies bytes
+abbrev pub is_load : Call → Bool
+is_load (Store seg offset bytes) = false
+is_load (Load seg offset size) = true
+is_load (WriteNotify seg offset rank rseg roffset size note value queue) = false
+is_load (Wait queue) = false
+is_load (Waitsome seg begin num) = false
+is_load (Reset seg note) = false
+is_load End = false
+
+-- these append entries
+abbrev pub is_post : Call → Bool
+is_post (Store seg offset bytes) = false
+is_post (Load seg offset size) = false
+is_post (WriteNotify seg offset rank rseg roffset size note value queue) = true
+is_post (Wait queue) = false
+is_post (Waitsome seg begin num) = false
+is_post (Reset seg note) = false
+is_post End = false
+
+-- a step of these may want memory
+abbrev pub takes_memory : Event → Bool
+takes_memory (Called caller call reply) = is_load call || is_post call
+takes_memory (Take origin queue target number outcome) = true
+takes_memory (Put origin queue target number outcome) = false
+
+-- the bytes are those of the reply, and the refusal is the call's
+abbrev pub Loads : Result (Bor (List ℕ)) Refusal → Result (Option Reply) Refusal → Type 0
+Loads (Ok bytes) finds = finds ≡ Ok (Some (replies.Bytes bytes.now))
+Loads (Err refusal) finds = finds ≡ Err refusal

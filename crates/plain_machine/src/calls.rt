@@ -1,0 +1,386 @@
+//! What a call answers, from the posts and the memory of its caller's rank.
+
+ghost use Rattle.std.specs.Prelude.{◌≡◌, ◌≤◌, ◌<◌, length, IfOk, IsOk, OnSome, false};
+ghost use Rattle.std.specs.List.{list_any};
+ghost use Rattle.gaspi_types.specs.Lanes.{has_posted};
+ghost use Rattle.gaspi_types.specs.Posts.{extent_in, known_extent, write_notify_kinds};
+ghost use Rattle.gaspi_model.specs.State.{thread_at, is_running};
+ghost use Rattle.gaspi_model.specs.Calls.{store_finds, load_finds, post_finds, write_notify_finds, wait_finds, waitsome_finds, reset_finds, call_finds, answer, ready_of, recorded_reply};
+ghost use Rattle.plain_machine.specs.Memory.{is_load, Loads};
+
+use crate::lanes::has_posted;
+use crate::memories::{
+    bytes_of, first_set, is_slot_range, is_transfer_size, is_within, range_of, slots_of,
+};
+use gaspi_model::{Memory, Posts, Queue, ThreadState};
+use gaspi_types::{
+    ByteRange, Call, Extent, Kind, Limits, NoMemory, NoteSlot, RankId, Ready, Refusal, Reply, Rows,
+    ThreadId,
+};
+use std::alloc::Global;
+
+/// A table of segments, by their numbers.
+pub type Extents = Rows<Option<Extent>>;
+
+/// A write and the notification behind it, as its caller wrote them. (GASPI: write_notify)
+#[derive(Clone, Copy)]
+pub struct NotifiedWrite {
+    pub seg: u64,
+    pub offset: u64,
+    pub rank: u64,
+    pub rseg: u64,
+    pub roffset: u64,
+    pub size: u64,
+    pub note: u64,
+    pub value: u32,
+    pub queue: u64,
+}
+
+/// What stands in a table of segments at a number, which is below 32.
+pub fn extent_in(table: &Extents, segment: u64) -> Option<Extent>
+    ensures extent { result ≡ extent_in table.now segment }
+    ensures bound { OnSome result (segment < 32) }
+{
+    if segment >= 32 {
+        return None;
+    }
+    match table.get(segment as usize) {
+        Some(extent) => *extent,
+        None => None,
+    }
+}
+
+/// What a rank knows of a segment of a rank.
+pub fn known_extent(
+    me: RankId,
+    own: &Extents,
+    known: &Rows<Extents>,
+    rank: u64,
+    segment: u64,
+) -> Option<Extent>
+    ensures extent { result ≡ known_extent me own.now known.now rank segment }
+    ensures bound { OnSome result (segment < 32) }
+{
+    if rank == u64::from(me.number()) {
+        return extent_in(own, segment);
+    }
+    match known.get(rank as usize) {
+        Some(table) => extent_in(table, segment),
+        None => None,
+    }
+}
+
+/// The entries of a write and the notification behind it, or the first refusal up to the notification value.
+pub fn write_notify_kinds(
+    notes: u32,
+    me: RankId,
+    own: &Extents,
+    known: &Rows<Extents>,
+    w: &NotifiedWrite,
+) -> Result<[Kind; 2], Refusal>
+    ensures { result ≡ write_notify_kinds notes me own.now known.now w.now.seg w.now.offset w.now.rank w.now.rseg w.now.roffset w.now.size w.now.note w.now.value }
+{
+    let mine = extent_in(own, w.seg).ok_or(Refusal::NoSegment)?;
+    let theirs = known_extent(me, own, known, w.rank, w.rseg).ok_or(Refusal::Unregistered)?;
+    if !is_transfer_size(w.size) {
+        return Err(Refusal::BadSize);
+    }
+    if !is_within(w.offset, w.size, u64::from(mine.size)) {
+        return Err(Refusal::BadRange { size: mine.size });
+    }
+    if !is_within(w.roffset, w.size, u64::from(theirs.size)) {
+        return Err(Refusal::BadRange { size: theirs.size });
+    }
+    if w.note >= u64::from(notes) {
+        return Err(Refusal::BadNote);
+    }
+    if w.value == 0 {
+        return Err(Refusal::ZeroValue);
+    }
+    let size = w.size as u32;
+    let write = Kind::Write {
+        own: ByteRange {
+            segment: w.seg as u32,
+            generation: mine.generation,
+            offset: w.offset as u32,
+            size,
+        },
+        target: ByteRange {
+            segment: w.rseg as u32,
+            generation: theirs.generation,
+            offset: w.roffset as u32,
+            size,
+        },
+    };
+    let notify = Kind::Notify {
+        target: NoteSlot {
+            segment: w.rseg as u32,
+            generation: theirs.generation,
+            note: w.note as u32,
+        },
+        value: w.value,
+    };
+    Ok([write, notify])
+}
+
+/// Checks a store. (own choice)
+pub fn store_finds(
+    posts: &Posts,
+    seg: u64,
+    offset: u64,
+    bytes: &[u8],
+) -> Result<Option<Reply>, Refusal>
+    ensures { result ≡ store_finds posts.now seg offset bytes.now }
+{
+    let mine = extent_in(&posts.own, seg).ok_or(Refusal::NoSegment)?;
+    let size = bytes.len() as u64;
+    if !is_transfer_size(size) {
+        return Err(Refusal::BadSize);
+    }
+    if !is_within(offset, size, u64::from(mine.size)) {
+        return Err(Refusal::BadRange { size: mine.size });
+    }
+    Ok(Some(Reply::Done))
+}
+
+/// The bytes that a load reads. (own choice)
+fn loaded<'a>(
+    posts: &Posts,
+    memory: &'a Memory,
+    seg: u64,
+    offset: u64,
+    size: u64,
+) -> Result<&'a [u8], Refusal>
+    ensures { Loads result (load_finds posts.now memory.now seg offset size) }
+{
+    let mine = extent_in(&posts.own, seg).ok_or(Refusal::NoSegment)?;
+    if !is_transfer_size(size) {
+        return Err(Refusal::BadSize);
+    }
+    if !is_within(offset, size, u64::from(mine.size)) {
+        return Err(Refusal::BadRange { size: mine.size });
+    }
+    Ok(range_of(bytes_of(memory, seg), offset as usize, size as usize))
+}
+
+/// Checks a load, and copies the bytes that it reads. (own choice)
+pub fn load_finds(
+    alloc: Global,
+    posts: &Posts,
+    memory: &Memory,
+    seg: u64,
+    offset: u64,
+    size: u64,
+) -> Result<Result<Option<Reply>, Refusal>, NoMemory>
+    ensures { IfOk result (λ finds. finds ≡ load_finds posts.now memory.now seg offset size) }
+{
+    match loaded(posts, memory, seg, offset, size) {
+        Ok(bytes) => Ok(Ok(Some(Reply::Bytes(Rows::copied_from(alloc, bytes)?)))),
+        Err(refusal) => Ok(Err(refusal)),
+    }
+}
+
+/// Checks that a queue is not broken and has room for entries. (GASPI: one-sided communication)
+pub fn post_finds(limits: &Limits, q: &Queue, kinds: &[Kind]) -> Result<Option<Reply>, Refusal>
+    requires { length kinds.now ≤ 256 }
+    ensures { result ≡ post_finds limits.now q.now kinds.now }
+{
+    if let Some(rank) = q.broken {
+        return Err(Refusal::QueueBroken { rank });
+    }
+    let count = q.open_count;
+    let need = kinds.len() as u32;
+    if u64::from(count) + u64::from(need) > u64::from(limits.depth) {
+        return Err(Refusal::QueueFull { count, need });
+    }
+    Ok(Some(Reply::Done))
+}
+
+/// Checks a write with its notification. (GASPI: write_notify)
+pub fn write_notify_finds(
+    limits: &Limits,
+    me: RankId,
+    posts: &Posts,
+    w: &NotifiedWrite,
+) -> Result<Option<Reply>, Refusal>
+    ensures { result ≡ write_notify_finds limits.now me posts.now w.now.seg w.now.offset w.now.rank w.now.rseg w.now.roffset w.now.size w.now.note w.now.value w.now.queue }
+{
+    if w.rank >= u64::from(limits.ranks) {
+        return Err(Refusal::BadRank);
+    }
+    let q = posts.queues.get(w.queue as usize).ok_or(Refusal::BadQueue)?;
+    let kinds = write_notify_kinds(limits.notes, me, &posts.own, &posts.known, w)?;
+    post_finds(limits, q, &kinds)
+}
+
+/// Whether an entry of a queue is posted.
+fn has_posted_entry(q: &Queue) -> bool
+    ensures { result ≡ list_any has_posted q.now.lanes }
+{
+    q.lanes.as_slice().iter().any(has_posted)
+}
+
+/// Looks at a wait: ready where no entry of its queue is posted. (GASPI: wait)
+pub fn wait_finds(posts: &Posts, queue: u64) -> Result<Option<Reply>, Refusal>
+    ensures { result ≡ wait_finds posts.now queue }
+{
+    let q = posts.queues.get(queue as usize).ok_or(Refusal::BadQueue)?;
+    if let Some(rank) = q.broken {
+        return Err(Refusal::QueueBroken { rank });
+    }
+    if has_posted_entry(q) {
+        Ok(None)
+    } else {
+        Ok(Some(Reply::Done))
+    }
+}
+
+/// Looks at a wait for a notification: ready where a slot of its range is set. (GASPI: notify_waitsome)
+pub fn waitsome_finds(
+    limits: &Limits,
+    posts: &Posts,
+    memory: &Memory,
+    seg: u64,
+    begin: u64,
+    num: u64,
+) -> Result<Option<Reply>, Refusal>
+    ensures { result ≡ waitsome_finds limits.now posts.now memory.now seg begin num }
+{
+    extent_in(&posts.own, seg).ok_or(Refusal::NoSegment)?;
+    if !is_slot_range(begin, num, limits.notes) {
+        return Err(Refusal::BadNote);
+    }
+    Ok(first_set(slots_of(memory, seg), begin as usize, num as usize).map(Reply::Id))
+}
+
+/// Looks at a reset: it answers the slot's value. (GASPI: notify_reset)
+pub fn reset_finds(
+    limits: &Limits,
+    posts: &Posts,
+    memory: &Memory,
+    seg: u64,
+    note: u64,
+) -> Result<Option<Reply>, Refusal>
+    ensures { result ≡ reset_finds limits.now posts.now memory.now seg note }
+{
+    extent_in(&posts.own, seg).ok_or(Refusal::NoSegment)?;
+    if note >= u64::from(limits.notes) {
+        return Err(Refusal::BadNote);
+    }
+    let value = slots_of(memory, seg)
+        .get(note as usize)
+        .copied()
+        .unwrap_or(0);
+    Ok(Some(Reply::Value(u64::from(value))))
+}
+
+/// What a call finds: its refusal, or a reply, or that it is not ready. Only a load takes memory.
+pub fn call_finds(
+    alloc: Global,
+    limits: &Limits,
+    me: RankId,
+    posts: &Posts,
+    memory: &Memory,
+    call: &Call,
+) -> Result<Result<Option<Reply>, Refusal>, NoMemory>
+    ensures finds { IfOk result (λ finds. finds ≡ call_finds limits.now me posts.now memory.now call.now) }
+    ensures ample { is_load call.now ≡ false → IsOk result }
+{
+    match call {
+        Call::Store { seg, offset, bytes } => Ok(store_finds(
+            posts,
+            *seg,
+            *offset,
+            bytes.as_slice(),
+        )),
+        Call::Load { seg, offset, size } => load_finds(alloc, posts, memory, *seg, *offset, *size),
+        Call::WriteNotify {
+            seg,
+            offset,
+            rank,
+            rseg,
+            roffset,
+            size,
+            note,
+            value,
+            queue,
+        } => {
+            let w = NotifiedWrite {
+                seg: *seg,
+                offset: *offset,
+                rank: *rank,
+                rseg: *rseg,
+                roffset: *roffset,
+                size: *size,
+                note: *note,
+                value: *value,
+                queue: *queue,
+            };
+            Ok(write_notify_finds(limits, me, posts, &w))
+        }
+        Call::Wait { queue } => Ok(wait_finds(posts, *queue)),
+        Call::Waitsome { seg, begin, num } => {
+            Ok(waitsome_finds(limits, posts, memory, *seg, *begin, *num))
+        }
+        Call::Reset { seg, note } => Ok(reset_finds(limits, posts, memory, *seg, *note)),
+        Call::End => Ok(Ok(Some(Reply::Done))),
+    }
+}
+
+/// The state of a thread.
+pub fn thread_at(posts: &Posts, thread: ThreadId) -> ThreadState
+    ensures { result ≡ thread_at posts.now thread }
+{
+    match posts.threads.get(thread.index()) {
+        Some(state) => *state,
+        None => ThreadState::Absent,
+    }
+}
+
+/// Whether a thread has not ended.
+pub fn is_running(state: ThreadState) -> bool
+    ensures { result ≡ is_running state }
+{
+    matches!(state, ThreadState::Running)
+}
+
+/// What a look at a call finds, in one value.
+fn ready_of(finds: Result<Option<Reply>, Refusal>) -> Ready
+    ensures { result ≡ ready_of finds }
+{
+    match finds {
+        Ok(None) => Ready::NotReady,
+        Ok(Some(reply)) => Ready::Reply(reply),
+        Err(refusal) => Ready::Reply(Reply::Refused(refusal)),
+    }
+}
+
+/// What a look at a call answers. Only a load takes memory.
+pub fn answer(
+    alloc: Global,
+    limits: &Limits,
+    me: RankId,
+    posts: &Posts,
+    memory: &Memory,
+    thread: ThreadId,
+    call: &Call,
+) -> Result<Ready, NoMemory>
+    ensures answer { IfOk result (λ ready. ready ≡ answer limits.now me posts.now memory.now thread call.now) }
+    ensures ample { is_load call.now ≡ false → IsOk result }
+{
+    if !is_running(thread_at(posts, thread)) {
+        return Ok(Ready::Reply(Reply::Refused(Refusal::CallerEnded)));
+    }
+    let finds = call_finds(alloc, limits, me, posts, memory, call)?;
+    Ok(ready_of(finds))
+}
+
+/// The one reply with which a call may be recorded. (GASPI: timeouts)
+pub fn recorded_reply(ready: Ready) -> Reply
+    ensures { result ≡ recorded_reply ready }
+{
+    match ready {
+        Ready::Reply(reply) => reply,
+        Ready::NotReady => Reply::Timeout,
+    }
+}

@@ -1,0 +1,175 @@
+//! The machine: a state that is sound, its steps, and what it answers.
+
+ghost use Rattle.std.specs.Prelude.{◌≡◌, ◌≢◌, ◌+◌, ◌<◌, ◌↔◌, IfOk, IsOk, IsTrue, Some, Err, true, false, not, length};
+ghost use Rattle.gaspi_types.specs.Need.{need_of};
+ghost use Rattle.gaspi_model.specs.State.{opening};
+ghost use Rattle.gaspi_model.specs.Step.{step, Steps, answer_in, is_declared, is_active, room_taken, transfer_event};
+ghost use Rattle.gaspi_model.specs.Transfers.{transfers};
+ghost use Rattle.plain_machine.specs.Memory.{is_load, takes_memory};
+
+use crate::called::is_there;
+use crate::calls::{answer, is_running, thread_at};
+use crate::listing::transfers;
+use crate::opening::{all_memories, all_posts, all_taken};
+use crate::steps::step;
+use crate::transfers::{find_entry, put_outcome};
+use gaspi_model::{Memory, Posts, StepFault, Why, soundness};
+use gaspi_types::{
+    Call, CallerId, Event, Limits, NoMemory, Outcome, RankId, Ready, Rows, Shape, Transfer,
+};
+use std::alloc::Global;
+use std::marker::Model;
+
+/// Transfers that may come next.
+pub type Transfers = Rows<Transfer>;
+
+/// The machine. Contracts see it as its state.
+#[derive(Debug, Drop)]
+pub struct Machine {
+    limits: Limits,
+    posts: Rows<Posts>,
+    memories: Rows<Memory>,
+    /// The room that each rank has taken.
+    taken: Rows<u32>,
+}
+
+impl Model for Machine {
+    ghost use Rattle.gaspi_model.specs.declared.states.State.{State};
+
+    ghost Value = { State };
+
+    ghost use Rattle.plain_machine.specs.Machine.{IsMachine, state_of};
+
+    ghost view = { λ m. state_of m.limits m.posts m.memories };
+
+    ghost invariant = { λ m. IsMachine (state_of m.limits m.posts m.memories) m.taken };
+}
+
+impl Machine {
+    ghost use Rattle.plain_machine.specs.Machine.{event_of};
+
+    /// The machine at the start: the shape's segments and callers, all else zero or empty. (GASPI: segments)
+    pub fn start(alloc: Global, shape: &Shape) -> Result<Machine, NoMemory>
+        ensures { IfOk result (λ machine. machine ≡ opening shape.now) }
+    {
+        soundness();
+        let limits = shape.limits();
+        Ok(Machine {
+            limits,
+            posts: all_posts(alloc, shape)?,
+            memories: all_memories(alloc, shape)?,
+            taken: all_taken(alloc, shape)?,
+        })
+    }
+
+    /// Steps by an event. At Ok the step's state stands; an illegal event is no step, for that cause, and changed
+    /// nothing; without memory nothing changed. Loads, posts and takes alone may want memory.
+    pub fn step(&mut self, alloc: Global, event: &Event) -> Result<(), StepFault>
+        ensures step { Steps result self.old self.new (step self.old event.now) }
+        ensures ample { takes_memory event.now ≡ false → result ≢ Err StepFault.NoMemory }
+    {
+        soundness();
+        step(
+            alloc,
+            &self.limits,
+            &mut self.posts,
+            &mut self.memories,
+            &mut self.taken,
+            event,
+        )
+    }
+
+    /// What a look at a call answers: its refusal or its reply, or that it is not ready. Only a load takes memory, for
+    /// the bytes that it reads.
+    pub fn answer(&self, alloc: Global, caller: CallerId, call: &Call) -> Result<Ready, NoMemory>
+        requires { is_declared self.now caller.rank caller.thread ≡ true }
+        ensures answer { IfOk result (λ ready. answer_in self.now caller.rank caller.thread call.now ≡ Some ready) }
+        ensures ample { is_load call.now ≡ false → IsOk result }
+    {
+        let rank = caller.rank.index();
+        answer(
+            alloc,
+            &self.limits,
+            caller.rank,
+            self.posts.at(rank),
+            self.memories.at(rank),
+            caller.thread,
+            call,
+        )
+    }
+
+    /// The transfers that may come next, by origin, queue, target and number.
+    pub fn transfers(&self, alloc: Global) -> Result<Transfers, NoMemory>
+        ensures { IfOk result (λ found. found ≡ transfers self.now.limits self.now.posts) }
+    {
+        transfers(alloc, &self.limits, &self.posts)
+    }
+
+    /// The outcome of a transfer that may come next.
+    pub fn outcome(&self, transfer: &Transfer) -> Outcome
+        ensures { transfer_event self.now transfer.now ≡ event_of transfer.now result }
+    {
+        if !transfer.put {
+            return Outcome::Applied;
+        }
+        let Some(posts) = self.posts.get(transfer.origin.index()) else {
+            return Outcome::Failed;
+        };
+        let Some(memory) = self.memories.get(transfer.target.index()) else {
+            return Outcome::Failed;
+        };
+        match find_entry(
+            posts,
+            transfer.queue,
+            transfer.target,
+            transfer.number,
+            Why::Put,
+        ) {
+            Ok(at) => put_outcome(memory, &at.entry.kind),
+            Err(_) => Outcome::Failed,
+        }
+    }
+
+    /// How many events of a rank have room yet, none for what it owes.
+    pub fn room(&self, rank: RankId) -> u64
+        requires { rank < length self.now.posts }
+        ensures { result + room_taken self.now rank ≡ self.now.limits.events }
+    {
+        u64::from(self.limits.events) - u64::from(*self.taken.at(rank.index()))
+    }
+
+    /// Whether a rank is there.
+    pub fn has_rank(&self, rank: RankId) -> bool
+        ensures { IsTrue result ↔ (rank < length self.now.posts) }
+    {
+        rank.index() < self.posts.len()
+    }
+
+    /// How much room a call of a caller needs in its rank's count of events.
+    pub fn need(&self, caller: CallerId, call: &Call) -> u64
+        requires { is_declared self.now caller.rank caller.thread ≡ true }
+        ensures { result ≡ need_of call.now false (not (is_active self.now caller.rank caller.thread)) }
+    {
+        gaspi_types::need(call, false, !self.is_active(caller))
+    }
+
+    /// Whether a caller has a section.
+    pub fn is_declared(&self, caller: CallerId) -> bool
+        ensures { result ≡ is_declared self.now caller.rank caller.thread }
+    {
+        match self.posts.get(caller.rank.index()) {
+            Some(posts) => is_there(thread_at(posts, caller.thread)),
+            None => false,
+        }
+    }
+
+    /// Whether a caller has a section and has not ended.
+    pub fn is_active(&self, caller: CallerId) -> bool
+        ensures { result ≡ is_active self.now caller.rank caller.thread }
+    {
+        match self.posts.get(caller.rank.index()) {
+            Some(posts) => is_running(thread_at(posts, caller.thread)),
+            None => false,
+        }
+    }
+}

@@ -1,0 +1,225 @@
+//! The state at the start: the shape's segments and callers, all else zero or empty. (GASPI: segments)
+
+ghost use Rattle.std.specs.Prelude.{◌≡◌, ◌+◌, ◌<◌, ◌≤◌, IfOk, replicate, map, count_by, [], false};
+ghost use Rattle.std.specs.Option.{option_map};
+ghost use Rattle.std.specs.List.{list_any, range_with_len};
+ghost use Rattle.gaspi_types.specs.World.{is_caller};
+ghost use Rattle.gaspi_model.specs.State.{declared_size, opening_extents, opening_thread, opening_queue, opening_posts, opening_segment, opening_memory, is_running};
+
+use crate::calls::is_running;
+use gaspi_model::{Memory, Posts, Queue, Segment, ThreadState};
+use gaspi_types::{Entry, Extent, NoMemory, Rows, Shape};
+use std::alloc::Global;
+
+/// The size with which a segment of a rank is declared.
+fn declared_size(shape: &Shape, rank: u32, segment: u32) -> Option<u32>
+    ensures { result ≡ declared_size shape.now rank segment }
+{
+    shape
+        .segments()
+        .iter()
+        .find(|d| d.rank.number() == rank && d.segment.number() == segment)
+        .map(|d| d.size)
+}
+
+/// The segments that a rank declares, by their numbers.
+#[tactic(auto, using(crate::proofs::Ranges::map_range_more))]
+fn opening_extents(
+    alloc: Global,
+    shape: &Shape,
+    rank: u32,
+) -> Result<Rows<Option<Extent>>, NoMemory>
+    ensures { IfOk result (λ extents. extents ≡ opening_extents shape.now rank) }
+{
+    let mut extents = Rows::new(alloc);
+    for segment in 0..32 {
+        let extent = declared_size(shape, rank, segment).map(|size| Extent {
+            generation: 0,
+            size,
+        });
+        extents.push(extent)?;
+    }
+    Ok(extents)
+}
+
+/// What every rank knows of the segments of each rank.
+#[tactic(auto, using(crate::proofs::Ranges::map_range_more))]
+fn opening_known(alloc: Global, shape: &Shape) -> Result<Rows<Rows<Option<Extent>>>, NoMemory>
+    ensures { IfOk result (λ known. known ≡ map (opening_extents shape.now) (range_with_len 0 shape.now.limits.ranks)) }
+{
+    let mut known = Rows::new(alloc);
+    for rank in 0..shape.ranks() {
+        known.push(opening_extents(alloc, shape, rank)?)?;
+    }
+    Ok(known)
+}
+
+/// Whether a thread has a script.
+fn is_declared(shape: &Shape, rank: u32, thread: u32) -> bool
+    ensures { result ≡ list_any (is_caller rank thread) shape.now.callers }
+{
+    shape
+        .callers()
+        .iter()
+        .any(|c| c.rank.number() == rank && c.thread.number() == thread)
+}
+
+/// The state of a thread at the start.
+fn opening_thread(shape: &Shape, rank: u32, thread: u32) -> ThreadState
+    ensures { result ≡ opening_thread shape.now rank thread }
+{
+    if is_declared(shape, rank, thread) {
+        ThreadState::Running
+    } else {
+        ThreadState::Absent
+    }
+}
+
+/// The threads of a rank.
+#[tactic(auto, using(crate::proofs::Ranges::map_range_more))]
+fn opening_threads(alloc: Global, shape: &Shape, rank: u32) -> Result<Rows<ThreadState>, NoMemory>
+    ensures { IfOk result (λ threads. threads ≡ map (opening_thread shape.now rank) (range_with_len 0 4)) }
+{
+    let mut threads = Rows::new(alloc);
+    for thread in 0..4 {
+        threads.push(opening_thread(shape, rank, thread))?;
+    }
+    Ok(threads)
+}
+
+/// The room that a rank has taken at the start: the ends of its threads.
+#[tactic(auto, using(crate::proofs::Ranges::map_range_more))]
+fn opening_taken(shape: &Shape, rank: u32) -> u32
+    ensures { result ≡ count_by is_running (map (opening_thread shape.now rank) (range_with_len 0 4)) }
+{
+    let mut running = 0;
+    for thread in 0..4 {
+        if is_running(opening_thread(shape, rank, thread)) {
+            running += 1;
+        }
+    }
+    running
+}
+
+/// An empty lane to each rank.
+fn opening_lanes(alloc: Global, ranks: u32) -> Result<Rows<Rows<Entry>>, NoMemory>
+    ensures { IfOk result (λ lanes. lanes ≡ replicate ranks []) }
+{
+    let mut lanes = Rows::new(alloc);
+    for _rank in 0..ranks {
+        lanes.push(Rows::new(alloc))?;
+    }
+    Ok(lanes)
+}
+
+/// The queues of a rank, with no entry.
+fn opening_queues(alloc: Global, queues: u32, ranks: u32) -> Result<Rows<Queue>, NoMemory>
+    ensures { IfOk result (λ rows. rows ≡ replicate queues (opening_queue ranks)) }
+{
+    let mut rows = Rows::new(alloc);
+    for _queue in 0..queues {
+        rows.push(Queue {
+            open_count: 0,
+            broken: None,
+            lanes: opening_lanes(alloc, ranks)?,
+        })?;
+    }
+    Ok(rows)
+}
+
+/// No rank is corrupt.
+fn opening_corrupt(alloc: Global, ranks: u32) -> Result<Rows<bool>, NoMemory>
+    ensures { IfOk result (λ corrupt. corrupt ≡ replicate ranks false) }
+{
+    Ok(Rows::from_vec(vec![in alloc; false; ranks as usize]?))
+}
+
+/// The posts of a rank.
+fn opening_posts(alloc: Global, shape: &Shape, rank: u32) -> Result<Posts, NoMemory>
+    ensures { IfOk result (λ posts. posts ≡ opening_posts shape.now rank) }
+{
+    let ranks = shape.ranks();
+    Ok(Posts {
+        queues: opening_queues(alloc, shape.queues(), ranks)?,
+        corrupt: opening_corrupt(alloc, ranks)?,
+        own: opening_extents(alloc, shape, rank)?,
+        known: opening_known(alloc, shape)?,
+        threads: opening_threads(alloc, shape, rank)?,
+        events: 0,
+        next: 0,
+    })
+}
+
+/// A segment of zeros, with all slots zero.
+fn opening_segment(alloc: Global, notes: u32, size: u32) -> Result<Segment, NoMemory>
+    ensures { IfOk result (λ segment. segment ≡ opening_segment notes size) }
+{
+    Ok(Segment {
+        generation: 0,
+        bytes: Rows::from_vec(vec![in alloc; 0u8; size as usize]?),
+        slots: Rows::from_vec(vec![in alloc; 0u32; notes as usize]?),
+    })
+}
+
+/// The segment of a rank with a number.
+fn opening_segment_at(
+    alloc: Global,
+    shape: &Shape,
+    rank: u32,
+    segment: u32,
+) -> Result<Option<Segment>, NoMemory>
+    ensures { IfOk result (λ s. s ≡ option_map (opening_segment shape.now.limits.notes) (declared_size shape.now rank segment)) }
+{
+    match declared_size(shape, rank, segment) {
+        Some(size) => Ok(Some(opening_segment(alloc, shape.notes(), size)?)),
+        None => Ok(None),
+    }
+}
+
+/// The memory of a rank.
+#[tactic(auto, using(crate::proofs::Ranges::map_range_more))]
+fn opening_memory(alloc: Global, shape: &Shape, rank: u32) -> Result<Memory, NoMemory>
+    ensures { IfOk result (λ memory. memory ≡ opening_memory shape.now rank) }
+{
+    let mut segments = Rows::new(alloc);
+    for segment in 0..32 {
+        segments.push(opening_segment_at(alloc, shape, rank, segment)?)?;
+    }
+    Ok(Memory { segments })
+}
+
+/// The posts of each rank.
+#[tactic(auto, using(crate::proofs::Ranges::map_range_more))]
+pub fn all_posts(alloc: Global, shape: &Shape) -> Result<Rows<Posts>, NoMemory>
+    ensures { IfOk result (λ posts. posts ≡ map (opening_posts shape.now) (range_with_len 0 shape.now.limits.ranks)) }
+{
+    let mut posts = Rows::new(alloc);
+    for rank in 0..shape.ranks() {
+        posts.push(opening_posts(alloc, shape, rank)?)?;
+    }
+    Ok(posts)
+}
+
+/// The memory of each rank.
+#[tactic(auto, using(crate::proofs::Ranges::map_range_more))]
+pub fn all_memories(alloc: Global, shape: &Shape) -> Result<Rows<Memory>, NoMemory>
+    ensures { IfOk result (λ memories. memories ≡ map (opening_memory shape.now) (range_with_len 0 shape.now.limits.ranks)) }
+{
+    let mut memories = Rows::new(alloc);
+    for rank in 0..shape.ranks() {
+        memories.push(opening_memory(alloc, shape, rank)?)?;
+    }
+    Ok(memories)
+}
+
+/// The room that each rank has taken.
+#[tactic(auto, using(crate::proofs::Ranges::map_range_more))]
+pub fn all_taken(alloc: Global, shape: &Shape) -> Result<Rows<u32>, NoMemory>
+    ensures { IfOk result (λ taken. taken ≡ map (λ rank. count_by is_running (map (opening_thread shape.now rank) (range_with_len 0 4))) (range_with_len 0 shape.now.limits.ranks)) }
+{
+    let mut taken = Rows::new(alloc);
+    for rank in 0..shape.ranks() {
+        taken.push(opening_taken(shape, rank))?;
+    }
+    Ok(taken)
+}

@@ -1,0 +1,272 @@
+//! Takes and puts: what a transfer may do, and what it leaves. (GASPI: one-sided communication, notification order)
+
+ghost use Rattle.std.specs.Prelude.{◌≡◌, ◌≢◌, ◌+◌, ◌<◌, ◌^◌, IfOk, Err};
+ghost use Rattle.gaspi_model.specs.Transfers.{same_outcome, find_entry, take, put, put_outcome, target_segment, target_generation, taken_bytes, carried_bytes, memory_put, Parts};
+ghost use Rattle.gaspi_model.specs.Step.{Steps};
+ghost use Rattle.plain_machine.specs.Entries.{Finds, lane_phase, queue_phase, posts_phase, queue_failed, posts_failed_at, queue_without, posts_without};
+
+use crate::lanes::{may_put, may_take, place_of};
+use crate::memories::{bytes_of, range_of, segment_at, set_slot, store_bytes};
+use gaspi_model::{Memory, Posts, Queue, StepFault, Why};
+use gaspi_types::{Bytes, Entry, Kind, Limits, NoMemory, Outcome, Phase, QueueId, RankId, Rows};
+use std::alloc::Global;
+
+/// Where an entry stands: its queue, its lane, its place there and itself.
+#[derive(Drop)]
+pub struct FoundEntry<'a> {
+    pub queue: &'a Queue,
+    pub lane: &'a Rows<Entry>,
+    pub place: usize,
+    pub entry: &'a Entry,
+}
+
+/// Finds an entry by its number. Where it is not there, that is why.
+pub fn find_entry(
+    posts: &Posts,
+    queue: QueueId,
+    target: RankId,
+    number: u32,
+    why: Why,
+) -> Result<FoundEntry<'_>, Why>
+    ensures { Finds result (find_entry posts.now queue target number why) }
+{
+    let queue = posts.queues.get(queue.index()).ok_or(why)?;
+    let lane = queue.lanes.get(target.index()).ok_or(why)?;
+    let place = place_of(lane, number).ok_or(why)?;
+    let entry = lane.get(place).ok_or(why)?;
+    Ok(FoundEntry {
+        queue,
+        lane,
+        place,
+        entry,
+    })
+}
+
+/// Whether outcomes are the same.
+fn same_outcome(a: Outcome, b: Outcome) -> bool
+    ensures { result ≡ same_outcome a b }
+{
+    matches!(
+        (a, b),
+        (Outcome::Applied, Outcome::Applied) | (Outcome::Failed, Outcome::Failed)
+    )
+}
+
+/// The bytes that an entry takes.
+fn taken_bytes(alloc: Global, memory: &Memory, kind: &Kind) -> Result<Bytes, NoMemory>
+    ensures { IfOk result (λ bytes. bytes ≡ taken_bytes memory.now kind.now) }
+{
+    match kind {
+        Kind::Write { own, target: _ } => {
+            let bytes = bytes_of(memory, u64::from(own.segment));
+            Rows::copied_from(
+                alloc,
+                range_of(bytes, own.offset as usize, own.size as usize),
+            )
+        }
+        Kind::Notify { .. } => Ok(Rows::new(alloc)),
+    }
+}
+
+/// Gives an entry of a lane a phase.
+fn set_lane_phase(lane: &mut Rows<Entry>, place: usize, phase: Phase)
+    ensures { lane.new ≡ lane_phase lane.old place phase }
+{
+    if place < lane.len() {
+        lane.at_mut(place).phase = phase;
+    }
+}
+
+/// Gives an entry of a queue a phase.
+fn set_queue_phase(q: &mut Queue, target: RankId, place: usize, phase: Phase)
+    ensures { q.new ≡ queue_phase target place phase q.old }
+{
+    let lane = target.index();
+    if lane < q.lanes.len() {
+        set_lane_phase(q.lanes.at_mut(lane), place, phase);
+    }
+}
+
+/// Gives an entry a phase.
+fn set_phase(posts: &mut Posts, queue: QueueId, target: RankId, place: usize, phase: Phase)
+    ensures { posts.new ≡ posts_phase posts.old queue target place phase }
+{
+    let q = queue.index();
+    if q < posts.queues.len() {
+        set_queue_phase(posts.queues.at_mut(q), target, place, phase);
+    }
+}
+
+/// An entry of a queue that failed stays in its place, and breaks the queue.
+fn fail_queue_entry(q: &mut Queue, target: RankId, place: usize)
+    ensures { q.new ≡ queue_failed target place q.old }
+{
+    set_queue_phase(q, target, place, Phase::Failed);
+    q.broken = Some(target);
+}
+
+/// An entry that failed also marks its target as corrupt. (GASPI: state vector)
+fn fail_entry(posts: &mut Posts, queue: QueueId, target: RankId, place: usize)
+    ensures { posts.new ≡ posts_failed_at posts.old queue target place }
+{
+    let q = queue.index();
+    if q < posts.queues.len() {
+        fail_queue_entry(posts.queues.at_mut(q), target, place);
+    }
+    let rank = target.index();
+    if rank < posts.corrupt.len() {
+        *posts.corrupt.at_mut(rank) = true;
+    }
+}
+
+/// Takes an entry out of a queue.
+fn remove_queue_entry(q: &mut Queue, target: RankId, place: usize)
+    ensures { q.new ≡ queue_without target place q.old }
+{
+    let lane = target.index();
+    if lane < q.lanes.len() {
+        let entries = q.lanes.at_mut(lane);
+        if place < entries.len() {
+            let _entry = entries.remove(place);
+        }
+    }
+}
+
+/// Takes an entry out of its lane.
+fn remove_entry(posts: &mut Posts, queue: QueueId, target: RankId, place: usize)
+    ensures { posts.new ≡ posts_without posts.old queue target place }
+{
+    let q = queue.index();
+    if q < posts.queues.len() {
+        remove_queue_entry(posts.queues.at_mut(q), target, place);
+    }
+}
+
+/// Steps by a take: the entry is posted, its queue is not broken, and fewer entries of its lane than a queue holds
+/// have taken their bytes.
+pub fn take(
+    alloc: Global,
+    limits: &Limits,
+    posts: &mut Posts,
+    memory: &Memory,
+    queue: QueueId,
+    target: RankId,
+    number: u32,
+    outcome: Outcome,
+) -> Result<(), StepFault>
+    requires { posts.old.events + 1 < 2 ^ 32 }
+    ensures { Steps result posts.old posts.new (take limits.now posts.old memory.now queue target number outcome) }
+{
+    let at = match find_entry(posts, queue, target, number, Why::Take) {
+        Ok(at) => at,
+        Err(why) => return Err(StepFault::Illegal(why)),
+    };
+    if at.queue.broken.is_some()
+        || !may_take(limits.depth, at.lane, at.entry)
+        || !same_outcome(outcome, Outcome::Applied)
+    {
+        return Err(StepFault::Illegal(Why::Take));
+    }
+    let bytes = match taken_bytes(alloc, memory, &at.entry.kind) {
+        Ok(bytes) => bytes,
+        Err(NoMemory) => return Err(StepFault::NoMemory),
+    };
+    let place = at.place;
+    set_phase(posts, queue, target, place, Phase::Carried(bytes));
+    posts.events += 1;
+    Ok(())
+}
+
+/// The segment and the generation to which an entry puts.
+fn target_of(kind: &Kind) -> (u32, u32)
+    ensures segment { result.0 ≡ target_segment kind.now }
+    ensures generation { result.1 ≡ target_generation kind.now }
+{
+    match kind {
+        Kind::Write { own: _, target } => (target.segment, target.generation),
+        Kind::Notify { target, value: _ } => (target.segment, target.generation),
+    }
+}
+
+/// How a put ends: it fails where the target's segment of the entry's generation is gone. (GASPI: state vector)
+pub fn put_outcome(memory: &Memory, kind: &Kind) -> Outcome
+    ensures { result ≡ put_outcome memory.now kind.now }
+{
+    let (segment, generation) = target_of(kind);
+    match segment_at(memory, u64::from(segment)) {
+        Some(s) if s.generation == generation => Outcome::Applied,
+        Some(_) | None => Outcome::Failed,
+    }
+}
+
+/// The bytes that an entry has taken.
+fn carried_bytes(phase: &Phase) -> &[u8]
+    ensures { result.now ≡ carried_bytes phase.now }
+{
+    match phase {
+        Phase::Carried(bytes) => bytes.as_slice(),
+        Phase::Posted | Phase::Failed => &[],
+    }
+}
+
+/// Stores the bytes of an entry, or sets its slot: exactly the stated range, or the one slot, is changed.
+fn memory_put(memory: &mut Memory, entry: &Entry)
+    ensures { memory.new ≡ memory_put memory.old entry.now }
+{
+    match &entry.kind {
+        Kind::Write { own: _, target } => store_bytes(
+            memory,
+            u64::from(target.segment),
+            u64::from(target.offset),
+            carried_bytes(&entry.phase),
+        ),
+        Kind::Notify { target, value } => {
+            set_slot(
+                memory,
+                u64::from(target.segment),
+                u64::from(target.note),
+                *value,
+            );
+        }
+    }
+}
+
+/// Steps by a put: the entry has taken its bytes, its queue is not broken, and, for a notification, no earlier write
+/// stands in its lane. It takes no memory.
+pub fn put(
+    posts: &mut Posts,
+    memory: &mut Memory,
+    queue: QueueId,
+    target: RankId,
+    number: u32,
+    outcome: Outcome,
+) -> Result<(), StepFault>
+    requires { posts.old.events + 1 < 2 ^ 32 }
+    ensures step { Steps {S = Parts} result (record { posts = posts.old; memory = memory.old }) (record { posts = posts.new; memory = memory.new }) (put posts.old memory.old queue target number outcome) }
+    ensures ample { result ≢ Err StepFault.NoMemory }
+{
+    let at = match find_entry(posts, queue, target, number, Why::Put) {
+        Ok(at) => at,
+        Err(why) => return Err(StepFault::Illegal(why)),
+    };
+    if at.queue.broken.is_some()
+        || !may_put(at.lane, at.entry)
+        || !same_outcome(outcome, put_outcome(memory, &at.entry.kind))
+    {
+        return Err(StepFault::Illegal(Why::Put));
+    }
+    let place = at.place;
+    match outcome {
+        Outcome::Applied => {
+            memory_put(memory, at.entry);
+            remove_entry(posts, queue, target, place);
+            posts.events += 1;
+            Ok(())
+        }
+        Outcome::Failed => {
+            fail_entry(posts, queue, target, place);
+            posts.events += 1;
+            Ok(())
+        }
+    }
+}
