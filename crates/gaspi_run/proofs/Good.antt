@@ -126,6 +126,7 @@ good-candidate steps stay limit w t candidate good = of-caller (slice_get t.wait
     of-transfer : (o : Option Transfer) → slice_get t.waiting candidate ≡ None → slice_get (transfers t.state.limits t.state.posts) (candidate - length t.waiting) ≡ o → IsGood w (candidate_turn limit t candidate)
     of-transfer None past none = rw (past, none) good
     of-transfer (Some transfer) past at = rw (past, at) (good-made steps stay w t (transfer_event t.state transfer) good)
+
     of-caller : (o : Option Waiting) → slice_get t.waiting candidate ≡ o → IsGood w (candidate_turn limit t candidate)
     of-caller (Some x) at = rw at (good-progress steps stay limit w t candidate x x.cursor good at)
     of-caller None past = of-transfer (slice_get (transfers t.state.limits t.state.posts) (candidate - length t.waiting)) past refl
@@ -135,6 +136,7 @@ good-turn steps stay limit w t good = go (candidates t == 0) refl
   where
     draw : IsGood w (with_draw t)
     draw = record { legal = good.legal; sound = good.sound; limits = good.limits; ranked = good.ranked }
+
     go : (b : Bool) → (candidates t == 0) ≡ b → IsGood w (turn limit t)
     go true over = rw over good
     go false some = rw some (good-candidate steps stay limit w (with_draw t) (picked (drawn t.x) (candidates t)) draw)

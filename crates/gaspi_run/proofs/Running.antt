@@ -48,7 +48,7 @@ own_calls-append rank thread [] b = refl
 own_calls-append rank thread (Called c call reply ∷ a) b = go (is_caller rank thread c) (own_calls-append rank thread a b)
   where
     go : (x : Bool) → own_calls rank thread (a ++ b) ≡ own_calls rank thread a ++ own_calls rank thread b
-      → (if x then (call, reply) ∷ own_calls rank thread (a ++ b) else own_calls rank thread (a ++ b))
+        → (if x then (call, reply) ∷ own_calls rank thread (a ++ b) else own_calls rank thread (a ++ b))
         ≡ (if x then (call, reply) ∷ own_calls rank thread a else own_calls rank thread a) ++ own_calls rank thread b
     go true rest = ap (λ (ps : List (Call × Reply)). (call, reply) ∷ ps) rest
     go false rest = rest
@@ -116,7 +116,7 @@ line-there (l ∷ lines) [] line rest follows = (0, (let same : ◌≡◌ {A = P
 line-there (l ∷ lines) (pair ∷ pairs) line rest follows = go (is_stuck l pair.1) follows.1 (λ f. line-there lines pairs line rest f)
   where
     go : (b : Bool) → Follows (if b then Over (outcomes.Stuck l.number) else going_on lines) pairs (Going line rest)
-      → (Follows (going_on lines) pairs (Going line rest) → (place : ℕ) × (slice_get lines place ≡ Some line)) → (place : ℕ) × (slice_get (l ∷ lines) place ≡ Some line)
+        → (Follows (going_on lines) pairs (Going line rest) → (place : ℕ) × (slice_get lines place ≡ Some line)) → (place : ℕ) × (slice_get (l ∷ lines) place ≡ Some line)
     go true f later = absurd (over-stays (outcomes.Stuck l.number) pairs line rest f)
     go false f later = let found = later f in (suc found.0, found.1)
 
@@ -168,12 +168,17 @@ pub stopped-more : (w : World) (journal : List Event) (e : Event) (c : CallerId)
 stopped-more w journal e c lines outcome foreign s =
     let same : own_calls c.rank c.thread (journal ++ e ∷ []) ≡ own_calls c.rank c.thread journal = own_calls-append c.rank c.thread journal (e ∷ []) ∙ rw foreign (append-nil _) in
     record {
-      line = s.line; rest = s.rest;
+      line = s.line;
+      rest = s.rest;
       follows = subst (λ (ps : List (Call × Reply)). Follows (going_on lines) ps (Going s.line s.rest)) (sym same) s.follows;
-      limit = s.limit; before = s.before; later = s.later ++ e ∷ [];
+      limit = s.limit;
+      before = s.before;
+      later = s.later ++ e ∷ [];
       begins = sym (append_assoc s.before s.later (e ∷ [])) ∙ ap (λ (h : List Event). h ++ e ∷ []) s.begins;
       calls = s.calls ∙ sym same;
-      state = s.state; leads = s.leads; full = s.full;
+      state = s.state;
+      leads = s.leads;
+      full = s.full;
     }
 
 pub come-more : (w : World) (journal : List Event) (e : Event) (c : CallerId) (lines : List ScriptLine) (p : Progress) → own_of c.rank c.thread e ≡ []
@@ -190,20 +195,29 @@ limit-more w journal e c lines (outcomes.Stuck number) foreign h = tt
 limit-more w journal e c lines (outcomes.NoMemory number) foreign h = h
 limit-more w journal e c lines (outcomes.Limit number) foreign h =
     let same : own_calls c.rank c.thread (journal ++ e ∷ []) ≡ own_calls c.rank c.thread journal = own_calls-append c.rank c.thread journal (e ∷ []) ∙ rw foreign (append-nil _) in
-    let r = h.4 in
-    (h.0, h.1, h.2, h.3, record {
-      before = r.before; later = r.later ++ e ∷ [];
-      begins = sym (append_assoc r.before r.later (e ∷ [])) ∙ ap (λ (x : List Event). x ++ e ∷ []) r.begins;
-      calls = r.calls ∙ sym same;
-      state = r.state; leads = r.leads; full = r.full;
-    })
+    let r = h.4 in (
+      h.0,
+      h.1,
+      h.2,
+      h.3,
+      record {
+        before = r.before;
+        later = r.later ++ e ∷ [];
+        begins = sym (append_assoc r.before r.later (e ∷ [])) ∙ ap (λ (x : List Event). x ++ e ∷ []) r.begins;
+        calls = r.calls ∙ sym same;
+        state = r.state;
+        leads = r.leads;
+        full = r.full;
+      },
+    )
 
 pub ended-more : (w : World) (scripts : List Script) (journal : List Event) (e : Event) (f : Finished) → own_of f.caller.rank f.caller.thread e ≡ []
     → HasEnded w scripts journal f → HasEnded w scripts (journal ++ e ∷ []) f
 ended-more w scripts journal e f foreign h =
     let same : own_calls f.caller.rank f.caller.thread (journal ++ e ∷ []) ≡ own_calls f.caller.rank f.caller.thread journal = own_calls-append f.caller.rank f.caller.thread journal (e ∷ []) ∙ rw foreign (append-nil _) in
     record {
-      script = h.script; is_script = h.is_script;
+      script = h.script;
+      is_script = h.is_script;
       run = subst (λ (ps : List (Call × Reply)). IsRun h.script.lines ps f.outcome) (sym same) h.run;
       limit = limit-more w journal e f.caller h.script.lines f.outcome foreign h.limit;
     }

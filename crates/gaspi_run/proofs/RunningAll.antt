@@ -108,13 +108,25 @@ stopped-goes : (w : World) (scripts : List Script) (t : Turns) (x : Waiting) (li
     → t.state.limits.events < room_taken t.state x.caller.rank + need_of line.call false false
     → Goes w scripts t.journal (record { caller = x.caller; cursor = stopped x.cursor halts.Limit; looks = 0 })
 stopped-goes w scripts t x line lines good g going full = record {
-  script = g.script; is_script = g.is_script;
-  come = inr (outcomes.Limit line.number, ap (λ (p : Progress). stopped p halts.Limit) going, record {
-    line = line; rest = lines; follows = follows g.come; limit = refl;
-    before = t.journal; later = []; begins = append-nil t.journal; calls = refl;
-    state = t.state; leads = good.legal;
-    full = subst (λ (n : ℕ). n < room_taken t.state x.caller.rank + need_of line.call false false) (ap (λ (l : Rattle.gaspi_types.specs.declared.shapes.Limits.Limits). l.events) good.limits) full;
-  });
+  script = g.script;
+  is_script = g.is_script;
+  come = inr (
+    outcomes.Limit line.number,
+    ap (λ (p : Progress). stopped p halts.Limit) going,
+    record {
+      line = line;
+      rest = lines;
+      follows = follows g.come;
+      limit = refl;
+      before = t.journal;
+      later = [];
+      begins = append-nil t.journal;
+      calls = refl;
+      state = t.state;
+      leads = good.legal;
+      full = subst (λ (n : ℕ). n < room_taken t.state x.caller.rank + need_of line.call false false) (ap (λ (l : Rattle.gaspi_types.specs.declared.shapes.Limits.Limits). l.events) good.limits) full;
+    },
+  );
 }
   where
     follows : HasCome w t.journal x.caller g.script.lines x.cursor → Follows (going_on g.script.lines) (own_calls x.caller.rank x.caller.thread t.journal) (Going line lines)
@@ -129,7 +141,7 @@ going-running laws limit w scripts t place x line lines plain good running at go
     go true full =
         let x' : Waiting = record { caller = x.caller; cursor = stopped x.cursor halts.Limit; looks = 0 } in
         rw full (waiting-changed w scripts t place x x' running at refl
-            (stopped-goes w scripts t x line lines good (running.goes place x at) going (ltb-true t.state.limits.events (room_taken t.state x.caller.rank + need_of line.call false false) full)))
+        (stopped-goes w scripts t x line lines good (running.goes place x at) going (ltb-true t.state.limits.events (room_taken t.state x.caller.rank + need_of line.call false false) full)))
     go false room =
         let fits = ltb-false t.state.limits.events (room_taken t.state x.caller.rank + need_of line.call false false) room in
         rw room (answered-running laws limit w scripts t place x line lines (answer_in t.state x.caller.rank x.caller.thread line.call) plain good running at going fits refl)
@@ -179,9 +191,11 @@ transfer-running laws w scripts t transfer running = go (step t.state (transfer_
     foreign : (b : Bool) (put take : Event) → ((rank thread : ℕ) → own_of rank thread put ≡ []) → ((rank thread : ℕ) → own_of rank thread take ≡ []) → (rank thread : ℕ) → own_of rank thread (if b then put else take) ≡ []
     foreign true put take p q rank thread = p rank thread
     foreign false put take p q rank thread = q rank thread
+
     ends : (b : Bool) (put take : Event) → ((rank thread : ℕ) → ends_caller rank thread put ≡ false) → ((rank thread : ℕ) → ends_caller rank thread take ≡ false) → (rank thread : ℕ) → ends_caller rank thread (if b then put else take) ≡ false
     ends true put take p q rank thread = p rank thread
     ends false put take p q rank thread = q rank thread
+
     go : (r : Result State Why) → step t.state (transfer_event t.state transfer) ≡ r → IsRunning w scripts (made t (transfer_event t.state transfer))
     go (Err why) is = rw is running
     go (Ok s) is = rw is (foreign-step laws.active w scripts t (transfer_event t.state transfer) s running is
@@ -193,6 +207,7 @@ candidate-running laws limit w scripts t candidate plain good running = of-calle
     of-transfer : (o : Option Transfer) → slice_get t.waiting candidate ≡ None → slice_get (transfers t.state.limits t.state.posts) (candidate - length t.waiting) ≡ o → IsRunning w scripts (candidate_turn limit t candidate)
     of-transfer None past none = rw (past, none) running
     of-transfer (Some transfer) past at = rw (past, at) (transfer-running laws w scripts t transfer running)
+
     of-caller : (o : Option Waiting) → slice_get t.waiting candidate ≡ o → IsRunning w scripts (candidate_turn limit t candidate)
     of-caller (Some x) at = rw at (caller-running laws limit w scripts t candidate x plain good running at)
     of-caller None past = of-transfer (slice_get (transfers t.state.limits t.state.posts) (candidate - length t.waiting)) past refl
@@ -202,8 +217,10 @@ running-turn laws limit w scripts t plain good running = go (candidates t == 0) 
   where
     good-draw : IsGood w (with_draw t)
     good-draw = record { legal = good.legal; sound = good.sound; limits = good.limits; ranked = good.ranked }
+
     draw : IsRunning w scripts (with_draw t)
     draw = record { active = running.active; goes = running.goes; ended = running.ended; counted = running.counted; once = running.once }
+
     go : (b : Bool) → (candidates t == 0) ≡ b → IsRunning w scripts (turn limit t)
     go true over = rw over running
     go false some = rw some (candidate-running laws limit w scripts (with_draw t) (picked (drawn t.x) (candidates t)) plain good-draw draw)

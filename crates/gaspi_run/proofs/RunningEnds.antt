@@ -54,7 +54,7 @@ follows-cause w journal c all (l ∷ lines) [] outcome follows = absurd (let no 
 follows-cause w journal c all (l ∷ lines) (pair ∷ pairs) outcome follows = go (is_stuck l pair.1) follows.1 (λ f. follows-cause w journal c all lines pairs outcome f)
   where
     go : (b : Bool) → Follows (if b then Over (outcomes.Stuck l.number) else going_on lines) pairs (Over outcome) → (Follows (going_on lines) pairs (Over outcome) → HasLimitCause w journal c all outcome)
-      → HasLimitCause w journal c all outcome
+        → HasLimitCause w journal c all outcome
     go true f later = over-cause w journal c all (outcomes.Stuck l.number) outcome pairs tt f
     go false f later = later f
 
@@ -65,11 +65,13 @@ ended-of ends stops w scripts journal x outcome over g = by-come g.come
   where
     pairs-is : own_calls x.caller.rank x.caller.thread (journal ++ Called x.caller End replies.Done ∷ []) ≡ own_calls x.caller.rank x.caller.thread journal ++ end_pair
     pairs-is = own-more w journal x.caller End replies.Done
+
     by-come : HasCome w journal x.caller g.script.lines x.cursor → HasEnded w scripts (journal ++ Called x.caller End replies.Done ∷ []) (record { caller = x.caller; outcome = outcome })
     by-come (inl f) =
         let follows = subst (λ (p : Progress). Follows (going_on g.script.lines) (own_calls x.caller.rank x.caller.thread journal) p) over f in
         record {
-          script = g.script; is_script = g.is_script;
+          script = g.script;
+          is_script = g.is_script;
           run = subst (λ (ps : List (Call × Reply)). IsRun g.script.lines ps outcome) (sym pairs-is) (ends g.script.lines (own_calls x.caller.rank x.caller.thread journal) outcome follows);
           limit = follows-cause w (journal ++ Called x.caller End replies.Done ∷ []) x.caller g.script.lines g.script.lines (own_calls x.caller.rank x.caller.thread journal) outcome follows;
         }
@@ -79,17 +81,26 @@ ended-of ends stops w scripts journal x outcome over g = by-come g.come
         let same : outcome ≡ stopped.0 = cc in
         let limit : outcome ≡ outcomes.Limit s.line.number = same ∙ s.limit in
         let there = line-there g.script.lines (own_calls x.caller.rank x.caller.thread journal) s.line s.rest s.follows in
-        let cause : HasLimitCause w (journal ++ Called x.caller End replies.Done ∷ []) x.caller g.script.lines (outcomes.Limit s.line.number) =
-            (there.0, s.line, there.1, refl, record {
-              before = s.before; later = s.later ++ Called x.caller End replies.Done ∷ [];
-              begins = sym (append_assoc s.before s.later (Called x.caller End replies.Done ∷ [])) ∙ ap (λ (h : List Event). h ++ Called x.caller End replies.Done ∷ []) s.begins;
-              calls = ap (λ (ps : List (Call × Reply)). ps ++ end_pair) s.calls ∙ sym pairs-is;
-              state = s.state; leads = s.leads; full = s.full;
-            }) in
+        let cause : HasLimitCause w (journal ++ Called x.caller End replies.Done ∷ []) x.caller g.script.lines (outcomes.Limit s.line.number) = (
+          there.0,
+          s.line,
+          there.1,
+          refl,
+          record {
+            before = s.before;
+            later = s.later ++ Called x.caller End replies.Done ∷ [];
+            begins = sym (append_assoc s.before s.later (Called x.caller End replies.Done ∷ [])) ∙ ap (λ (h : List Event). h ++ Called x.caller End replies.Done ∷ []) s.begins;
+            calls = ap (λ (ps : List (Call × Reply)). ps ++ end_pair) s.calls ∙ sym pairs-is;
+            state = s.state;
+            leads = s.leads;
+            full = s.full;
+          },
+        ) in
         record {
-          script = g.script; is_script = g.is_script;
+          script = g.script;
+          is_script = g.is_script;
           run = subst (λ (ps : List (Call × Reply)). IsRun g.script.lines ps outcome) (sym pairs-is)
-            (stops g.script.lines (own_calls x.caller.rank x.caller.thread journal) s.line s.rest outcome s.follows (inl limit));
+              (stops g.script.lines (own_calls x.caller.rank x.caller.thread journal) s.line s.rest outcome s.follows (inl limit));
           limit = subst (λ (o : RunOutcome). HasLimitCause w (journal ++ Called x.caller End replies.Done ∷ []) x.caller g.script.lines o) (sym limit) cause;
         }
 
@@ -107,29 +118,35 @@ ending-step stays ends stops w scripts t place x outcome s running at over is = 
   where
     foreign : (rank thread : ℕ) → is_caller rank thread x.caller ≡ false → ends_caller rank thread (Called x.caller End replies.Done) ≡ false
     foreign rank thread apart = rw apart refl
+
     active-at : (y : Waiting) → ((k : ℕ) × (place ≡ k → ⊥) × (slice_get t.waiting k ≡ Some y)) → is_active s y.caller.rank y.caller.thread ≡ true
     active-at y here =
         stays t.state s (Called x.caller End replies.Done) y.caller.rank y.caller.thread is (foreign y.caller.rank y.caller.thread (apart-waiting w scripts t place here.0 x y running at here.2 here.1))
         ∙ running.active here.0 y here.2
+
     goes-at : (y : Waiting) → ((k : ℕ) × (place ≡ k → ⊥) × (slice_get t.waiting k ≡ Some y)) → Goes w scripts (t.journal ++ Called x.caller End replies.Done ∷ []) y
     goes-at y here =
         let g = running.goes here.0 y here.2 in
         record {
-          script = g.script; is_script = g.is_script;
+          script = g.script;
+          is_script = g.is_script;
           come = come-more w t.journal (Called x.caller End replies.Done) y.caller g.script.lines y.cursor
-            (own-other y.caller.rank y.caller.thread x.caller End replies.Done (apart-waiting w scripts t place here.0 x y running at here.2 here.1)) g.come;
+              (own-other y.caller.rank y.caller.thread x.caller End replies.Done (apart-waiting w scripts t place here.0 x y running at here.2 here.1)) g.come;
         }
+
     new-at : (f : Finished) (j : ℕ) → slice_get (record { caller = x.caller; outcome = outcome } ∷ []) j ≡ Some f → HasEnded w scripts (t.journal ++ Called x.caller End replies.Done ∷ []) f
     new-at f zero here =
         let same : ◌≡◌ {A = Finished} (record { caller = x.caller; outcome = outcome }) f = cc in
         subst (λ (g : Finished). HasEnded w scripts (t.journal ++ Called x.caller End replies.Done ∷ []) g) same (ended-of ends stops w scripts t.journal x outcome over (running.goes place x at))
     new-at f (suc j) here = absurd (let no : ⊥ = cc in no)
+
     ended-at : (f : Finished) → ((j : ℕ) × (slice_get t.finished j ≡ Some f)) ⊎ ((j : ℕ) × (slice_get (record { caller = x.caller; outcome = outcome } ∷ []) j ≡ Some f)) → HasEnded w scripts (t.journal ++ Called x.caller End replies.Done ∷ []) f
     ended-at f (inl here) = ended-more w scripts t.journal (Called x.caller End replies.Done) f
         (own-other f.caller.rank f.caller.thread x.caller End replies.Done (apart-finished w scripts t place here.0 x f running at here.1)) (running.ended here.0 f here.1)
     ended-at f (inr here) = new-at f here.0 here.1
+
     counts : (rank thread : ℕ) → waiting_count rank thread (remove t.waiting place) + finished_count rank thread (t.finished ++ record { caller = x.caller; outcome = outcome } ∷ [])
-      ≡ count_by (λ (s : Script). is_caller rank thread s.caller) scripts
+        ≡ count_by (λ (s : Script). is_caller rank thread s.caller) scripts
     counts rank thread =
         let f = λ (z : Waiting). cond {A = ℕ} (is_caller rank thread z.caller) 1 0 in
         let gone = subst (λ (y : Waiting). sum_by f (remove t.waiting place) + f y ≡ sum_by f t.waiting) (get_or_from_slice_get t.waiting place x x at) (sum_by-remove f t.waiting place x (slice_get_within t.waiting place x at)) in

@@ -52,7 +52,8 @@ pub foreign-step : ActiveStays → (w : World) (scripts : List Script) (t : Turn
 foreign-step stays w scripts t e s running is foreign ends = record {
   active = λ place x at. stays t.state s e x.caller.rank x.caller.thread is (ends x.caller.rank x.caller.thread) ∙ running.active place x at;
   goes = λ place x at. (let g = running.goes place x at in record {
-    script = g.script; is_script = g.is_script;
+    script = g.script;
+    is_script = g.is_script;
     come = come-more w t.journal e x.caller g.script.lines x.cursor (foreign x.caller.rank x.caller.thread) g.come;
   });
   ended = λ place f at. ended-more w scripts t.journal e f (foreign f.caller.rank f.caller.thread) (running.ended place f at);
@@ -111,6 +112,7 @@ waiting-changed w scripts t place x x' running at same goes = record {
     active-at : (q : ℕ) (y : Waiting) → ((q ≡ place) × (y ≡ x')) ⊎ (slice_get t.waiting q ≡ Some y) → is_active t.state y.caller.rank y.caller.thread ≡ true
     active-at q y (inl here) = rw (here.1, same) (running.active place x at)
     active-at q y (inr there) = running.active q y there
+
     goes-at : (q : ℕ) (y : Waiting) → ((q ≡ place) × (y ≡ x')) ⊎ (slice_get t.waiting q ≡ Some y) → Goes w scripts t.journal y
     goes-at q y (inl here) = subst (λ (z : Waiting). Goes w scripts t.journal z) (sym here.1) goes
     goes-at q y (inr there) = running.goes q y there
@@ -127,9 +129,10 @@ own-more w journal c call reply = own_calls-append c.rank c.thread journal (Call
 goes-on : Onward → (w : World) (scripts : List Script) (journal : List Event) (x : Waiting) (line : ScriptLine) (lines : List ScriptLine) (reply : Reply) → x.cursor ≡ Going line lines → Goes w scripts journal x
     → Goes w scripts (journal ++ Called x.caller line.call reply ∷ []) (record { caller = x.caller; cursor = advanced x.cursor reply; looks = 0 })
 goes-on onward w scripts journal x line lines reply going g = record {
-  script = g.script; is_script = g.is_script;
+  script = g.script;
+  is_script = g.is_script;
   come = inl (subst (λ (ps : List (Call × Reply)). Follows (going_on g.script.lines) ps (advanced x.cursor reply)) (sym (own-more w journal x.caller line.call reply))
-    (subst (λ (p : Progress). Follows (going_on g.script.lines) (own_calls x.caller.rank x.caller.thread journal ++ (line.call, reply) ∷ []) (advanced p reply)) (sym going)
+      (subst (λ (p : Progress). Follows (going_on g.script.lines) (own_calls x.caller.rank x.caller.thread journal ++ (line.call, reply) ∷ []) (advanced p reply)) (sym going)
       (onward (going_on g.script.lines) (own_calls x.caller.rank x.caller.thread journal) line lines reply (follows g.come))));
 }
   where
@@ -151,14 +154,17 @@ called-step stays onward w scripts t place x line lines reply s running at going
   where
     ends : (rank thread : ℕ) → ends_caller rank thread (Called x.caller line.call reply) ≡ false
     ends rank thread = rw plain (and-false (is_caller rank thread x.caller))
+
     active-at : (q : ℕ) (y : Waiting) → ((q ≡ place) × (y ≡ record { caller = x.caller; cursor = advanced x.cursor reply; looks = 0 })) ⊎ ((place ≡ q → ⊥) × (slice_get t.waiting q ≡ Some y)) → is_active s y.caller.rank y.caller.thread ≡ true
     active-at q y (inl here) = rw here.1 (stays t.state s (Called x.caller line.call reply) x.caller.rank x.caller.thread is (ends x.caller.rank x.caller.thread) ∙ running.active place x at)
     active-at q y (inr there) = stays t.state s (Called x.caller line.call reply) y.caller.rank y.caller.thread is (ends y.caller.rank y.caller.thread) ∙ running.active q y there.1
+
     goes-at : (q : ℕ) (y : Waiting) → ((q ≡ place) × (y ≡ record { caller = x.caller; cursor = advanced x.cursor reply; looks = 0 })) ⊎ ((place ≡ q → ⊥) × (slice_get t.waiting q ≡ Some y)) → Goes w scripts (t.journal ++ Called x.caller line.call reply ∷ []) y
     goes-at q y (inl here) = subst (λ (z : Waiting). Goes w scripts (t.journal ++ Called x.caller line.call reply ∷ []) z) (sym here.1) (goes-on onward w scripts t.journal x line lines reply going (running.goes place x at))
     goes-at q y (inr there) =
         let g = running.goes q y there.1 in
         record {
-          script = g.script; is_script = g.is_script;
+          script = g.script;
+          is_script = g.is_script;
           come = come-more w t.journal (Called x.caller line.call reply) y.caller g.script.lines y.cursor (own-other y.caller.rank y.caller.thread x.caller line.call reply (apart-waiting w scripts t place q x y running at there.1 there.0)) g.come;
         }

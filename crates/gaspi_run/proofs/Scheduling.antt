@@ -67,7 +67,7 @@ turned-good w scripts seed limit t k h =
 pub turned-running : (w : World) (scripts : List Script) (seed limit : ℕ) (t : Turns) → Known w scripts → HasTurned w scripts seed limit t → IsRunning w scripts t
 turned-running w scripts seed limit t k h =
     subst (λ (u : Turns). IsRunning w scripts u) (sym h.is)
-        (running-turns k.laws limit h.count w scripts (started w scripts seed) k.plain (good-started k.opens w scripts seed k.world k.are) (running-started w scripts seed k.world k.are))
+    (running-turns k.laws limit h.count w scripts (started w scripts seed) k.plain (good-started k.opens w scripts seed k.world k.are) (running-started w scripts seed k.world k.are))
 
 running-there : (t : ThreadState) → is_running t ≡ true → is_there t ≡ true
 running-there Absent h = absurd (let no : ⊥ = cc in no)
@@ -89,7 +89,7 @@ pub turned-less : (w : World) (scripts : List Script) (seed limit : ℕ) (t : Tu
 turned-less w scripts seed limit t k h some =
     let good = turned-good w scripts seed limit t k h in
     turn-less k.counts k.transfers limit t good.sound
-        (λ place x at. subst (λ (l : Rattle.gaspi_types.specs.declared.shapes.Limits.Limits). x.caller.rank < l.ranks) (sym good.limits) (good.ranked place x at)) some
+    (λ place x at. subst (λ (l : Rattle.gaspi_types.specs.declared.shapes.Limits.Limits). x.caller.rank < l.ranks) (sym good.limits) (good.ranked place x at)) some
 
 pub turned-more : (w : World) (scripts : List Script) (seed limit : ℕ) (t u : Turns) → HasTurned w scripts seed limit t → u ≡ turn limit t → HasTurned w scripts seed limit u
 turned-more w scripts seed limit t u h is = record {

@@ -115,6 +115,7 @@ other-start scripts r t a b apart = go (find (is_script_of (record { rank = a; t
         let here = both (s.caller.rank == a) (s.caller.thread == b) pass in
         let there = both (s.caller.rank == r) (s.caller.thread == t) is in
         absurd (apart (sym (eqb-true s.caller.rank a here.0) ∙ eqb-true s.caller.rank r there.0, sym (eqb-true s.caller.thread b here.1) ∙ eqb-true s.caller.thread t there.1))
+
     go : (o : Option Script) → find (is_script_of (record { rank = a; thread = b })) scripts ≡ o → waiting_count r t (starting o) ≡ 0
     go None is = refl
     go (Some s) is =
@@ -160,20 +161,24 @@ starts-counted w scripts r t world are = go (find (is_script_of (record { rank =
   where
     by-thread : (a : ℕ) → waiting_count r t (rank_starts scripts a) ≡ sum_by (λ b. waiting_count r t (thread_starts scripts a b)) (range_with_len 0 4)
     by-thread a = count-flat_map (λ (x : Waiting). is_caller r t x.caller) (thread_starts scripts a) (range_with_len 0 4)
+
     by-rank : waiting_count r t (starts w scripts) ≡ sum_by (λ a. waiting_count r t (rank_starts scripts a)) (range_with_len 0 w.limits.ranks)
     by-rank = count-flat_map (λ (x : Waiting). is_caller r t x.caller) (rank_starts scripts) (range_with_len 0 w.limits.ranks)
+
     other-rank : (a : ℕ) → (a ≡ r → ⊥) → waiting_count r t (rank_starts scripts a) ≡ 0
     other-rank a apart = by-thread a ∙ sum-none (λ b. waiting_count r t (thread_starts scripts a b)) 0 4 (λ b low high. other-start scripts r t a b (λ h. apart h.0))
+
     missing : find (is_script_of (record { rank = r; thread = t })) scripts ≡ None → (a b : ℕ) → ((a ≡ r) × (b ≡ t)) ⊎ ((a ≡ r) × (b ≡ t) → ⊥) → waiting_count r t (thread_starts scripts a b) ≡ 0
     missing none a b (inl h) =
         let here : find (is_script_of (record { rank = a; thread = b })) scripts ≡ None =
-            subst (λ (n : ℕ). find (is_script_of (record { rank = a; thread = n })) scripts ≡ None) (sym h.1) (subst (λ (n : ℕ). find (is_script_of (record { rank = n; thread = t })) scripts ≡ None) (sym h.0) none) in
+        subst (λ (n : ℕ). find (is_script_of (record { rank = a; thread = n })) scripts ≡ None) (sym h.1) (subst (λ (n : ℕ). find (is_script_of (record { rank = n; thread = t })) scripts ≡ None) (sym h.0) none) in
         rw here refl
     missing none a b (inr apart) = other-start scripts r t a b apart
+
     go : (o : Option Script) → find (is_script_of (record { rank = r; thread = t })) scripts ≡ o → waiting_count r t (starts w scripts) ≡ count_by (λ (s : Script). is_caller r t s.caller) scripts
     go None is =
         by-rank ∙ sum-none (λ a. waiting_count r t (rank_starts scripts a)) 0 w.limits.ranks (λ a low high.
-            by-thread a ∙ sum-none (λ b. waiting_count r t (thread_starts scripts a b)) 0 4 (λ b l h. missing is a b (decide-both a r b t)))
+        by-thread a ∙ sum-none (λ b. waiting_count r t (thread_starts scripts a b)) 0 4 (λ b l h. missing is a b (decide-both a r b t)))
         ∙ sym (none-counted (λ (s : Script). is_caller r t s.caller) scripts is)
     go (Some s) is =
         let caller = script-caller w scripts r t s are is in
@@ -196,7 +201,7 @@ starts-part w scripts place x at =
     go r.1 t.1 (find (is_script_of (record { rank = r.1; thread = t.1 })) scripts) refl t.2 t.4 (let is = rank.0 in let low = rank.1 in omega arith)
   where
     go : (a b : ℕ) (o : Option Script) → find (is_script_of (record { rank = a; thread = b })) scripts ≡ o → (j : ℕ) → slice_get (thread_starts scripts a b) j ≡ Some x → a < w.limits.ranks
-      → (a : ℕ) × (b : ℕ) × (s : Script) × (a < w.limits.ranks) × (find (is_script_of (record { rank = a; thread = b })) scripts ≡ Some s) × (x ≡ record { caller = s.caller; cursor = going_on s.lines; looks = 0 })
+        → (a : ℕ) × (b : ℕ) × (s : Script) × (a < w.limits.ranks) × (find (is_script_of (record { rank = a; thread = b })) scripts ≡ Some s) × (x ≡ record { caller = s.caller; cursor = going_on s.lines; looks = 0 })
     go a b None is j here low = absurd (let none = rw is at here in let no : ⊥ = cc in no)
     go a b (Some s) is zero here low =
         let one : ◌≡◌ {A = Option Waiting} (Some (record { caller = s.caller; cursor = going_on s.lines; looks = 0 })) (Some x) = rw is at here in
@@ -240,7 +245,7 @@ good-started opens w scripts seed world are = record {
 }
   where
     ranked-at : (x : Waiting) → ((a : ℕ) × (b : ℕ) × (s : Script) × (a < w.limits.ranks) × (find (is_script_of (record { rank = a; thread = b })) scripts ≡ Some s) × (x ≡ record { caller = s.caller; cursor = going_on s.lines; looks = 0 }))
-      → x.caller.rank < w.limits.ranks
+        → x.caller.rank < w.limits.ranks
     ranked-at x h =
         let caller = script-caller w scripts h.0 h.1 h.2 are h.4 in
         let same : x.caller.rank ≡ h.0 = ap (λ (y : Waiting). y.caller.rank) h.5 ∙ caller.2 in
@@ -256,15 +261,16 @@ running-started w scripts seed world are = record {
 }
   where
     active-at : (x : Waiting) → ((a : ℕ) × (b : ℕ) × (s : Script) × (a < w.limits.ranks) × (find (is_script_of (record { rank = a; thread = b })) scripts ≡ Some s) × (x ≡ record { caller = s.caller; cursor = going_on s.lines; looks = 0 }))
-      → is_active (opening w) x.caller.rank x.caller.thread ≡ true
+        → is_active (opening w) x.caller.rank x.caller.thread ≡ true
     active-at x h =
         let caller = script-caller w scripts h.0 h.1 h.2 are h.4 in
         subst (λ (y : Waiting). is_active (opening w) y.caller.rank y.caller.thread ≡ true) (sym h.5) (starting-active w h.2.caller caller.0 world caller.1)
+
     goes-at : (x : Waiting) → ((a : ℕ) × (b : ℕ) × (s : Script) × (a < w.limits.ranks) × (find (is_script_of (record { rank = a; thread = b })) scripts ≡ Some s) × (x ≡ record { caller = s.caller; cursor = going_on s.lines; looks = 0 }))
-      → Goes w scripts [] x
+        → Goes w scripts [] x
     goes-at x h =
         let caller = script-caller w scripts h.0 h.1 h.2 are h.4 in
         let found : find (is_script_of h.2.caller) scripts ≡ Some h.2 =
-            subst (λ (n : ℕ). find (is_script_of (record { rank = h.2.caller.rank; thread = n })) scripts ≡ Some h.2) (sym caller.3)
-              (subst (λ (n : ℕ). find (is_script_of (record { rank = n; thread = h.1 })) scripts ≡ Some h.2) (sym caller.2) h.4) in
+        subst (λ (n : ℕ). find (is_script_of (record { rank = h.2.caller.rank; thread = n })) scripts ≡ Some h.2) (sym caller.3)
+        (subst (λ (n : ℕ). find (is_script_of (record { rank = n; thread = h.1 })) scripts ≡ Some h.2) (sym caller.2) h.4) in
         subst (λ (y : Waiting). Goes w scripts [] y) (sym h.5) (record { script = h.2; is_script = found; come = inl refl })

@@ -1,5 +1,5 @@
 -- A transcript told event by event.
-use Rattle.std.proofs.Common.{◌≡◌, ℕ, zero, suc, ◌+◌, Bool, true, false, List, [], ◌∷◌, ◌++◌, Option, None, Some, refl, sym, ap, ◌∙◌, subst, arith, append_assoc, add-one}
+use Rattle.std.proofs.Common.{◌≡◌, ℕ, zero, suc, ◌+◌, ◌≤◌, length, Bool, true, false, List, [], ◌∷◌, ◌++◌, Option, None, Some, Result, Ok, Err, OnOk, not, ◌&&◌, refl, sym, ap, ◌∙◌, subst, arith, append_assoc, add-one}
 use Rattle.std.proofs.Math.ListN.{drop}
 use Rattle.std.specs.List.{slice_get}
 use Rattle.gaspi_types.specs.World.{is_caller}
@@ -92,3 +92,52 @@ told-more c lines journal old text new place done d call reply line at own here 
   where
     rest : List ℕ
     rest = transcript c (drop (done + 1) lines) (own_calls c.rank c.thread (drop (place + 1) journal))
+
+-- Where the loop stands.
+
+pub on-ok : {A E P Q : Type 0} (r : Result A E) → (P → Q) → OnOk r P → OnOk r Q
+on-ok {A} {E} {P} {Q} (Ok x) f p = f p
+on-ok {A} {E} {P} {Q} (Err e) f p = tt
+
+pub not-true : (b : Bool) → not b ≡ true → b ≡ false
+not-true true h = absurd (let no : ⊥ = cc in no)
+not-true false h = refl
+
+pub not-false : (b : Bool) → not b ≡ false → b ≡ true
+not-false true h = refl
+not-false false h = absurd (let no : ⊥ = cc in no)
+
+-- an event that is no call is not the caller's
+pub told-none : (c : CallerId) (lines : List ScriptLine) (journal : List Event) (old text : List ℕ) (place done : ℕ) (e : Event) → slice_get journal place ≡ Some e
+    → ((d : CallerId) (call : Call) (reply : Reply) → e ≡ Called d call reply → ⊥)
+    → HasTold c lines journal old text place done → HasTold c lines journal old text (place + 1) done
+told-none c lines journal old text place done (Called d call reply) at none told = absurd (none d call reply refl)
+told-none c lines journal old text place done (Take o q t n outcome) at none told = told-other c lines journal old text place done (Take o q t n outcome) at refl told
+told-none c lines journal old text place done (Put o q t n outcome) at none told = told-other c lines journal old text place done (Put o q t n outcome) at refl told
+
+-- a call of another caller
+pub told-else : (c : CallerId) (lines : List ScriptLine) (journal : List Event) (old text : List ℕ) (place done : ℕ) (d : CallerId) (call : Call) (reply : Reply)
+    → slice_get journal place ≡ Some (Called d call reply) → is_caller c.rank c.thread d ≡ false
+    → HasTold c lines journal old text place done → HasTold c lines journal old text (place + 1) done
+told-else c lines journal old text place done d call reply at other told = told-other c lines journal old text place done (Called d call reply) at (rw other refl) told
+
+-- At the end of the events.
+
+drop-all : {A : Type 0} (xs : List A) (i : ℕ) → length xs ≤ i → drop i xs ≡ []
+drop-all {A} [] zero h = refl
+drop-all {A} [] (suc i) h = refl
+drop-all {A} (x ∷ xs) zero h = absurd (omega arith)
+drop-all {A} (x ∷ xs) (suc i) h = drop-all xs i (omega arith)
+
+pub told-limit : (c : CallerId) (lines : List ScriptLine) (journal : List Event) (old text : List ℕ) (place done : ℕ) (line : ScriptLine)
+    → length journal ≤ place → slice_get lines done ≡ Some line → HasTold c lines journal old text place done
+    → text ++ limit_line c line.number ≡ old ++ transcript c lines (own_calls c.rank c.thread journal)
+told-limit c lines journal old text place done line over here told =
+    ap (λ (ls : List ScriptLine). text ++ transcript c ls []) (sym (drop-at lines done line here))
+    ∙ ap (λ (es : List Event). text ++ transcript c (drop done lines) (own_calls c.rank c.thread es)) (sym (drop-all journal place over)) ∙ told
+
+pub told-ended : (c : CallerId) (lines : List ScriptLine) (journal : List Event) (old text : List ℕ) (place done : ℕ)
+    → slice_get lines done ≡ None → HasTold c lines journal old text place done
+    → text ++ ended_line c ≡ old ++ transcript c lines (own_calls c.rank c.thread journal)
+told-ended c lines journal old text place done past told =
+    ap (λ (ls : List ScriptLine). text ++ transcript c ls (own_calls c.rank c.thread (drop place journal))) (sym (drop-past lines done past)) ∙ told

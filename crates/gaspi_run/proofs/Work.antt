@@ -149,7 +149,7 @@ ending-less counts limit t place w outcome sound at over =
     let one : waiting_work limit w ≡ 1 = rw over refl in
     let there = get_or_from_slice_get t.waiting place w w at in
     let sum = subst (λ (x : Waiting). sum_by (waiting_work limit) (remove t.waiting place) + waiting_work limit x ≡ sum_by (waiting_work limit) t.waiting) there
-        (sum_by-remove (waiting_work limit) t.waiting place w (slice_get_within t.waiting place w at)) in
+    (sum_by-remove (waiting_work limit) t.waiting place w (slice_get_within t.waiting place w at)) in
     omega arith
 
 caller-less : Counts → (limit : ℕ) (t : Turns) (place : ℕ) (w : Waiting) → IsSound t.state → w.caller.rank < t.state.limits.ranks
@@ -175,11 +175,12 @@ candidate-less : Counts → TransfersAreSteps → (limit : ℕ) (t : Turns) (can
 candidate-less counts enabled limit t candidate sound ranked less = of-caller (slice_get t.waiting candidate) refl
   where
     of-transfer : (o : Option Transfer) → slice_get t.waiting candidate ≡ None → slice_get (transfers t.state.limits t.state.posts) (candidate - length t.waiting) ≡ o
-      → work limit (candidate_turn limit t candidate) < work limit t
+        → work limit (candidate_turn limit t candidate) < work limit t
     of-transfer None past none =
         let over = none-past t.waiting candidate past in
         absurd (past-none (transfers t.state.limits t.state.posts) (candidate - length t.waiting) (omega arith) none)
     of-transfer (Some transfer) past at = rw (past, at) (made-less counts limit t (transfer_event t.state transfer) sound (enabled t.state transfer (candidate - length t.waiting) sound at))
+
     of-caller : (o : Option Waiting) → slice_get t.waiting candidate ≡ o → work limit (candidate_turn limit t candidate) < work limit t
     of-caller (Some w) at = rw at (caller-less counts limit t candidate w sound (ranked candidate w at) at)
     of-caller None past = of-transfer (slice_get (transfers t.state.limits t.state.posts) (candidate - length t.waiting)) past refl

@@ -1,12 +1,22 @@
 -- What the program does with its words and its input. (own choice)
-use Rattle.std.specs.Prelude.{ℕ, Bool, true, false, ◌||◌, List, [], ◌∷◌, ◌++◌, codes, if◌then◌else◌}
+use Rattle.std.specs.Prelude.{◌≡◌, ◌⊎◌, ℕ, Bool, true, false, ◌||◌, List, [], ◌∷◌, ◌++◌, Option, Some, Ok, Err, codes, if◌then◌else◌}
+use Rattle.std.specs.Option.{ForSome}
 use Rattle.std.specs.Str.{bytes_eq}
 use Rattle.std.specs.List.{list_any}
 use Rattle.std.specs.Fmt.{decimal}
-use Rattle.rank_script.specs.WorldText.{TextFault}
+use Rattle.gaspi_types.specs.World.{World}
+use Rattle.gaspi_types.specs.declared.events.Event.{Event}
+use Rattle.gaspi_io.specs.Faults.{HasCause}
+use Rattle.gaspi_io.specs.Sink.{with_more, AddsFront}
+use Rattle.gaspi_model.specs.Step.{is_legal}
+use Rattle.rank_script.specs.WorldText.{TextFault, world_text}
+use Rattle.rank_script.specs.declared.scripts.Script.{Script}
 use Rattle.rank_script.specs.declared.scripts.RunOutcome.{RunOutcome}
 use Rattle.rank_script.specs.declared.scripts.RunOutcome.TheVariants as outcomes
+use Rattle.gaspi_run.specs.Schedule.{IsScheduled, HaveEnded}
+use Rattle.gaspi_run.specs.Transcripts.{transcripts}
 use Rattle.gaspi_run.specs.declared.turns.Finished.{Finished}
+use Rattle.gaspi_run.specs.declared.commands.Answer.{Answer}
 
 -- the only words so far: `step --brief`
 abbrev pub are_step_words : List (List ℕ) → Bool
@@ -43,3 +53,81 @@ abbrev pub run_status : List Finished → ℕ
 run_status finished =
     if list_any (λ f. is_stuck_outcome f.outcome) finished then 3
     else (if list_any (λ f. is_limit_outcome f.outcome) finished then 8 else 0)
+
+-- What `step --brief` does with its input: the schedule has seed 0 and the limit 1,000,000. The text that it writes is
+-- what the callers were told, its status tells how they ended, and its journal is a legal history in which each caller's
+-- calls are a run of its script.
+pub record IsBrief (input : List ℕ) (journal : List Event) (status : ℕ) (text : List ℕ) : Type 0 where
+  pub world : World
+  pub scripts : List Script
+  pub finished : List Finished
+  pub read : world_text input ≡ Ok (record { world = Some world; scripts = scripts })
+  pub scheduled : IsScheduled world scripts 0 1000000 journal finished
+  pub legal : is_legal world journal ≡ true
+  pub ended : HaveEnded world scripts journal finished
+  pub status_is : status ≡ run_status finished
+  pub text_is : text ≡ transcripts world scripts journal
+
+-- An input stands here as what its source had left before and after, and an output as what its sink held, where they
+-- tell it.
+
+-- the whole input was read, and the text tells the run of it
+pub record TellsRun (before after : Option (List ℕ)) (journal : List Event) (status : ℕ) (text : List ℕ) : Type 0 where
+  pub input : List ℕ
+  pub all : ForSome before (λ told. input ≡ told)
+  pub end : ForSome before (λ told. after ≡ Some [])
+  pub brief : IsBrief input journal status text
+
+-- the input has a fault, and the text names the first
+pub record TellsFault (before : Option (List ℕ)) (text : List ℕ) : Type 0 where
+  pub fault : TextFault
+  pub is : ForSome before (λ told. world_text told ≡ Err fault)
+  pub text_is : text ≡ fault_text fault
+
+-- What an answer says. Each case has its statuses.
+
+-- a run was told: status 0, 3 or 8
+pub record HasRun (before after held held' : Option (List ℕ)) (answer : Answer) : Type 0 where
+  pub text : List ℕ
+  pub run : TellsRun before after answer.journal answer.status text
+  pub written : held' ≡ with_more held text
+
+-- a fault was told: status 2
+pub record IsFaulty (before held held' : Option (List ℕ)) (answer : Answer) : Type 0 where
+  pub text : List ℕ
+  pub fault : TellsFault before text
+  pub written : held' ≡ with_more held text
+  pub status : answer.status ≡ 2
+  pub empty : answer.journal ≡ []
+
+-- the input could not be read: status 5; nothing was written
+pub record CouldNotRead (faults faults' : ℕ) (held held' : Option (List ℕ)) (answer : Answer) : Type 0 where
+  pub cause : HasCause faults faults'
+  pub kept : held' ≡ held
+  pub status : answer.status ≡ 5
+  pub empty : answer.journal ≡ []
+
+-- the text of a run or of a fault could not be written whole: status 6; what was written is a front part of it
+pub record CouldNotWrite (before after held held' : Option (List ℕ)) (faults faults' : ℕ) (answer : Answer) : Type 0 where
+  pub text : List ℕ
+  pub of : ((would_be : ℕ) × TellsRun before after answer.journal would_be text) ⊎ (TellsFault before text × (answer.journal ≡ []))
+  pub front : AddsFront text held held'
+  pub cause : HasCause faults faults'
+  pub status : answer.status ≡ 6
+
+-- want of memory: status 7; nothing was written
+pub record LacksMemory (held held' : Option (List ℕ)) (answer : Answer) : Type 0 where
+  pub kept : held' ≡ held
+  pub status : answer.status ≡ 7
+
+-- the answer of `step --brief`
+abbrev pub Steps : Option (List ℕ) → Option (List ℕ) → ℕ → ℕ → Option (List ℕ) → Option (List ℕ) → ℕ → ℕ → Answer → Type 0
+Steps before after faults faults' held held' sink_faults sink_faults' answer =
+    HasRun before after held held' answer ⊎ (IsFaulty before held held' answer ⊎ (CouldNotRead faults faults' held held' answer
+    ⊎ (CouldNotWrite before after held held' sink_faults sink_faults' answer ⊎ LacksMemory held held' answer)))
+
+-- the answer to words that are refused: status 1, or 6 where that could not be written
+pub record Refuses (held held' : Option (List ℕ)) (faults faults' : ℕ) (answer : Answer) : Type 0 where
+  pub says : ((answer.status ≡ 1) × (held' ≡ with_more held refused_text))
+      ⊎ ((answer.status ≡ 6) × AddsFront refused_text held held' × HasCause faults faults')
+  pub empty : answer.journal ≡ []

@@ -73,7 +73,7 @@ with_waiting t place w = record t { waiting = slice_set t.waiting place w }
 abbrev pub recorded : Turns → ℕ → Waiting → Call → Reply → Turns
 recorded t place w call reply =
     made (with_waiting t place (record { caller = w.caller; cursor = advanced w.cursor reply; looks = 0 }))
-        (Called w.caller call reply)
+    (Called w.caller call reply)
 
 -- a look at a call that is not ready: at the last one a timeout is recorded, at another nothing is
 abbrev pub looked : ℕ → Turns → ℕ → Waiting → ScriptLine → Turns
@@ -99,7 +99,7 @@ going_turn limit t place w line =
 abbrev pub ending_turn : Turns → ℕ → Waiting → RunOutcome → Turns
 ending_turn t place w outcome =
     made (record t { waiting = remove t.waiting place; finished = t.finished ++ record { caller = w.caller; outcome = outcome } ∷ [] })
-        (Called w.caller End replies.Done)
+    (Called w.caller End replies.Done)
 
 abbrev pub progress_turn : ℕ → Turns → ℕ → Waiting → Progress → Turns
 progress_turn limit t place w (Going line lines) = going_turn limit t place w line
@@ -115,6 +115,7 @@ candidate_turn limit t candidate = of_caller (slice_get t.waiting candidate)
     of_transfer : Option Transfer → Turns
     of_transfer None = t
     of_transfer (Some transfer) = made t (transfer_event t.state transfer)
+
     of_caller : Option Waiting → Turns
     of_caller (Some w) = caller_turn limit t candidate w
     of_caller None = of_transfer (slice_get (transfers t.state.limits t.state.posts) (candidate - length t.waiting))

@@ -40,7 +40,7 @@ transcript c (line ∷ lines) [] = limit_line c line.number
 transcript c (line ∷ lines) (pair ∷ pairs) =
     if is_end pair.0 then limit_line c line.number
     else call_line c line.number pair.1
-      ++ (if is_stuck line pair.1 then stuck_line c line.number else transcript c lines pairs)
+    ++ (if is_stuck line pair.1 then stuck_line c line.number else transcript c lines pairs)
 
 abbrev pub script_transcript : List Event → Option Script → List ℕ
 script_transcript journal None = []

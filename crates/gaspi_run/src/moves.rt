@@ -131,12 +131,7 @@ fn go_on(
 }
 
 /// The turn of a waiting caller.
-fn caller_turn(
-    turns: &mut Turns,
-    alloc: Global,
-    limit: u32,
-    place: usize,
-) -> Result<(), NoMemory>
+fn caller_turn(turns: &mut Turns, alloc: Global, limit: u32, place: usize) -> Result<(), NoMemory>
     requires place { place < length turns.old.waiting }
     requires declared { AreDeclared turns.old }
     ensures { (w : Waiting) → slice_get turns.old.waiting place ≡ Some w → OnOk result (turns.new ≡ caller_turn limit turns.old place w) }
@@ -152,18 +147,26 @@ fn caller_turn(
 }
 
 /// The turn of a transfer, with the machine's outcome.
-fn transfer_turn(
-    turns: &mut Turns,
-    alloc: Global,
-    transfer: &Transfer,
-) -> Result<(), NoMemory>
+fn transfer_turn(turns: &mut Turns, alloc: Global, transfer: &Transfer) -> Result<(), NoMemory>
     ensures { OnOk result (turns.new ≡ made turns.old (transfer_event turns.old.state transfer.now)) }
 {
     let outcome = turns.state.outcome(transfer);
     let event = if transfer.put {
-        Event::Put(transfer.origin, transfer.queue, transfer.target, transfer.number, outcome)
+        Event::Put(
+            transfer.origin,
+            transfer.queue,
+            transfer.target,
+            transfer.number,
+            outcome,
+        )
     } else {
-        Event::Take(transfer.origin, transfer.queue, transfer.target, transfer.number, outcome)
+        Event::Take(
+            transfer.origin,
+            transfer.queue,
+            transfer.target,
+            transfer.number,
+            outcome,
+        )
     };
     make(turns, alloc, event)
 }

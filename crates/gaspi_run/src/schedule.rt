@@ -61,7 +61,11 @@ fn add_starts<'a>(
 }
 
 /// All callers at their start, by rank and thread.
-fn starts<'a>(alloc: Global, shape: &Shape, scripts: &'a Scripts) -> Result<Rows<Waiting<'a>>, NoMemory>
+fn starts<'a>(
+    alloc: Global,
+    shape: &Shape,
+    scripts: &'a Scripts,
+) -> Result<Rows<Waiting<'a>>, NoMemory>
     ensures { IfOk result (λ waiting. waiting ≡ starts shape.now scripts.now) }
 {
     let limits = shape.limits();

@@ -1,12 +1,13 @@
 //! Transcripts: what each caller was told, line by line, and how its run ended.
 
 ghost use Rattle.std.specs.Prelude.{◌≡◌, ◌<◌, ◌++◌, OnOk};
-ghost use Rattle.gaspi_model.specs.Step.{own_calls};
+ghost use Rattle.gaspi_model.specs.Step.{own_calls, is_end};
 ghost use Rattle.gaspi_run.specs.Transcripts.{caller_text, call_line, ended_line, stuck_line, limit_line, transcript, thread_transcript, rank_transcripts, transcripts};
 
 use crate::schedule::Journal;
 use gaspi_types::{
-    Bytes, Call, CallerId, Event, NoMemory, RankId, Reply, Shape, ThreadId, write_number, write_reply,
+    Bytes, Call, CallerId, Event, NoMemory, RankId, Reply, Shape, ThreadId, write_number,
+    write_reply,
 };
 use rank_script::{Script, Scripts, is_stuck};
 
@@ -59,6 +60,13 @@ fn write_limit(text: &mut Bytes, caller: CallerId, line: u64) -> Result<(), NoMe
     text.append(b"\n")
 }
 
+/// Whether a call is the end of its caller.
+fn is_end(call: &Call) -> bool
+    ensures { result ≡ is_end call.now }
+{
+    matches!(call, Call::End)
+}
+
 /// Adds the transcript of one caller.
 fn write_transcript(text: &mut Bytes, script: &Script, journal: &Journal) -> Result<(), NoMemory>
     ensures { OnOk result (text.new ≡ text.old
@@ -75,7 +83,7 @@ fn write_transcript(text: &mut Bytes, script: &Script, journal: &Journal) -> Res
         let Some(line) = script.lines.get(done) else {
             continue;
         };
-        if matches!(call, Call::End) {
+        if is_end(call) {
             return write_limit(text, script.caller, line.number);
         }
         write_call(text, script.caller, line.number, reply)?;
@@ -91,7 +99,12 @@ fn write_transcript(text: &mut Bytes, script: &Script, journal: &Journal) -> Res
 }
 
 /// Adds the transcript of a caller that has a script.
-fn write_thread(text: &mut Bytes, caller: CallerId, scripts: &Scripts, journal: &Journal) -> Result<(), NoMemory>
+fn write_thread(
+    text: &mut Bytes,
+    caller: CallerId,
+    scripts: &Scripts,
+    journal: &Journal,
+) -> Result<(), NoMemory>
     ensures { OnOk result (text.new ≡ text.old ++ thread_transcript scripts.now journal.now caller.rank caller.thread) }
 {
     match scripts.of(caller) {
@@ -101,7 +114,12 @@ fn write_thread(text: &mut Bytes, caller: CallerId, scripts: &Scripts, journal: 
 }
 
 /// Adds the transcripts of a rank's callers, by thread.
-fn write_rank(text: &mut Bytes, rank: u32, scripts: &Scripts, journal: &Journal) -> Result<(), NoMemory>
+fn write_rank(
+    text: &mut Bytes,
+    rank: u32,
+    scripts: &Scripts,
+    journal: &Journal,
+) -> Result<(), NoMemory>
     requires { rank < 16 }
     ensures { OnOk result (text.new ≡ text.old ++ rank_transcripts scripts.now journal.now rank) }
 {
@@ -116,7 +134,12 @@ fn write_rank(text: &mut Bytes, rank: u32, scripts: &Scripts, journal: &Journal)
 }
 
 /// Adds the transcripts of all callers, by rank and thread. Without memory a part of them was added.
-pub fn write_transcripts(text: &mut Bytes, shape: &Shape, scripts: &Scripts, journal: &Journal) -> Result<(), NoMemory>
+pub fn write_transcripts(
+    text: &mut Bytes,
+    shape: &Shape,
+    scripts: &Scripts,
+    journal: &Journal,
+) -> Result<(), NoMemory>
     ensures { OnOk result (text.new ≡ text.old ++ transcripts shape.now scripts.now journal.now) }
 {
     let limits = shape.limits();

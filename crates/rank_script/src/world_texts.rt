@@ -39,6 +39,7 @@ pub fn read_world(alloc: Global, text: &[u8]) -> Result<(Shape, Scripts), Script
             line: number,
         });
     };
+    // Says that the shape is a world.
     let _ = shape.limits();
     Ok((shape, scripts))
 }

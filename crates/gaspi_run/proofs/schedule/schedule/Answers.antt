@@ -10,18 +10,18 @@ use Rattle.gaspi_run.proofs.schedule.schedule.Goals as goal
 pub turn-requires : goal.turn-requires
 turn-requires c =
     turned-declared c.args.shape.now c.args.scripts.now c.args.seed c.args.limit _
-        (known _ _ (laws c.soundness.ensures.steps c.soundness.ensures.limits c.soundness.ensures.active c.enabled.ensures.call c.runs.ensures.onward c.runs.ensures.ended c.runs.ensures.stopped)
-            c.soundness.ensures.counts c.enabled.ensures.transfer c.soundness.ensures.opens c.limits-limits.ensures.world c.requires.scripts c.requires.plain)
-        c.loop-turns.invariant
+    (known _ _ (laws c.soundness.ensures.steps c.soundness.ensures.limits c.soundness.ensures.active c.enabled.ensures.call c.runs.ensures.onward c.runs.ensures.ended c.runs.ensures.stopped)
+    c.soundness.ensures.counts c.enabled.ensures.transfer c.soundness.ensures.opens c.limits-limits.ensures.world c.requires.scripts c.requires.plain)
+    c.loop-turns.invariant
 
 pub loop-turns-smaller : goal.loop-turns-smaller
 loop-turns-smaller c =
     let turned = c.in_ok-turn.ensures.turned (cc) in
     subst (λ (t : Turns). work c.args.limit t < work c.args.limit c.loop-turns.turns) (sym turned.1)
-        (turned-less c.args.shape.now c.args.scripts.now c.args.seed c.args.limit c.loop-turns.turns
-            (known _ _ (laws c.soundness.ensures.steps c.soundness.ensures.limits c.soundness.ensures.active c.enabled.ensures.call c.runs.ensures.onward c.runs.ensures.ended c.runs.ensures.stopped)
-                c.soundness.ensures.counts c.enabled.ensures.transfer c.soundness.ensures.opens c.limits-limits.ensures.world c.requires.scripts c.requires.plain)
-            c.loop-turns.invariant turned.0)
+    (turned-less c.args.shape.now c.args.scripts.now c.args.seed c.args.limit c.loop-turns.turns
+    (known _ _ (laws c.soundness.ensures.steps c.soundness.ensures.limits c.soundness.ensures.active c.enabled.ensures.call c.runs.ensures.onward c.runs.ensures.ended c.runs.ensures.stopped)
+    c.soundness.ensures.counts c.enabled.ensures.transfer c.soundness.ensures.opens c.limits-limits.ensures.world c.requires.scripts c.requires.plain)
+    c.loop-turns.invariant turned.0)
 
 pub loop-turns-preserved : goal.loop-turns-preserved
 loop-turns-preserved c =
@@ -31,16 +31,16 @@ pub returns-clause-legal : goal.returns-clause-legal
 returns-clause-legal c =
     let over = c.in_ok-turn.ensures.over (cc) in
     subst (λ (t : Turns). is_legal c.args.shape.now t.journal ≡ true) (sym over.1)
-        (over-legal c.args.shape.now c.args.scripts.now c.args.seed c.args.limit c.loop-turns.turns
-            (known _ _ (laws c.soundness.ensures.steps c.soundness.ensures.limits c.soundness.ensures.active c.enabled.ensures.call c.runs.ensures.onward c.runs.ensures.ended c.runs.ensures.stopped)
-                c.soundness.ensures.counts c.enabled.ensures.transfer c.soundness.ensures.opens c.limits-limits.ensures.world c.requires.scripts c.requires.plain)
-            c.loop-turns.invariant)
+    (over-legal c.args.shape.now c.args.scripts.now c.args.seed c.args.limit c.loop-turns.turns
+    (known _ _ (laws c.soundness.ensures.steps c.soundness.ensures.limits c.soundness.ensures.active c.enabled.ensures.call c.runs.ensures.onward c.runs.ensures.ended c.runs.ensures.stopped)
+    c.soundness.ensures.counts c.enabled.ensures.transfer c.soundness.ensures.opens c.limits-limits.ensures.world c.requires.scripts c.requires.plain)
+    c.loop-turns.invariant)
 
 pub returns-clause-runs : goal.returns-clause-runs
 returns-clause-runs c =
     let over = c.in_ok-turn.ensures.over (cc) in
     subst (λ (t : Turns). HaveEnded c.args.shape.now c.args.scripts.now t.journal t.finished) (sym over.1)
-        (over-ended c.args.shape.now c.args.scripts.now c.args.seed c.args.limit c.loop-turns.turns
-            (known _ _ (laws c.soundness.ensures.steps c.soundness.ensures.limits c.soundness.ensures.active c.enabled.ensures.call c.runs.ensures.onward c.runs.ensures.ended c.runs.ensures.stopped)
-                c.soundness.ensures.counts c.enabled.ensures.transfer c.soundness.ensures.opens c.limits-limits.ensures.world c.requires.scripts c.requires.plain)
-            c.loop-turns.invariant over.0)
+    (over-ended c.args.shape.now c.args.scripts.now c.args.seed c.args.limit c.loop-turns.turns
+    (known _ _ (laws c.soundness.ensures.steps c.soundness.ensures.limits c.soundness.ensures.active c.enabled.ensures.call c.runs.ensures.onward c.runs.ensures.ended c.runs.ensures.stopped)
+    c.soundness.ensures.counts c.enabled.ensures.transfer c.soundness.ensures.opens c.limits-limits.ensures.world c.requires.scripts c.requires.plain)
+    c.loop-turns.invariant over.0)

@@ -1,3 +1,4 @@
+use Rattle.std.proofs.Common.{[]}
 use Rattle.gaspi_run.specs.Schedule.{rank_starts}
 use Rattle.gaspi_run.proofs.NumberRanges.{range-more}
 use Rattle.gaspi_run.proofs.schedule.starts.Goals as goal
