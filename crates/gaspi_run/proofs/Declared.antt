@@ -1,13 +1,10 @@
 -- A caller that is declared is of a rank that is there.
-use Rattle.std.proofs.Common.{◌≡◌, ℕ, ◌<◌, Bool, true, false, length, Option, None, Some, refl}
+use Rattle.std.proofs.Common.{◌≡◌, ℕ, ◌<◌, true, length, Option, None, Some, refl}
 use Rattle.std.specs.List.{slice_get}
 use Rattle.std.proofs.lemmas.Option.{slice_get_within}
 use Rattle.gaspi_model.specs.Step.{is_declared}
 use Rattle.gaspi_model.specs.declared.states.Posts.{Posts}
 use Rattle.gaspi_model.specs.declared.states.State.{State}
-use Rattle.gaspi_run.specs.Schedule.{AreDeclared}
-use Rattle.gaspi_run.specs.declared.turns.Turns.{Turns}
-use Rattle.gaspi_run.specs.declared.turns.Waiting.{Waiting}
 
 pub declared-within : (s : State) (rank thread : ℕ) → is_declared s rank thread ≡ true → rank < length s.posts
 declared-within s rank thread declared = go (slice_get s.posts rank) refl

@@ -1,8 +1,7 @@
 -- What every turn of the schedule keeps.
-use Rattle.std.proofs.Common.{◌≡◌, ℕ, zero, suc, ◌+◌, ◌-◌, ◌<◌, ◌≤◌, Bool, true, false, List, [], ◌∷◌, ◌++◌, length, Option, None, Some, Result, Ok, Err, refl, sym, ap, ◌∙◌, subst, arith, nat_lt, nat_le, ◌==◌, remove, IsOk, ◌⊎◌, inl, inr, find}
-use Rattle.std.specs.List.{slice_get, slice_set, flat_map, range_with_len}
-use Rattle.std.proofs.lemmas.Bool.{eqb-true}
-use Rattle.gaspi_types.specs.World.{World, IsWorld, is_caller}
+use Rattle.std.proofs.Common.{◌≡◌, ℕ, zero, suc, ◌+◌, ◌-◌, ◌<◌, Bool, true, false, List, [], ◌∷◌, ◌++◌, length, Option, None, Some, Result, Ok, Err, refl, ◌∙◌, nat_lt, nat_le, ◌==◌, remove, ◌⊎◌, inl, inr}
+use Rattle.std.specs.List.{slice_get}
+use Rattle.gaspi_types.specs.World.{World}
 use Rattle.gaspi_types.specs.Need.{need_of}
 use Rattle.gaspi_types.specs.declared.calls.Call.{Call}
 use Rattle.gaspi_types.specs.declared.calls.Call.TheVariants.{End}
@@ -22,12 +21,10 @@ use Rattle.gaspi_model.specs.declared.states.Why.{Why}
 use Rattle.gaspi_model.proofs.Tables.{slice_get-set, remove-part}
 use Rattle.rank_script.specs.Runs.{Progress, Going, Over, advanced, stopped}
 use Rattle.rank_script.specs.declared.scripts.Halted.TheVariants as halts
-use Rattle.rank_script.specs.declared.scripts.Script.{Script}
 use Rattle.rank_script.specs.declared.scripts.ScriptLine.{ScriptLine}
 use Rattle.rank_script.specs.declared.scripts.RunOutcome.{RunOutcome}
 use Rattle.gaspi_run.specs.Generator.{drawn, picked}
-use Rattle.gaspi_run.specs.declared.turns.Finished.{Finished}
-use Rattle.gaspi_run.specs.Schedule.{started, starts, starting, made, looks_of, with_waiting, recorded, looked, answered, going_turn, ending_turn, progress_turn, caller_turn, candidate_turn, candidates, with_draw, turn, turns}
+use Rattle.gaspi_run.specs.Schedule.{made, looks_of, with_waiting, recorded, looked, answered, going_turn, ending_turn, progress_turn, candidate_turn, candidates, with_draw, turn, turns}
 use Rattle.gaspi_run.specs.declared.turns.Waiting.{Waiting}
 use Rattle.gaspi_run.specs.declared.turns.Turns.{Turns}
 

@@ -9,3 +9,6 @@ pub mod NumberRanges
 pub mod Started
 pub mod Scheduling
 mod Transcribing
+mod PlainTexts
+mod CommandWords
+mod Answering

@@ -1,43 +1,39 @@
 -- Every turn of the schedule keeps that the callers' calls are runs of their scripts.
-use Rattle.std.proofs.Common.{◌≡◌, ℕ, zero, suc, ◌+◌, ◌-◌, ◌<◌, ◌≤◌, Bool, true, false, List, [], ◌∷◌, ◌++◌, length, Option, None, Some, Result, Ok, Err, refl, sym, ap, ◌∙◌, subst, arith, nat_lt, nat_le, ◌==◌, remove, IsOk, ◌⊎◌, inl, inr, append-nil, if◌then◌else◌}
-use Rattle.std.specs.List.{slice_get, slice_set}
+use Rattle.std.proofs.Common.{◌≡◌, ℕ, zero, suc, ◌+◌, ◌-◌, ◌<◌, ◌≤◌, Bool, true, false, List, [], length, Option, None, Some, Result, Ok, Err, refl, sym, ap, ◌∙◌, subst, arith, nat_lt, nat_le, ◌==◌, IsOk, inl, inr, append-nil, if◌then◌else◌}
+use Rattle.std.specs.List.{slice_get}
 use Rattle.std.proofs.lemmas.Bool.{ltb-true, ltb-false}
 use Rattle.gaspi_types.specs.World.{World}
 use Rattle.gaspi_types.specs.Need.{need_of}
 use Rattle.gaspi_types.specs.declared.calls.Call.{Call}
 use Rattle.gaspi_types.specs.declared.calls.Call.TheVariants.{End}
-use Rattle.gaspi_types.specs.declared.replies.Reply.{Reply}
 use Rattle.gaspi_types.specs.declared.replies.Reply.TheVariants as replies
 use Rattle.gaspi_types.specs.declared.replies.Ready.{Ready}
 use Rattle.gaspi_types.specs.declared.replies.Ready.TheVariants as ready
 use Rattle.gaspi_types.specs.declared.events.Event.{Event}
-use Rattle.gaspi_types.specs.declared.events.Event.TheVariants.{Called, Take, Put}
-use Rattle.gaspi_types.specs.declared.events.Outcome.{Outcome}
+use Rattle.gaspi_types.specs.declared.events.Event.TheVariants.{Called}
 use Rattle.gaspi_types.specs.declared.events.Transfer.{Transfer}
-use Rattle.gaspi_model.specs.State.{owed, thread_at, is_running}
-use Rattle.gaspi_model.specs.Calls.{recorded_reply, answer}
+use Rattle.gaspi_model.specs.State.{thread_at, is_running}
+use Rattle.gaspi_model.specs.Calls.{recorded_reply}
 use Rattle.gaspi_model.specs.Sound.{IsSound}
-use Rattle.gaspi_model.specs.Step.{step, reached, transfer_event, answer_in, room_taken, own_calls, is_active, is_end, ends_caller}
+use Rattle.gaspi_model.specs.Step.{step, transfer_event, answer_in, room_taken, own_calls, is_active, is_end, ends_caller}
 use Rattle.gaspi_model.specs.Transfers.{transfers}
 use Rattle.gaspi_model.specs.declared.states.Posts.{Posts}
 use Rattle.gaspi_model.specs.declared.states.Memory.{Memory}
 use Rattle.gaspi_model.specs.declared.states.State.{State}
 use Rattle.gaspi_model.specs.declared.states.Why.{Why}
 use Rattle.gaspi_model.proofs.Tables.{past-none}
-use Rattle.rank_script.specs.Runs.{Progress, Going, Over, going_on, advanced, stopped, Follows}
+use Rattle.rank_script.specs.Runs.{Progress, Going, Over, going_on, stopped, Follows}
 use Rattle.rank_script.specs.declared.scripts.Halted.TheVariants as halts
 use Rattle.rank_script.specs.declared.scripts.Script.{Script}
 use Rattle.rank_script.specs.declared.scripts.ScriptLine.{ScriptLine}
 use Rattle.rank_script.specs.declared.scripts.RunOutcome.{RunOutcome}
 use Rattle.rank_script.specs.declared.scripts.RunOutcome.TheVariants as outcomes
-use Rattle.gaspi_run.specs.declared.turns.Finished.{Finished}
 use Rattle.gaspi_run.specs.Generator.{drawn, picked}
-use Rattle.gaspi_run.specs.Schedule.{made, looks_of, with_waiting, recorded, looked, answered, going_turn, ending_turn, progress_turn, caller_turn, candidate_turn, candidates, with_draw, turn, turns, ArePlain}
+use Rattle.gaspi_run.specs.Schedule.{made, looks_of, recorded, looked, answered, going_turn, ending_turn, progress_turn, caller_turn, candidate_turn, candidates, with_draw, turn, turns, ArePlain}
 use Rattle.gaspi_run.specs.declared.turns.Waiting.{Waiting}
 use Rattle.gaspi_run.specs.declared.turns.Turns.{Turns}
-use Rattle.gaspi_run.proofs.Work.{answer-some}
 use Rattle.gaspi_run.proofs.Good.{IsGood, Steps, LimitsStay, good-turn}
-use Rattle.gaspi_run.proofs.Running.{IsRunning, Goes, HasCome, WasStopped, own_of, line-there, find-there}
+use Rattle.gaspi_run.proofs.Running.{IsRunning, Goes, HasCome, own_of, line-there, find-there}
 use Rattle.gaspi_run.proofs.RunningTurns.{ActiveStays, Onward, foreign-step, waiting-changed, called-step}
 use Rattle.gaspi_run.proofs.RunningEnds.{EndsRun, StopsRun, ending-step}
 

@@ -1,10 +1,9 @@
 -- The end of a caller keeps that the callers' calls are runs of their scripts.
-use Rattle.std.proofs.Common.{◌≡◌, ℕ, zero, suc, ◌+◌, ◌-◌, ◌<◌, ◌≤◌, Bool, true, false, ◌&&◌, List, [], ◌∷◌, ◌++◌, length, Option, None, Some, Result, Ok, Err, refl, sym, ap, ◌∙◌, subst, arith, remove, ◌⊎◌, inl, inr, find, cond, count_by, if◌then◌else◌, append_assoc}
-use Rattle.std.specs.List.{slice_get, slice_set, sum_by}
+use Rattle.std.proofs.Common.{◌≡◌, ℕ, zero, suc, ◌+◌, Bool, true, false, List, [], ◌∷◌, ◌++◌, Some, Ok, refl, sym, ap, ◌∙◌, subst, arith, remove, ◌⊎◌, inl, inr, cond, count_by, if◌then◌else◌, append_assoc}
+use Rattle.std.specs.List.{slice_get, sum_by}
 use Rattle.std.proofs.lemmas.List.Sums.{sum_by-remove, sum_by_push}
 use Rattle.std.proofs.lemmas.Option.{slice_get_within, get_or_from_slice_get}
 use Rattle.gaspi_types.specs.World.{World, is_caller}
-use Rattle.gaspi_types.specs.Need.{need_of}
 use Rattle.gaspi_types.specs.declared.shapes.CallerId.{CallerId}
 use Rattle.gaspi_types.specs.declared.calls.Call.{Call}
 use Rattle.gaspi_types.specs.declared.calls.Call.TheVariants.{End}
@@ -12,20 +11,19 @@ use Rattle.gaspi_types.specs.declared.replies.Reply.{Reply}
 use Rattle.gaspi_types.specs.declared.replies.Reply.TheVariants as replies
 use Rattle.gaspi_types.specs.declared.events.Event.{Event}
 use Rattle.gaspi_types.specs.declared.events.Event.TheVariants.{Called}
-use Rattle.gaspi_model.specs.Step.{step, reached, room_taken, own_calls, is_active, ends_caller}
+use Rattle.gaspi_model.specs.Step.{step, own_calls, is_active, ends_caller}
 use Rattle.gaspi_model.specs.declared.states.State.{State}
 use Rattle.gaspi_model.proofs.Tables.{append-parts}
-use Rattle.rank_script.specs.Runs.{Progress, Going, Over, going_on, advanced, is_stuck, Follows, IsRun, IsStopped, end_pair}
-use Rattle.rank_script.specs.WorldText.{is_script_of}
+use Rattle.rank_script.specs.Runs.{Progress, Going, Over, going_on, is_stuck, Follows, IsRun, IsStopped, end_pair}
 use Rattle.rank_script.specs.declared.scripts.Script.{Script}
 use Rattle.rank_script.specs.declared.scripts.ScriptLine.{ScriptLine}
 use Rattle.rank_script.specs.declared.scripts.RunOutcome.{RunOutcome}
 use Rattle.rank_script.specs.declared.scripts.RunOutcome.TheVariants as outcomes
 use Rattle.gaspi_run.specs.declared.turns.Finished.{Finished}
-use Rattle.gaspi_run.specs.Schedule.{HadNoRoom, HasLimitCause, HasEnded}
+use Rattle.gaspi_run.specs.Schedule.{HasLimitCause, HasEnded}
 use Rattle.gaspi_run.specs.declared.turns.Waiting.{Waiting}
 use Rattle.gaspi_run.specs.declared.turns.Turns.{Turns}
-use Rattle.gaspi_run.proofs.Running.{IsRunning, Goes, HasCome, WasStopped, waiting_count, finished_count, line-there, come-more, ended-more, own-other}
+use Rattle.gaspi_run.proofs.Running.{IsRunning, Goes, HasCome, waiting_count, finished_count, line-there, come-more, ended-more, own-other}
 use Rattle.gaspi_run.proofs.RunningTurns.{ActiveStays, apart-waiting, apart-finished, own-more}
 
 abbrev pub EndsRun : Type 0

@@ -1,41 +1,26 @@
 -- Each turn keeps that the callers' calls are runs of their scripts.
-use Rattle.std.proofs.Common.{◌≡◌, ℕ, zero, suc, ◌+◌, ◌-◌, ◌<◌, ◌≤◌, Bool, true, false, ◌&&◌, List, [], ◌∷◌, ◌++◌, length, Option, None, Some, Result, Ok, Err, refl, sym, ap, ◌∙◌, subst, arith, nat_lt, nat_le, ◌==◌, remove, IsOk, ◌⊎◌, inl, inr, find, cond, count_by, if◌then◌else◌, append_assoc, append-nil}
+use Rattle.std.proofs.Common.{◌≡◌, ℕ, ◌+◌, Bool, true, false, ◌&&◌, List, [], ◌∷◌, ◌++◌, Some, Ok, refl, sym, ap, ◌∙◌, subst, arith, ◌⊎◌, inl, inr, cond}
 use Rattle.std.specs.List.{slice_get, slice_set, sum_by}
-use Rattle.std.proofs.lemmas.Bool.{ltb-true, ltb-false, leb-false, eqb-true, eq-eqb}
-use Rattle.std.proofs.lemmas.List.Sums.{sum_by-set, sum_by-remove, sum_by_push}
+use Rattle.std.proofs.lemmas.Bool.{eq-eqb}
+use Rattle.std.proofs.lemmas.List.Sums.{sum_by-set}
 use Rattle.std.proofs.lemmas.Option.{slice_get_within, get_or_from_slice_get}
 use Rattle.gaspi_types.specs.World.{World, is_caller}
-use Rattle.gaspi_types.specs.Need.{need_of}
 use Rattle.gaspi_types.specs.declared.shapes.CallerId.{CallerId}
 use Rattle.gaspi_types.specs.declared.calls.Call.{Call}
-use Rattle.gaspi_types.specs.declared.calls.Call.TheVariants.{End}
 use Rattle.gaspi_types.specs.declared.replies.Reply.{Reply}
-use Rattle.gaspi_types.specs.declared.replies.Reply.TheVariants as replies
-use Rattle.gaspi_types.specs.declared.replies.Ready.{Ready}
-use Rattle.gaspi_types.specs.declared.replies.Ready.TheVariants as ready
 use Rattle.gaspi_types.specs.declared.events.Event.{Event}
-use Rattle.gaspi_types.specs.declared.events.Event.TheVariants.{Called, Take, Put}
-use Rattle.gaspi_types.specs.declared.events.Transfer.{Transfer}
-use Rattle.gaspi_model.specs.Calls.{recorded_reply}
-use Rattle.gaspi_model.specs.Sound.{IsSound}
-use Rattle.gaspi_model.specs.Step.{step, reached, transfer_event, answer_in, room_taken, own_calls, is_active, is_end, ends_caller}
-use Rattle.gaspi_model.specs.Transfers.{transfers}
+use Rattle.gaspi_types.specs.declared.events.Event.TheVariants.{Called}
+use Rattle.gaspi_model.specs.Step.{step, own_calls, is_active, is_end, ends_caller}
 use Rattle.gaspi_model.specs.declared.states.State.{State}
-use Rattle.gaspi_model.specs.declared.states.Why.{Why}
-use Rattle.gaspi_model.proofs.Tables.{slice_get-set, remove-part}
-use Rattle.rank_script.specs.Runs.{Progress, Going, Over, going_on, advanced, stopped, Follows, IsRun, IsStopped, end_pair}
-use Rattle.rank_script.specs.WorldText.{is_script_of}
-use Rattle.rank_script.specs.declared.scripts.Halted.TheVariants as halts
+use Rattle.gaspi_model.proofs.Tables.{slice_get-set}
+use Rattle.rank_script.specs.Runs.{Progress, Going, Over, going_on, advanced, stopped, Follows}
 use Rattle.rank_script.specs.declared.scripts.Script.{Script}
 use Rattle.rank_script.specs.declared.scripts.ScriptLine.{ScriptLine}
-use Rattle.rank_script.specs.declared.scripts.RunOutcome.{RunOutcome}
-use Rattle.rank_script.specs.declared.scripts.RunOutcome.TheVariants as outcomes
 use Rattle.gaspi_run.specs.declared.turns.Finished.{Finished}
-use Rattle.gaspi_run.specs.Schedule.{HasEnded, made, with_waiting, recorded}
+use Rattle.gaspi_run.specs.Schedule.{with_waiting}
 use Rattle.gaspi_run.specs.declared.turns.Waiting.{Waiting}
 use Rattle.gaspi_run.specs.declared.turns.Turns.{Turns}
-use Rattle.gaspi_run.proofs.Good.{IsGood}
-use Rattle.gaspi_run.proofs.Running.{IsRunning, Goes, HasCome, WasStopped, own_of, own_calls-append, own-same, own-other, waiting_count, finished_count, count-at, count-two, line-there, find-there, come-more, ended-more, set-cases}
+use Rattle.gaspi_run.proofs.Running.{IsRunning, Goes, HasCome, own_of, own_calls-append, own-same, own-other, waiting_count, finished_count, count-at, count-two, come-more, ended-more, set-cases}
 
 -- what the machine's and the runs' laws say
 abbrev pub ActiveStays : Type 0

@@ -1,25 +1,21 @@
 -- The schedule at its start.
-use Rattle.std.proofs.Common.{◌≡◌, ℕ, zero, suc, ◌+◌, ◌<◌, ◌≤◌, Bool, true, false, ◌&&◌, List, [], ◌∷◌, ◌++◌, length, Option, None, Some, Result, Ok, Err, refl, sym, ap, ◌∙◌, subst, arith, ◌==◌, find, cond, count_by, if◌then◌else◌, map, ◌⊎◌, inl, inr}
+use Rattle.std.proofs.Common.{◌≡◌, ℕ, zero, suc, ◌+◌, ◌<◌, ◌≤◌, Bool, true, false, ◌&&◌, List, [], ◌∷◌, Option, None, Some, refl, sym, ap, ◌∙◌, subst, arith, ◌==◌, find, cond, count_by, if◌then◌else◌, map, ◌⊎◌, inl, inr}
 use Rattle.std.specs.List.{slice_get, sum_by, flat_map, range_with_len, list_any}
 use Rattle.std.specs.Option.{option_map}
-use Rattle.std.proofs.lemmas.Bool.{eqb-true, eq-eqb, eqb-false, ne_eqb, lt-ltb}
+use Rattle.std.proofs.lemmas.Bool.{eqb-true, eq-eqb, eqb-false}
 use Rattle.std.proofs.lemmas.List.Sums.{sum_by-append, sum_by-cons}
-use Rattle.std.proofs.lemmas.Option.{slice_get-map, slice_get-get_or}
-use Rattle.std.proofs.lemmas.List.FromFn.{get_or-range_with_len, length-range_with_len}
+use Rattle.std.proofs.lemmas.Option.{slice_get-map}
 use Rattle.gaspi_types.specs.World.{World, IsWorld, is_caller}
 use Rattle.gaspi_types.specs.declared.shapes.CallerId.{CallerId}
-use Rattle.gaspi_model.specs.State.{opening, opening_posts, opening_thread, thread_at}
+use Rattle.gaspi_model.specs.State.{opening, opening_posts, opening_thread}
 use Rattle.gaspi_model.specs.Sound.{IsSound}
 use Rattle.gaspi_model.specs.Step.{is_active}
-use Rattle.gaspi_model.specs.declared.states.Posts.{Posts}
-use Rattle.gaspi_model.specs.declared.states.ThreadState.TheVariants.{Running, Absent}
 use Rattle.gaspi_model.proofs.Tables.{flat_map-parts}
 use Rattle.rank_script.specs.Runs.{going_on}
 use Rattle.rank_script.specs.WorldText.{is_script_of, AreScriptsOf}
 use Rattle.rank_script.specs.declared.scripts.Script.{Script}
 use Rattle.gaspi_run.specs.Schedule.{starting, thread_starts, rank_starts, starts, started}
 use Rattle.gaspi_run.specs.declared.turns.Waiting.{Waiting}
-use Rattle.gaspi_run.specs.declared.turns.Turns.{Turns}
 use Rattle.gaspi_run.proofs.Good.{IsGood}
 use Rattle.gaspi_run.proofs.Running.{IsRunning, Goes, waiting_count, count-at, find-there}
 

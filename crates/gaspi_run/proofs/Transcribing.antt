@@ -1,5 +1,5 @@
 -- A transcript told event by event.
-use Rattle.std.proofs.Common.{◌≡◌, ℕ, zero, suc, ◌+◌, ◌≤◌, length, Bool, true, false, List, [], ◌∷◌, ◌++◌, Option, None, Some, Result, Ok, Err, OnOk, not, ◌&&◌, refl, sym, ap, ◌∙◌, subst, arith, append_assoc, add-one}
+use Rattle.std.proofs.Common.{◌≡◌, ℕ, zero, suc, ◌+◌, ◌≤◌, length, Bool, true, false, List, [], ◌∷◌, ◌++◌, None, Some, Result, Ok, Err, OnOk, not, refl, sym, ap, ◌∙◌, arith, append_assoc, add-one}
 use Rattle.std.proofs.Math.ListN.{drop}
 use Rattle.std.specs.List.{slice_get}
 use Rattle.gaspi_types.specs.World.{is_caller}

@@ -1,5 +1,5 @@
 -- What the program does with its words and its input. (own choice)
-use Rattle.std.specs.Prelude.{◌≡◌, ◌⊎◌, ℕ, Bool, true, false, ◌||◌, List, [], ◌∷◌, ◌++◌, Option, Some, Ok, Err, codes, if◌then◌else◌}
+use Rattle.std.specs.Prelude.{◌≡◌, ◌⊎◌, ℕ, Bool, true, false, List, [], ◌∷◌, ◌++◌, Option, Some, Ok, Err, codes, if◌then◌else◌}
 use Rattle.std.specs.Option.{ForSome}
 use Rattle.std.specs.Str.{bytes_eq}
 use Rattle.std.specs.List.{list_any}
@@ -22,7 +22,7 @@ use Rattle.gaspi_run.specs.declared.commands.Answer.{Answer}
 abbrev pub are_step_words : List (List ℕ) → Bool
 are_step_words [] = false
 are_step_words (first ∷ []) = false
-are_step_words (first ∷ second ∷ []) = are_both (bytes_eq (codes "step") first) (bytes_eq (codes "--brief") second)
+are_step_words (first ∷ second ∷ []) = are_both (bytes_eq first (codes "step")) (bytes_eq second (codes "--brief"))
   where
     are_both : Bool → Bool → Bool
     are_both true b = b
@@ -48,11 +48,15 @@ is_limit_outcome (outcomes.Stuck line) = false
 is_limit_outcome (outcomes.Limit line) = true
 is_limit_outcome (outcomes.NoMemory line) = false
 
+abbrev pub is_any_stuck : List Finished → Bool
+is_any_stuck finished = list_any (λ f. is_stuck_outcome f.outcome) finished
+
+abbrev pub is_any_limit : List Finished → Bool
+is_any_limit finished = list_any (λ f. is_limit_outcome f.outcome) finished
+
 -- the status of a run: 3 where a caller is stuck, else 8 where one ended at the event limit, else 0
 abbrev pub run_status : List Finished → ℕ
-run_status finished =
-    if list_any (λ f. is_stuck_outcome f.outcome) finished then 3
-    else (if list_any (λ f. is_limit_outcome f.outcome) finished then 8 else 0)
+run_status finished = if is_any_stuck finished then 3 else (if is_any_limit finished then 8 else 0)
 
 -- What `step --brief` does with its input: the schedule has seed 0 and the limit 1,000,000. The text that it writes is
 -- what the callers were told, its status tells how they ended, and its journal is a legal history in which each caller's

@@ -7,7 +7,7 @@ ghost use Rattle.gaspi_io.specs.Sink.{with_more, AddsFront};
 ghost use Rattle.gaspi_types.specs.declared.events.Event.{Event};
 ghost use Rattle.rank_script.specs.WorldText.{world_text, TextFault};
 ghost use Rattle.rank_script.specs.declared.scripts.ScriptFault.TheVariants as script_faults;
-ghost use Rattle.gaspi_run.specs.Command.{are_step_words, refused_text, fault_text, run_status, IsBrief, Refuses, Steps};
+ghost use Rattle.gaspi_run.specs.Command.{are_step_words, refused_text, fault_text, is_any_stuck, is_any_limit, run_status, IsBrief, Refuses, Steps};
 
 use crate::schedule::{Journal, schedule};
 use crate::transcripts::write_transcripts;
@@ -54,19 +54,31 @@ const LIMIT: u32 = 1_000_000;
 /// The generator's first number.
 const SEED: u32 = 0;
 
+/// Whether a caller is stuck.
+fn is_any_stuck(finished: &[Finished]) -> bool
+    ensures { result ≡ is_any_stuck finished.now }
+{
+    finished
+        .iter()
+        .any(|f| matches!(f.outcome, RunOutcome::Stuck { .. }))
+}
+
+/// Whether a caller ended at the event limit.
+fn is_any_limit(finished: &[Finished]) -> bool
+    ensures { result ≡ is_any_limit finished.now }
+{
+    finished
+        .iter()
+        .any(|f| matches!(f.outcome, RunOutcome::Limit { .. }))
+}
+
 /// The status of a run.
 fn run_status(finished: &[Finished]) -> u8
     ensures { result ≡ run_status finished.now }
 {
-    if finished
-        .iter()
-        .any(|f| matches!(f.outcome, RunOutcome::Stuck { .. }))
-    {
+    if is_any_stuck(finished) {
         3
-    } else if finished
-        .iter()
-        .any(|f| matches!(f.outcome, RunOutcome::Limit { .. }))
-    {
+    } else if is_any_limit(finished) {
         8
     } else {
         0

@@ -1,9 +1,8 @@
-use Rattle.std.proofs.Common.{◌≡◌, ◌<◌, Ok, true, false, sym, ap, ◌∙◌, subst}
+use Rattle.std.proofs.Common.{◌≡◌, ◌<◌, true, sym, subst}
 use Rattle.gaspi_model.specs.Step.{is_legal}
 use Rattle.gaspi_run.specs.Schedule.{HaveEnded}
 use Rattle.gaspi_run.specs.declared.turns.Turns.{Turns}
-use Rattle.gaspi_run.proofs.RunningAll.{Laws}
-use Rattle.gaspi_run.proofs.Scheduling.{Known, known, laws, turned-declared, turned-less, turned-more, over-legal, over-ended}
+use Rattle.gaspi_run.proofs.Scheduling.{known, laws, turned-declared, turned-less, turned-more, over-legal, over-ended}
 use Rattle.gaspi_run.proofs.Work.{work}
 use Rattle.gaspi_run.proofs.schedule.schedule.Goals as goal
 

@@ -1,4 +1,4 @@
-use Rattle.std.proofs.Common.{◌≡◌, ◌++◌, ◌+◌, ◌≤◌, Some, sym, ap, ◌∙◌, arith}
+use Rattle.std.proofs.Common.{◌++◌, Some, sym, ap, ◌∙◌, arith}
 use Rattle.std.specs.Option.{option_copied}
 use Rattle.gaspi_run.specs.Transcripts.{stuck_line}
 use Rattle.gaspi_run.proofs.Transcribing.{on-ok, not-true, not-false, told-none, told-else, told-past, told-end, told-stuck, told-more, told-limit, told-ended}
