@@ -9,6 +9,5 @@ pub mod NumberRanges
 pub mod Started
 pub mod Scheduling
 mod Transcribing
-mod PlainTexts
 mod CommandWords
 mod Answering

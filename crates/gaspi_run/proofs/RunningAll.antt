@@ -1,11 +1,15 @@
 -- Every turn of the schedule keeps that the callers' calls are runs of their scripts.
-use Rattle.std.proofs.Common.{◌≡◌, ℕ, zero, suc, ◌+◌, ◌-◌, ◌<◌, ◌≤◌, Bool, true, false, List, [], length, Option, None, Some, Result, Ok, Err, refl, sym, ap, ◌∙◌, subst, arith, nat_lt, nat_le, ◌==◌, IsOk, inl, inr, append-nil, if◌then◌else◌}
+use Rattle.std.proofs.Common.{◌≡◌, ◌≢◌, ℕ, zero, suc, ◌+◌, ◌-◌, ◌<◌, ◌≤◌, Bool, true, false, List, [], length, Option, None, Some, Result, Ok, Err, refl, sym, ap, ◌∙◌, subst, arith, nat_lt, nat_le, ◌==◌, IsOk, inl, inr, append-nil, if◌then◌else◌}
 use Rattle.std.specs.List.{slice_get}
+use Rattle.std.specs.List.{All}
 use Rattle.std.proofs.lemmas.Bool.{ltb-true, ltb-false}
+use Rattle.std.proofs.lemmas.List.Elements.{All-get_or}
+use Rattle.std.proofs.lemmas.Option.{slice_get_within, get_or_from_slice_get}
 use Rattle.gaspi_types.specs.World.{World}
 use Rattle.gaspi_types.specs.Need.{need_of}
 use Rattle.gaspi_types.specs.declared.calls.Call.{Call}
 use Rattle.gaspi_types.specs.declared.calls.Call.TheVariants.{End}
+use Rattle.gaspi_types.specs.declared.calls.Call.TheVariants as calls
 use Rattle.gaspi_types.specs.declared.replies.Reply.TheVariants as replies
 use Rattle.gaspi_types.specs.declared.replies.Ready.{Ready}
 use Rattle.gaspi_types.specs.declared.replies.Ready.TheVariants as ready
@@ -22,6 +26,7 @@ use Rattle.gaspi_model.specs.declared.states.Memory.{Memory}
 use Rattle.gaspi_model.specs.declared.states.State.{State}
 use Rattle.gaspi_model.specs.declared.states.Why.{Why}
 use Rattle.gaspi_model.proofs.Tables.{past-none}
+use Rattle.rank_script.specs.PlainScripts.{IsPlain, HasPlainLines, ArePlain}
 use Rattle.rank_script.specs.Runs.{Progress, Going, Over, going_on, stopped, Follows}
 use Rattle.rank_script.specs.declared.scripts.Halted.TheVariants as halts
 use Rattle.rank_script.specs.declared.scripts.Script.{Script}
@@ -29,7 +34,7 @@ use Rattle.rank_script.specs.declared.scripts.ScriptLine.{ScriptLine}
 use Rattle.rank_script.specs.declared.scripts.RunOutcome.{RunOutcome}
 use Rattle.rank_script.specs.declared.scripts.RunOutcome.TheVariants as outcomes
 use Rattle.gaspi_run.specs.Generator.{drawn, picked}
-use Rattle.gaspi_run.specs.Schedule.{made, looks_of, recorded, looked, answered, going_turn, ending_turn, progress_turn, caller_turn, candidate_turn, candidates, with_draw, turn, turns, ArePlain}
+use Rattle.gaspi_run.specs.Schedule.{made, looks_of, recorded, looked, answered, going_turn, ending_turn, progress_turn, caller_turn, candidate_turn, candidates, with_draw, turn, turns}
 use Rattle.gaspi_run.specs.declared.turns.Waiting.{Waiting}
 use Rattle.gaspi_run.specs.declared.turns.Turns.{Turns}
 use Rattle.gaspi_run.proofs.Good.{IsGood, Steps, LimitsStay, good-turn}
@@ -53,6 +58,18 @@ pub record Laws : Type 0 where
   pub ends : EndsRun
   pub stops : StopsRun
 
+not-end : (call : Call) → call ≢ End → is_end call ≡ false
+not-end (calls.Store seg offset bytes) other = refl
+not-end (calls.Load seg offset size) other = refl
+not-end (calls.WriteNotify seg offset rank rseg roffset size note value queue) other = refl
+not-end (calls.Wait queue) other = refl
+not-end (calls.Waitsome seg begin num) other = refl
+not-end (calls.Reset seg note) other = refl
+not-end End other = absurd (other refl)
+
+all-at : {X : Type 0} (P : X → Type 0) (xs : List X) (place : ℕ) (x : X) → All P xs → slice_get xs place ≡ Some x → P x
+all-at P xs place x all at = subst P (get_or_from_slice_get xs place x x at) (All-get_or P xs place x (slice_get_within xs place x at) all)
+
 -- the present line of a caller is one of its script, and makes no end
 plain-line : (w : World) (scripts : List Script) (journal : List Event) (x : Waiting) (line : ScriptLine) (lines : List ScriptLine) → ArePlain scripts → Goes w scripts journal x → x.cursor ≡ Going line lines → is_end line.call ≡ false
 plain-line w scripts journal x line lines plain g going = by-come g.come
@@ -62,7 +79,7 @@ plain-line w scripts journal x line lines plain g going = by-come g.come
         let follows = subst (λ (p : Progress). Follows (going_on g.script.lines) (own_calls x.caller.rank x.caller.thread journal) p) going f in
         let there = line-there g.script.lines (own_calls x.caller.rank x.caller.thread journal) line lines follows in
         let script = find-there _ scripts g.script g.is_script in
-        plain script.0 g.script script.1 there.0 line there.1
+        not-end line.call (all-at IsPlain g.script.lines there.0 line (all-at HasPlainLines scripts script.0 g.script plain script.1) there.1)
     by-come (inr stopped) = absurd (let over : ◌≡◌ {A = Progress} (Going line lines) (Over stopped.0) = sym going ∙ stopped.1 in let no : ⊥ = cc in no)
 
 ok-state : (r : Result State Why) → IsOk r → (s : State) × (r ≡ Ok s)

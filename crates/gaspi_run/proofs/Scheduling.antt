@@ -10,9 +10,10 @@ use Rattle.gaspi_model.specs.declared.states.Posts.{Posts}
 use Rattle.gaspi_model.specs.declared.states.ThreadState.{ThreadState}
 use Rattle.gaspi_model.specs.declared.states.ThreadState.TheVariants.{Absent, Running, Ended}
 use Rattle.gaspi_model.specs.declared.states.State.{State}
+use Rattle.rank_script.specs.PlainScripts.{ArePlain}
 use Rattle.rank_script.specs.WorldText.{AreScriptsOf}
 use Rattle.rank_script.specs.declared.scripts.Script.{Script}
-use Rattle.gaspi_run.specs.Schedule.{started, turn, turns, candidates, AreDeclared, ArePlain, IsScheduled, HaveEnded}
+use Rattle.gaspi_run.specs.Schedule.{started, turn, turns, candidates, AreDeclared, IsScheduled, HaveEnded}
 use Rattle.gaspi_run.specs.declared.turns.Waiting.{Waiting}
 use Rattle.gaspi_run.specs.declared.turns.Turns.{Turns}
 use Rattle.gaspi_run.proofs.Work.{work, turn-less, Counts, TransfersAreSteps}

@@ -16,7 +16,7 @@ use Rattle.gaspi_types.specs.declared.events.Transfer.{Transfer}
 use Rattle.gaspi_types.specs.declared.events.Event.{Event}
 use Rattle.gaspi_types.specs.declared.events.Event.TheVariants.{Called}
 use Rattle.gaspi_model.specs.State.{opening}
-use Rattle.gaspi_model.specs.Step.{step, answer_in, room_taken, transfer_event, own_calls, reached, is_end, is_declared}
+use Rattle.gaspi_model.specs.Step.{step, answer_in, room_taken, transfer_event, own_calls, reached, is_declared}
 use Rattle.gaspi_model.specs.Transfers.{transfers}
 use Rattle.gaspi_model.specs.declared.states.State.{State}
 use Rattle.gaspi_model.specs.declared.states.Why.{Why}
@@ -143,10 +143,6 @@ pub record IsScheduled (w : World) (scripts : List Script) (seed limit : ℕ) (j
   pub over : candidates (turns limit count (started w scripts seed)) ≡ 0
   pub journal_is : journal ≡ (turns limit count (started w scripts seed)).journal
   pub finished_is : finished ≡ (turns limit count (started w scripts seed)).finished
-
--- no script makes an end by itself
-abbrev pub ArePlain : List Script → Type 0
-ArePlain scripts = (k : ℕ) (s : Script) → slice_get scripts k ≡ Some s → (i : ℕ) (line : ScriptLine) → slice_get s.lines i ≡ Some line → is_end line.call ≡ false
 
 -- the callers that wait are declared
 abbrev pub AreDeclared : Turns → Type 0

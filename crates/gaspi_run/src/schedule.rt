@@ -3,7 +3,7 @@
 ghost use Rattle.std.specs.Prelude.{◌≡◌, ℕ, ◌<◌, ◌≤◌, ◌++◌, OnOk, IfOk, true};
 ghost use Rattle.gaspi_model.specs.Step.{is_legal};
 ghost use Rattle.rank_script.specs.WorldText.{AreScriptsOf};
-ghost use Rattle.gaspi_run.specs.Schedule.{starts, rank_starts, thread_starts, started, IsScheduled, HaveEnded, ArePlain};
+ghost use Rattle.gaspi_run.specs.Schedule.{starts, rank_starts, thread_starts, started, IsScheduled, HaveEnded};
 
 use crate::moves::turn;
 use crate::turns::{Finished, Turns, Waiting};
@@ -86,7 +86,6 @@ pub fn schedule(
 ) -> Result<Ran, NoMemory>
     requires limit { 1 ≤ limit }
     requires scripts { AreScriptsOf shape.now scripts.now }
-    requires plain { ArePlain scripts.now }
     ensures scheduled { IfOk result (λ ran. IsScheduled shape.now scripts.now seed limit ran.journal ran.finished) }
     ensures legal { IfOk result (λ ran. is_legal shape.now ran.journal ≡ true) }
     ensures runs { IfOk result (λ ran. HaveEnded shape.now scripts.now ran.journal ran.finished) }
@@ -94,7 +93,9 @@ pub fn schedule(
     soundness();
     enabled();
     runs();
+    // Say that the shape is a world, and that no script makes an end by itself.
     let _limits = shape.limits();
+    let _count = scripts.len();
     let mut turns = Turns {
         x: seed,
         state: Machine::start(alloc, shape)?,

@@ -4,3 +4,4 @@ pub mod Lines
 pub mod WorldText
 pub mod Kinds
 pub mod Readings
+pub mod PlainScripts

@@ -65,7 +65,8 @@ impl From<NoMemory> for ScriptFault {
     }
 }
 
-/// The scripts of a world, in the order of its callers.
+/// The scripts of a world, in the order of its callers. No line of them makes an end: a caller's end is no call of its
+/// script.
 #[derive(Debug, Drop)]
 pub struct Scripts {
     scripts: Rows<Script>,
@@ -74,14 +75,18 @@ pub struct Scripts {
 impl Model for Scripts {
     ghost use Rattle.std.specs.Prelude.{List};
     ghost use Rattle.rank_script.specs.declared.scripts.Script.{Script};
+    ghost use Rattle.rank_script.specs.PlainScripts.{ArePlain};
 
     ghost Value = { List Script };
 
     ghost view = { λ s. s.scripts };
+
+    ghost invariant = { λ s. ArePlain s.scripts };
 }
 
 impl Scripts {
     ghost use Rattle.rank_script.specs.WorldText.{is_script_of, with_section, with_line};
+    ghost use Rattle.rank_script.specs.PlainScripts.{IsPlain, ArePlain};
 
     /// No script. It takes no memory.
     pub fn new(alloc: Global) -> Scripts
@@ -94,7 +99,8 @@ impl Scripts {
 
     /// How many scripts there are.
     pub fn len(&self) -> usize
-        ensures { result ≡ length self.now }
+        ensures count { result ≡ length self.now }
+        ensures plain { ArePlain self.now }
     {
         self.scripts.len()
     }
@@ -137,7 +143,8 @@ impl Scripts {
 
     /// Adds a line to the newest script. Without memory nothing changes.
     pub(crate) fn add_line(&mut self, line: ScriptLine) -> Result<(), NoMemory>
-        requires { 0 < length self.old }
+        requires some { 0 < length self.old }
+        requires plain { IsPlain line }
         ensures ok { OnOk result (self.new ≡ with_line self.old (Some line)) }
         ensures err { OnErr result (self.new ≡ self.old) }
     {

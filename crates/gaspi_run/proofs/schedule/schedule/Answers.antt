@@ -10,7 +10,7 @@ pub turn-requires : goal.turn-requires
 turn-requires c =
     turned-declared c.args.shape.now c.args.scripts.now c.args.seed c.args.limit _
     (known _ _ (laws c.soundness.ensures.steps c.soundness.ensures.limits c.soundness.ensures.active c.enabled.ensures.call c.runs.ensures.onward c.runs.ensures.ended c.runs.ensures.stopped)
-    c.soundness.ensures.counts c.enabled.ensures.transfer c.soundness.ensures.opens c.limits-limits.ensures.world c.requires.scripts c.requires.plain)
+    c.soundness.ensures.counts c.enabled.ensures.transfer c.soundness.ensures.opens c.limits-limits.ensures.world c.requires.scripts c.len-count.ensures.plain)
     c.loop-turns.invariant
 
 pub loop-turns-smaller : goal.loop-turns-smaller
@@ -19,7 +19,7 @@ loop-turns-smaller c =
     subst (λ (t : Turns). work c.args.limit t < work c.args.limit c.loop-turns.turns) (sym turned.1)
     (turned-less c.args.shape.now c.args.scripts.now c.args.seed c.args.limit c.loop-turns.turns
     (known _ _ (laws c.soundness.ensures.steps c.soundness.ensures.limits c.soundness.ensures.active c.enabled.ensures.call c.runs.ensures.onward c.runs.ensures.ended c.runs.ensures.stopped)
-    c.soundness.ensures.counts c.enabled.ensures.transfer c.soundness.ensures.opens c.limits-limits.ensures.world c.requires.scripts c.requires.plain)
+    c.soundness.ensures.counts c.enabled.ensures.transfer c.soundness.ensures.opens c.limits-limits.ensures.world c.requires.scripts c.len-count.ensures.plain)
     c.loop-turns.invariant turned.0)
 
 pub loop-turns-preserved : goal.loop-turns-preserved
@@ -32,7 +32,7 @@ returns-clause-legal c =
     subst (λ (t : Turns). is_legal c.args.shape.now t.journal ≡ true) (sym over.1)
     (over-legal c.args.shape.now c.args.scripts.now c.args.seed c.args.limit c.loop-turns.turns
     (known _ _ (laws c.soundness.ensures.steps c.soundness.ensures.limits c.soundness.ensures.active c.enabled.ensures.call c.runs.ensures.onward c.runs.ensures.ended c.runs.ensures.stopped)
-    c.soundness.ensures.counts c.enabled.ensures.transfer c.soundness.ensures.opens c.limits-limits.ensures.world c.requires.scripts c.requires.plain)
+    c.soundness.ensures.counts c.enabled.ensures.transfer c.soundness.ensures.opens c.limits-limits.ensures.world c.requires.scripts c.len-count.ensures.plain)
     c.loop-turns.invariant)
 
 pub returns-clause-runs : goal.returns-clause-runs
@@ -41,5 +41,5 @@ returns-clause-runs c =
     subst (λ (t : Turns). HaveEnded c.args.shape.now c.args.scripts.now t.journal t.finished) (sym over.1)
     (over-ended c.args.shape.now c.args.scripts.now c.args.seed c.args.limit c.loop-turns.turns
     (known _ _ (laws c.soundness.ensures.steps c.soundness.ensures.limits c.soundness.ensures.active c.enabled.ensures.call c.runs.ensures.onward c.runs.ensures.ended c.runs.ensures.stopped)
-    c.soundness.ensures.counts c.enabled.ensures.transfer c.soundness.ensures.opens c.limits-limits.ensures.world c.requires.scripts c.requires.plain)
+    c.soundness.ensures.counts c.enabled.ensures.transfer c.soundness.ensures.opens c.limits-limits.ensures.world c.requires.scripts c.len-count.ensures.plain)
     c.loop-turns.invariant over.0)

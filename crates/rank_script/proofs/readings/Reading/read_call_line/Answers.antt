@@ -2,7 +2,11 @@ use Rattle.std.proofs.Common.{map, List, ℕ, sym, ◌∙◌, refl}
 use Rattle.rank_script.specs.WorldText.{is_timeout_within, as_timeout}
 use Rattle.rank_script.specs.Readings.{said_of}
 use Rattle.rank_script.proofs.LateFaults.{some-where, none-where, call-malformed, timeout-outside, call-accepted, call-accords}
+use Rattle.rank_script.proofs.PlainCalls.{call-plain}
 use Rattle.rank_script.proofs.readings.Reading.read_call_line.Goals as goal
+
+pub add_line-requires-clause-plain : goal.add_line-requires-clause-plain
+add_line-requires-clause-plain c = call-plain _ _ (sym c.in_ok-call.ensures ∙ c.in-Some.is)
 
 pub returns-in_default-clause-exact : goal.returns-in_default-clause-exact
 returns-in_default-clause-exact c =
