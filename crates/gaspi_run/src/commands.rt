@@ -127,6 +127,16 @@ fn status_of<K: Sink>(sink: &mut K, text: &[u8], status: u8) -> u8
     }
 }
 
+/// An answer with nothing but a status.
+fn bare(alloc: Global, status: u8) -> Answer
+    ensures { (result.status ≡ status) × (result.journal ≡ []) }
+{
+    Answer {
+        status,
+        journal: Rows::new(alloc),
+    }
+}
+
 /// Answers a fault of the input.
 fn answer_fault<K: Sink>(alloc: Global, sink: &mut K, number: u32, line: u64) -> Answer
     ensures told { let text = fault_text (record { number = number; line = line }) in
@@ -139,20 +149,7 @@ fn answer_fault<K: Sink>(alloc: Global, sink: &mut K, number: u32, line: u64) ->
         Ok(text) => status_of(sink, text.as_slice(), 2),
         Err(NoMemory) => 7,
     };
-    Answer {
-        status,
-        journal: Rows::new(alloc),
-    }
-}
-
-/// An answer with nothing but a status.
-fn bare(alloc: Global, status: u8) -> Answer
-    ensures { (result.status ≡ status) × (result.journal ≡ []) }
-{
-    Answer {
-        status,
-        journal: Rows::new(alloc),
-    }
+    bare(alloc, status)
 }
 
 /// `step --brief`: runs the world text that the source has left on one thread, and writes what each caller was told.
@@ -207,8 +204,5 @@ pub fn gaspirun<R: Threads + Wait + Sync, S: Source, K: Sink>(
         return step_brief(alloc, source, sink);
     }
     let status = status_of(sink, b"gaspirun: words refused\n", 1);
-    Answer {
-        status,
-        journal: Rows::new(alloc),
-    }
+    bare(alloc, status)
 }
