@@ -8,7 +8,10 @@ use gaspi_io::{MemSink, MemSource, SureSink, SureSource};
 use gaspi_run::gaspirun;
 use gaspi_types::{Bytes, NoMemory, Rows};
 use std::alloc::Global;
+use std::process::Abort;
+use std::sync::Wait;
 use std::test::Fail;
+use std::thread::Threads;
 
 /// A source of the first world, which gives at most so many bytes a read.
 fn source_in_pieces(alloc: Global, piece: usize) -> Result<MemSource, NoMemory>
@@ -33,23 +36,59 @@ fn pieces_of_each_size_are_one_text(rt: HostRuntime) -> Result<(), Fail> {
     Ok(())
 }
 
-// The text has 184 bytes: with 50 a read, four reads give bytes, and the fifth finds the end.
+/// Asserts that nothing is written where one read fails.
+fn fails_at_read<R: Threads + Wait + Sync + Abort>(
+    rt: &R,
+    alloc: Global,
+    piece: usize,
+    call: u64,
+) -> Result<(), NoMemory>
+    requires { 0 < piece }
+{
+    let mut source = source_in_pieces(alloc, piece)?;
+    source.set_failing(Rows::copied_from(alloc, &[call])?);
+    let mut sink = SureSink::with_room(alloc, 4096)?;
+    let answer = gaspirun(rt, alloc, &STEP, &mut source, &mut sink);
+    assert_eq!(rt; answer.status, 5, "read {call} of {piece}");
+    assert!(rt; sink.bytes().is_empty(), "read {call} of {piece}");
+    assert!(rt; answer.journal.is_empty(), "read {call} of {piece}");
+    Ok(())
+}
+
+// The text has 184 bytes: with 50 a read, four reads give bytes, and the fifth finds the end. With one, 184 reads do.
 #[test]
 fn each_read_fails_in_turn(rt: HostRuntime) -> Result<(), Fail> {
     let alloc = rt.alloc();
     for call in 0..5 {
-        let mut source = source_in_pieces(alloc, 50)?;
-        source.set_failing(Rows::copied_from(alloc, &[call])?);
-        let mut sink = SureSink::with_room(alloc, 4096)?;
-        let answer = gaspirun(&rt, alloc, &STEP, &mut source, &mut sink);
-        assert_eq!(rt; answer.status, 5, "read {call}");
-        assert!(rt; sink.bytes().is_empty(), "read {call}");
-        assert!(rt; answer.journal.is_empty(), "read {call}");
+        fails_at_read(&rt, alloc, 50, call)?;
+    }
+    for call in 0..185 {
+        fails_at_read(&rt, alloc, 1, call)?;
     }
     Ok(())
 }
 
-// The text has 97 bytes: with 25 a write, four writes take it.
+/// Asserts what was written where one write fails.
+fn fails_at_write<R: Threads + Wait + Sync + Abort>(
+    rt: &R,
+    alloc: Global,
+    piece: usize,
+    call: u64,
+    written: &str,
+) -> Result<(), NoMemory>
+    requires { 0 < piece }
+{
+    let mut source = SureSource::new(Bytes::copied_from(alloc, TWO_RANKS.as_bytes())?);
+    let mut sink = MemSink::with_room(alloc, 4096)?;
+    sink.set_piece(piece);
+    sink.set_failing(Rows::copied_from(alloc, &[call])?);
+    let answer = gaspirun(rt, alloc, &STEP, &mut source, &mut sink);
+    assert_eq!(rt; answer.status, 6, "write {call} of {piece}");
+    assert_eq!(rt; sink.bytes(), written.as_bytes(), "write {call} of {piece}");
+    Ok(())
+}
+
+// The text has 97 bytes: with 25 a write, four writes take it, and with one, 97.
 #[test]
 fn each_write_fails_in_turn(rt: HostRuntime) -> Result<(), Fail> {
     let alloc = rt.alloc();
@@ -63,13 +102,11 @@ fn each_write_fails_in_turn(rt: HostRuntime) -> Result<(), Fail> {
         ),
     ];
     for (call, written) in rows {
-        let mut source = SureSource::new(Bytes::copied_from(alloc, TWO_RANKS.as_bytes())?);
-        let mut sink = MemSink::with_room(alloc, 4096)?;
-        sink.set_piece(25);
-        sink.set_failing(Rows::copied_from(alloc, &[call])?);
-        let answer = gaspirun(&rt, alloc, &STEP, &mut source, &mut sink);
-        assert_eq!(rt; answer.status, 6, "write {call}");
-        assert_eq!(rt; sink.bytes(), written.as_bytes(), "write {call}");
+        fails_at_write(&rt, alloc, 25, call, written)?;
+    }
+    for call in 0..97 {
+        let written = TOLD.get(..call).expect(&rt, "a front part");
+        fails_at_write(&rt, alloc, 1, call as u64, written)?;
     }
     Ok(())
 }

@@ -28,17 +28,19 @@ fn two_ranks_meet(rt: HostRuntime) -> Result<(), Fail> {
     Ok(())
 }
 
-/// Runs one call, of the first thread of rank 0, in a world of two ranks with one queue of depth 4, eight slots and a
-/// segment 0 in each rank, of 16 and of 12 bytes. Asserts its reply.
-fn replies<R: Threads + Wait + Sync + Abort>(
+/// Two ranks with one queue of depth 4, eight slots and a segment 0 in each rank, of 16 and of 12 bytes. The first
+/// thread of rank 0 has its lines from the fifth on.
+pub const SMALL: &str = "world 2 1 4 8 4 1000\nsegment 0 0 16\nsegment 1 0 12\nrank 0 thread 0\n";
+
+/// Runs one call, the fifth line of a world whose only caller is the first thread of rank 0. Asserts its reply.
+pub fn replies_in<R: Threads + Wait + Sync + Abort>(
     rt: &R,
     alloc: Global,
+    world: &str,
     call: &str,
     reply: &str,
 ) -> Result<(), NoMemory> {
-    let text = format!(in alloc;
-        "world 2 1 4 8 4 1000\nsegment 0 0 16\nsegment 1 0 12\nrank 0 thread 0\n{call}\n"
-    )?;
+    let text = format!(in alloc; "{world}{call}\n")?;
     let output = format!(in alloc; "0.0 5 {reply}\n0.0 ended\n")?;
     runs_to(rt, alloc, text.as_str(), 0, output.as_str())
 }
@@ -134,7 +136,7 @@ const POSTS_AND_NOTIFICATIONS: [(&str, &str); 39] = [
 fn calls_on_memory_reply(rt: HostRuntime) -> Result<(), Fail> {
     let alloc = rt.alloc();
     for (call, reply) in MEMORY_CALLS {
-        replies(&rt, alloc, call, reply)?;
+        replies_in(&rt, alloc, SMALL, call, reply)?;
     }
     Ok(())
 }
@@ -143,7 +145,7 @@ fn calls_on_memory_reply(rt: HostRuntime) -> Result<(), Fail> {
 fn posts_and_notifications_reply(rt: HostRuntime) -> Result<(), Fail> {
     let alloc = rt.alloc();
     for (call, reply) in POSTS_AND_NOTIFICATIONS {
-        replies(&rt, alloc, call, reply)?;
+        replies_in(&rt, alloc, SMALL, call, reply)?;
     }
     Ok(())
 }
@@ -216,8 +218,13 @@ wait 0 block\n",
 ];
 
 /// Whole worlds in which a caller is stuck. Each of these runs takes a million looks.
-const STUCK: [(&str, &str); 2] = [
-    // Nothing comes to wake it; the lines after are not reached.
+const STUCK: [(&str, &str); 3] = [
+    // Nothing comes to wake it.
+    (
+        "world 1 1 1 1 1 5\nsegment 0 0 8\nrank 0 thread 0\nwaitsome 0 0 1 block\n",
+        "0.0 4 timeout\n0.0 stuck 4\n",
+    ),
+    // The lines after are not reached.
     (
         "world 1 1 1 1 1 9\nsegment 0 0 8\nrank 0 thread 0\nwaitsome 0 0 1 block\nreset 0 0\n",
         "0.0 4 timeout\n0.0 stuck 4\n",
