@@ -105,7 +105,7 @@ post_by limits me posts seg offset rank rseg roffset size note value queue reply
     done_reply reply is = let same : replies.Done ≡ reply = cc in sym (ap is_done same)
 
 -- a write and its notification
-two_kinds : (notes me : ℕ) (own : List (Option Extent)) (known : List (List (Option Extent))) (seg offset rank rseg roffset size note value : ℕ) (kinds : List Kind)
+pub two_kinds : (notes me : ℕ) (own : List (Option Extent)) (known : List (List (Option Extent))) (seg offset rank rseg roffset size note value : ℕ) (kinds : List Kind)
     → write_notify_kinds notes me own known seg offset rank rseg roffset size note value ≡ Ok kinds → length kinds ≡ 2
 two_kinds notes me own known seg offset rank rseg roffset size note value kinds is =
     passed (found (extent_in own seg) _) _ _ is (λ mine a more.

@@ -25,12 +25,12 @@ pub record IsKept (old new : Posts) : Type 0 where
   pub queues : length new.queues ≡ length old.queues
 
 -- where an entry was found
-record IsAt (posts : Posts) (queue target : ℕ) (at : Found) : Type 0 where
-  q : slice_get posts.queues queue ≡ Some at.queue
-  lane : slice_get at.queue.lanes target ≡ Some at.lane
-  entry : slice_get at.lane at.place ≡ Some at.entry
+pub record IsAt (posts : Posts) (queue target : ℕ) (at : Found) : Type 0 where
+  pub q : slice_get posts.queues queue ≡ Some at.queue
+  pub lane : slice_get at.queue.lanes target ≡ Some at.lane
+  pub entry : slice_get at.lane at.place ≡ Some at.entry
 
-found_at : (posts : Posts) (queue target number : ℕ) (why : Why) (at : Found) → find_entry posts queue target number why ≡ Ok at → IsAt posts queue target at
+pub found_at : (posts : Posts) (queue target number : ℕ) (why : Why) (at : Found) → find_entry posts queue target number why ≡ Ok at → IsAt posts queue target at
 found_at posts queue target number why at is =
     passed (found (slice_get posts.queues queue) why) _ _ is (λ q there more.
     passed (found (slice_get q.lanes target) why) _ _ more (λ lane in_queue more.

@@ -5,7 +5,9 @@ pub mod Items
 pub mod Kept
 pub mod Lifted
 pub mod Opened
-pub mod Listed
+pub mod Parted
+pub mod Walked
 pub mod Owed
 pub mod Ranges
+pub mod Renamed
 pub mod Running

@@ -1,6 +1,6 @@
 -- The opening state: its ranks and queues have numbers in their ranges, and its ranks have taken the ends of their threads.
-use Rattle.std.proofs.Common.{◌≡◌, ℕ, ◌≤◌, true, List, [], ◌∷◌, Some, length, map, count_by, slice_get, refl, sym, ap, ◌∙◌, arith}
-use Rattle.std.specs.List.{range_with_len}
+use Rattle.std.proofs.Common.{◌≡◌, ℕ, zero, suc, ◌+◌, ◌≤◌, true, List, [], ◌∷◌, ◌++◌, Some, replicate, length, map, count_by, slice_get, refl, sym, ap, ◌∙◌, arith}
+use Rattle.std.specs.List.{range_with_len, flat_map, enumerate_from}
 use Rattle.std.proofs.lemmas.Bool.Decides.{nat_tests}
 use Rattle.std.proofs.lemmas.List.{length-replicate}
 use Rattle.std.proofs.lemmas.List.Folds.{sum_by-replicate}
@@ -11,6 +11,8 @@ use Rattle.gaspi_types.specs.Lanes.{lane_owed}
 use Rattle.gaspi_model.specs.State.{opening, opening_posts, opening_memory, opening_thread, opening_queue, is_running, queue_owed, entries_owed}
 use Rattle.gaspi_model.specs.declared.states.Posts.{Posts}
 use Rattle.plain_machine.specs.Machine.{IsFitting, taken_of}
+use Rattle.plain_machine.specs.Standing.{lane_named, queue_named, rank_named, standing_lanes}
+use Rattle.plain_machine.specs.declared.standing.LaneId.{LaneId}
 
 pub fitting-opening : (w : World) → are_limits w.limits ≡ true → IsFitting (opening w)
 fitting-opening w limited = record {
@@ -49,3 +51,22 @@ map-after-map {X} {Y} f g (n ∷ ns) = ap (λ (ys : List Y). f (g n) ∷ ys) (ma
 pub taken-opening : (w : World) (ns : List ℕ)
     → map (λ rank. count_by is_running (map (opening_thread w rank) (range_with_len 0 4))) ns ≡ map taken_of (map (opening_posts w) ns)
 taken-opening w ns = same-map _ _ (owed-opening w) ns ∙ sym (map-after-map taken_of (opening_posts w) ns)
+
+-- no lane has an entry there
+
+none-replicated : {X : Type 0} (h : ℕ × X → List LaneId) (n m : ℕ) (x : X) → ((j : ℕ) → h (j, x) ≡ []) → flat_map h (enumerate_from n (replicate m x)) ≡ []
+none-replicated h n zero x none = refl
+none-replicated {X} h n (suc m) x none = ap (λ (ys : List LaneId). ys ++ flat_map h (enumerate_from (n + 1) (replicate m x))) (none n) ∙ none-replicated h (n + 1) m x none
+
+none-mapped : {X : Type 0} (h : ℕ × X → List LaneId) (f : ℕ → X) (n : ℕ) (ns : List ℕ) → ((j k : ℕ) → h (j, f k) ≡ []) → flat_map h (enumerate_from n (map f ns)) ≡ []
+none-mapped h f n [] none = refl
+none-mapped {X} h f n (k ∷ ns) none = ap (λ (ys : List LaneId). ys ++ flat_map h (enumerate_from (n + 1) (map f ns))) (none n k) ∙ none-mapped h f (n + 1) ns none
+
+pub standing-opening : (w : World) (ns : List ℕ) → [] ≡ standing_lanes (map (opening_posts w) ns)
+standing-opening w ns = sym (none-mapped rank_named (opening_posts w) 0 ns (λ origin rank. of_rank origin rank))
+  where
+    of_queue : (origin queue : ℕ) → queue_named origin (queue, opening_queue w.limits.ranks) ≡ []
+    of_queue origin queue = none-replicated (lane_named origin queue) 0 w.limits.ranks [] (λ target. refl)
+
+    of_rank : (origin rank : ℕ) → rank_named (origin, opening_posts w rank) ≡ []
+    of_rank origin rank = none-replicated (queue_named origin) 0 w.limits.queues (opening_queue w.limits.ranks) (λ queue. of_queue origin queue)

@@ -1,6 +1,5 @@
 -- A machine stays one, and what it knows of its ranks.
-use Rattle.std.proofs.Common.{◌≡◌, ℕ, ◌≤◌, List, Option, None, Some, Result, Ok, Err, length, map, slice_get, refl, ◌∙◌, arith, subst}
-use Rattle.std.proofs.lemmas.Bool.Decides.{nat_tests}
+use Rattle.std.proofs.Common.{◌≡◌, ℕ, ◌≤◌, List, Option, None, Some, Result, Ok, Err, map, slice_get, refl, ◌∙◌, arith, subst}
 use Rattle.std.proofs.lemmas.Option.{slice_get-map}
 use Rattle.gaspi_types.specs.declared.events.Event.{Event}
 use Rattle.gaspi_model.specs.Sound.{IsSound}
@@ -9,7 +8,9 @@ use Rattle.gaspi_model.specs.declared.states.Posts.{Posts}
 use Rattle.gaspi_model.specs.declared.states.State.{State}
 use Rattle.gaspi_model.specs.declared.states.StepFault.{StepFault}
 use Rattle.gaspi_model.specs.declared.states.StepFault.TheVariants as faults
-use Rattle.plain_machine.specs.Machine.{IsMachine, AreListable, taken_of}
+use Rattle.plain_machine.specs.Machine.{IsMachine, taken_of}
+use Rattle.plain_machine.specs.Standing.{standing_lanes}
+use Rattle.plain_machine.specs.declared.standing.LaneId.{LaneId}
 use Rattle.plain_machine.proofs.Fitting.{fitting_by}
 
 -- the room taken that is kept for a rank
@@ -17,8 +18,8 @@ pub record IsTaken (s : State) (rank n : ℕ) : Type 0 where
   pub within : n ≤ s.limits.events
   pub value : n ≡ room_taken s rank
 
-pub taken_at : (s : State) (rooms : List ℕ) (rank n : ℕ) → IsMachine s rooms → slice_get rooms rank ≡ Some n → IsTaken s rank n
-taken_at s rooms rank n machine there = by_item (slice_get s.posts rank) refl
+pub taken_at : (s : State) (rooms : List ℕ) (standing : List LaneId) (rank n : ℕ) → IsMachine s rooms standing → slice_get rooms rank ≡ Some n → IsTaken s rank n
+taken_at s rooms standing rank n machine there = by_item (slice_get s.posts rank) refl
   where
     kept : slice_get (map taken_of s.posts) rank ≡ Some n
     kept = subst (λ (ns : List ℕ). slice_get ns rank ≡ Some n) machine.taken there
@@ -32,24 +33,12 @@ taken_at s rooms rank n machine there = by_item (slice_get s.posts rank) refl
         let room = (machine.sound.posts rank p is).room in
         record { within = omega (arith, same, room); value = same ∙ rw is refl }
 
-pub listable : (s : State) (rooms : List ℕ) → IsMachine s rooms → AreListable s.posts
-listable s rooms machine = record {
-  ranks = machine.fitting.ranks;
-  each = λ rank p there. record {
-    queues = machine.fitting.queues rank p there;
-    lanes = λ queue q there_q. few (length q.lanes) ((machine.sound.posts rank p there).lanes queue q there_q);
-  };
-}
-  where
-    few : (n : ℕ) → n ≡ s.limits.ranks → n ≤ 16
-    few n is = let limited = machine.sound.limits in grind (arith, nat_tests)
-
-pub stepped : (s t : State) (e : Event) (rooms rooms' : List ℕ) (result : Result (Unit {0}) StepFault)
+pub stepped : (s t : State) (e : Event) (rooms rooms' : List ℕ) (standing standing' : List LaneId) (result : Result (Unit {0}) StepFault)
     → ((s t : State) (e : Event) → IsSound s → step s e ≡ Ok t → IsSound t)
-    → IsMachine s rooms → Steps result s t (step s e) → rooms' ≡ map taken_of t.posts → IsMachine t rooms'
-stepped s t e rooms rooms' (Ok done) keeps machine steps taken =
-    record { sound = keeps s t e machine.sound steps; fitting = fitting_by s t e machine.fitting steps; taken = taken }
-stepped s t e rooms rooms' (Err (faults.Illegal why)) keeps machine steps taken =
-    record { sound = rw steps.1 machine.sound; fitting = rw steps.1 machine.fitting; taken = taken }
-stepped s t e rooms rooms' (Err faults.NoMemory) keeps machine steps taken =
-    record { sound = rw steps machine.sound; fitting = rw steps machine.fitting; taken = taken }
+    → IsMachine s rooms standing → Steps result s t (step s e) → rooms' ≡ map taken_of t.posts → standing' ≡ standing_lanes t.posts → IsMachine t rooms' standing'
+stepped s t e rooms rooms' standing standing' (Ok done) keeps machine steps taken named =
+    record { sound = keeps s t e machine.sound steps; fitting = fitting_by s t e machine.fitting steps; taken = taken; named = named }
+stepped s t e rooms rooms' standing standing' (Err (faults.Illegal why)) keeps machine steps taken named =
+    record { sound = rw steps.1 machine.sound; fitting = rw steps.1 machine.fitting; taken = taken; named = named }
+stepped s t e rooms rooms' standing standing' (Err faults.NoMemory) keeps machine steps taken named =
+    record { sound = rw steps machine.sound; fitting = rw steps machine.fitting; taken = taken; named = named }

@@ -3,3 +3,4 @@ pub mod Fields
 pub mod Machine
 pub mod Memory
 pub mod Room
+pub mod Standing

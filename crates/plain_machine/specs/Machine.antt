@@ -1,4 +1,4 @@
--- The machine: a sound state, and the room that each rank has taken.
+-- The machine: a sound state, the room that each rank has taken, and the lanes that have an entry.
 use Rattle.std.specs.Prelude.{◌≡◌, ℕ, ◌+◌, ◌≤◌, List, map, length, slice_get, Some, if◌then◌else◌}
 use Rattle.gaspi_types.specs.declared.shapes.Limits.{Limits}
 use Rattle.gaspi_types.specs.declared.events.Event.{Event}
@@ -7,10 +7,11 @@ use Rattle.gaspi_types.specs.declared.events.Outcome.{Outcome}
 use Rattle.gaspi_types.specs.declared.events.Transfer.{Transfer}
 use Rattle.gaspi_model.specs.State.{owed}
 use Rattle.gaspi_model.specs.Sound.{IsSound}
-use Rattle.gaspi_model.specs.declared.states.Queue.{Queue}
 use Rattle.gaspi_model.specs.declared.states.Posts.{Posts}
 use Rattle.gaspi_model.specs.declared.states.Memory.{Memory}
 use Rattle.gaspi_model.specs.declared.states.State.{State}
+use Rattle.plain_machine.specs.Standing.{standing_lanes}
+use Rattle.plain_machine.specs.declared.standing.LaneId.{LaneId}
 
 abbrev pub state_of : Limits → List Posts → List Memory → State
 state_of limits posts memories = record { limits = limits; posts = posts; memories = memories }
@@ -25,20 +26,12 @@ pub record IsFitting (s : State) : Type 0 where
   pub memories : length s.memories ≡ length s.posts
   pub queues : (rank : ℕ) (posts : Posts) → slice_get s.posts rank ≡ Some posts → length posts.queues ≤ 8
 
-pub record IsMachine (s : State) (rooms : List ℕ) : Type 0 where
+pub record IsMachine (s : State) (rooms : List ℕ) (standing : List LaneId) : Type 0 where
   pub sound : IsSound s
   pub fitting : IsFitting s
   pub taken : rooms ≡ map taken_of s.posts
+  pub named : standing ≡ standing_lanes s.posts
 
 -- the event of a transfer with an outcome
 abbrev pub event_of : Transfer → Outcome → Event
 event_of t outcome = if t.put then Put t.origin t.queue t.target t.number outcome else Take t.origin t.queue t.target t.number outcome
-
--- queues and lanes have numbers in their ranges
-pub record IsListable (posts : Posts) : Type 0 where
-  pub queues : length posts.queues ≤ 8
-  pub lanes : (queue : ℕ) (q : Queue) → slice_get posts.queues queue ≡ Some q → length q.lanes ≤ 16
-
-pub record AreListable (posts : List Posts) : Type 0 where
-  pub ranks : length posts ≤ 16
-  pub each : (rank : ℕ) (p : Posts) → slice_get posts rank ≡ Some p → IsListable p

@@ -10,6 +10,7 @@ mod memories;
 mod opening;
 mod posts;
 mod replies;
+mod standing;
 mod steps;
 mod transfers;
 

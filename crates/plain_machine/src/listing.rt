@@ -1,139 +1,194 @@
 //! The transfers that may come next, by origin, queue, target and number. (GASPI: one-sided communication)
+//!
+//! Only the lanes that have an entry are walked, and in each of them each entry is judged by a summary of its lane.
 
-ghost use Rattle.std.specs.Prelude.{◌≡◌, ◌≤◌, ◌++◌, length, slice_get, Some, OnOk, IfOk};
+ghost use Rattle.std.specs.Prelude.{◌≡◌, ℕ, ◌≤◌, ◌<◌, ◌^◌, ◌++◌, ◌||◌, ◌&&◌, nat_lt, List, length, slice_get, OnOk, IfOk};
+ghost use Rattle.std.specs.List.{flat_map};
 ghost use Rattle.std.specs.Option.{option_to_list};
-ghost use Rattle.gaspi_model.specs.Transfers.{transfer_of, lane_transfers, queue_transfers, rank_transfers, transfers};
-ghost use Rattle.gaspi_model.specs.declared.states.Queue.{Queue};
-ghost use Rattle.gaspi_model.specs.declared.states.Posts.{Posts};
-ghost use Rattle.plain_machine.specs.Machine.{AreListable, IsListable};
+ghost use Rattle.gaspi_types.specs.Lanes.{is_write};
+ghost use Rattle.gaspi_types.specs.declared.entries.Entry.{Entry};
+ghost use Rattle.gaspi_model.specs.Transfers.{transfer_of};
+ghost use Rattle.plain_machine.specs.Standing.{is_over, IsSummary, Seeks, entries_transfers, open_transfers};
 
-use crate::lanes::{may_put, may_take};
-use gaspi_model::{Posts, Queue};
-use gaspi_types::{Entry, Limits, NoMemory, QueueId, RankId, Rows, Transfer};
+use crate::lanes::{is_carried, is_posted, is_write};
+use crate::standing::{LaneId, open_entries};
+use gaspi_model::Posts;
+use gaspi_types::{Entry, Limits, NoMemory, Rows, Transfer};
 use std::alloc::Global;
 
-/// The transfer of an entry that may come next.
+/// What decides which entries of a lane may move: how many of them have taken their bytes, and the least number of a
+/// write among them.
+#[derive(Clone, Copy, Debug, PartialEq, Eq)]
+pub struct LaneSummary {
+    pub carried: usize,
+    pub first_write: Option<u32>,
+}
+
+/// A transfer that was sought by its place, or how far the place is over the end of the list.
+#[derive(Clone, Copy, Debug, PartialEq, Eq)]
+pub enum Sought {
+    Found(Transfer),
+    Left(usize),
+}
+
+/// The lesser of a number and an entry's number, if that is a write.
+fn lesser_write(least: Option<u32>, entry: &Entry) -> Option<u32>
+    ensures { (n : ℕ) → is_over result n ≡ (is_over least n || (is_write entry.now && nat_lt entry.now.number n)) }
+{
+    if !is_write(entry) {
+        return least;
+    }
+    match least {
+        Some(number) if number <= entry.number => least,
+        Some(_) | None => Some(entry.number),
+    }
+}
+
+/// The summary of a lane, in one pass.
+fn summary_of(entries: &[Entry]) -> LaneSummary
+    ensures { IsSummary entries.now result }
+{
+    let mut carried = 0;
+    let mut first_write = None;
+    for entry in entries {
+        if is_carried(entry) {
+            carried += 1;
+        }
+        first_write = lesser_write(first_write, entry);
+    }
+    LaneSummary {
+        carried,
+        first_write,
+    }
+}
+
+/// Whether a number is over another, if there is one.
+fn is_over(least: Option<u32>, number: u32) -> bool
+    ensures { result ≡ is_over least number }
+{
+    match least {
+        Some(least) => least < number,
+        None => false,
+    }
+}
+
+/// The transfer of an entry that may come next, by the summary of its lane.
 fn transfer_of(
-    origin: RankId,
-    queue: QueueId,
-    target: RankId,
     limits: &Limits,
-    lane: &Rows<Entry>,
+    id: &LaneId,
+    summary: LaneSummary,
     entry: &Entry,
 ) -> Option<Transfer>
-    ensures { option_to_list result ≡ transfer_of origin queue target limits.now lane.now entry.now }
+    ensures { (lane : List Entry) → IsSummary lane summary → option_to_list result ≡ transfer_of id.now.origin id.now.queue id.now.target limits.now lane entry.now }
 {
-    let number = entry.number;
-    if may_take(limits.depth, lane, entry) {
+    let takes = is_posted(entry) && summary.carried < limits.depth as usize;
+    let puts = is_carried(entry)
+        && (is_write(entry) || !is_over(summary.first_write, entry.number));
+    if takes || puts {
         Some(Transfer {
-            origin,
-            queue,
-            target,
-            number,
-            put: false,
-        })
-    } else if may_put(lane, entry) {
-        Some(Transfer {
-            origin,
-            queue,
-            target,
-            number,
-            put: true,
+            origin: id.origin,
+            queue: id.queue,
+            target: id.target,
+            number: entry.number,
+            put: !takes,
         })
     } else {
         None
     }
 }
 
-/// Adds the transfer of an entry.
-fn push_transfer(found: &mut Rows<Transfer>, transfer: Option<Transfer>) -> Result<(), NoMemory>
-    ensures { OnOk result (found.new ≡ found.old ++ option_to_list transfer) }
+/// How many entries of a lane may move.
+fn entries_count(limits: &Limits, id: &LaneId, entries: &[Entry]) -> usize
+    ensures { result ≡ length (entries_transfers limits.now id.now entries.now) }
 {
-    match transfer {
-        Some(transfer) => found.push(transfer),
-        None => Ok(()),
+    let summary = summary_of(entries);
+    let mut count = 0;
+    for entry in entries {
+        if transfer_of(limits, id, summary, entry).is_some() {
+            count += 1;
+        }
     }
+    count
+}
+
+/// Seeks the transfer at a place among those of a lane.
+fn entries_transfer(limits: &Limits, id: &LaneId, entries: &[Entry], place: usize) -> Sought
+    ensures { Seeks result (entries_transfers limits.now id.now entries.now) place }
+{
+    let summary = summary_of(entries);
+    let mut left = place;
+    for entry in entries {
+        if let Some(transfer) = transfer_of(limits, id, summary, entry) {
+            if left == 0 {
+                return Sought::Found(transfer);
+            }
+            left -= 1;
+        }
+    }
+    Sought::Left(left)
 }
 
 /// Adds the transfers of a lane.
-#[tactic(auto, using(crate::proofs::Listed::listed))]
-fn lane_transfers(
+fn push_transfers(
     found: &mut Rows<Transfer>,
-    origin: RankId,
-    queue: QueueId,
     limits: &Limits,
-    target: RankId,
-    lane: &Rows<Entry>,
+    id: &LaneId,
+    entries: &[Entry],
 ) -> Result<(), NoMemory>
-    ensures { OnOk result (found.new ≡ found.old ++ lane_transfers origin queue limits.now (target, lane.now)) }
+    ensures { OnOk result (found.new ≡ found.old ++ entries_transfers limits.now id.now entries.now) }
 {
-    for entry in lane.as_slice() {
-        push_transfer(
-            found,
-            transfer_of(origin, queue, target, limits, lane, entry),
-        )?;
+    let summary = summary_of(entries);
+    for entry in entries {
+        if let Some(transfer) = transfer_of(limits, id, summary, entry) {
+            found.push(transfer)?;
+        }
     }
     Ok(())
 }
 
-/// Adds the transfers of a queue: none where it is broken.
-#[tactic(auto, using(crate::proofs::Listed::listed))]
-fn queue_transfers(
-    found: &mut Rows<Transfer>,
-    origin: RankId,
-    limits: &Limits,
-    queue: QueueId,
-    q: &Queue,
-) -> Result<(), NoMemory>
-    requires { length q.now.lanes ≤ 16 }
-    ensures { OnOk result (found.new ≡ found.old ++ queue_transfers origin limits.now (queue, q.now)) }
+/// How many transfers may come next in lanes.
+pub fn transfer_count(limits: &Limits, posts: &Rows<Posts>, lanes: &[LaneId]) -> usize
+    requires { length (flat_map (open_transfers limits.now posts.now) lanes.now) < 2 ^ 32 }
+    ensures { result ≡ length (flat_map (open_transfers limits.now posts.now) lanes.now) }
 {
-    if q.broken.is_some() {
-        return Ok(());
+    let mut count = 0;
+    for id in lanes {
+        count += entries_count(limits, id, open_entries(posts, id));
     }
-    for (target, lane) in q.lanes.as_slice().iter().enumerate() {
-        lane_transfers(
-            found,
-            origin,
-            queue,
-            limits,
-            RankId::of(target as u32),
-            lane,
-        )?;
-    }
-    Ok(())
+    count
 }
 
-/// Adds the transfers of an origin.
-#[tactic(auto, using(crate::proofs::Listed::listed))]
-fn rank_transfers(
-    found: &mut Rows<Transfer>,
+/// The transfer at a place among those that may come next in lanes.
+pub fn transfer_at(
     limits: &Limits,
-    origin: RankId,
-    posts: &Posts,
-) -> Result<(), NoMemory>
-    requires { IsListable posts.now }
-    ensures { OnOk result (found.new ≡ found.old ++ rank_transfers limits.now (origin, posts.now)) }
+    posts: &Rows<Posts>,
+    lanes: &[LaneId],
+    place: usize,
+) -> Option<Transfer>
+    ensures { result ≡ slice_get (flat_map (open_transfers limits.now posts.now) lanes.now) place }
 {
-    for (queue, q) in posts.queues.as_slice().iter().enumerate() {
-        queue_transfers(found, origin, limits, QueueId::of(queue as u32), q)?;
+    let mut left = place;
+    for id in lanes {
+        match entries_transfer(limits, id, open_entries(posts, id), left) {
+            Sought::Found(transfer) => return Some(transfer),
+            Sought::Left(rest) => left = rest,
+        }
     }
-    Ok(())
+    None
 }
 
-/// The transfers of all origins.
-#[tactic(auto, using(crate::proofs::Listed::listed))]
+/// All transfers that may come next in lanes.
 pub fn transfers(
     alloc: Global,
     limits: &Limits,
     posts: &Rows<Posts>,
+    lanes: &[LaneId],
 ) -> Result<Rows<Transfer>, NoMemory>
-    requires { AreListable posts.now }
-    ensures { IfOk result (λ found. found ≡ transfers limits.now posts.now) }
+    ensures { IfOk result (λ found. found ≡ flat_map (open_transfers limits.now posts.now) lanes.now) }
 {
     let mut found = Rows::new(alloc);
-    for (origin, p) in posts.as_slice().iter().enumerate() {
-        rank_transfers(&mut found, limits, RankId::of(origin as u32), p)?;
+    for id in lanes {
+        push_transfers(&mut found, limits, id, open_entries(posts, id))?;
     }
     Ok(found)
 }

@@ -1,6 +1,6 @@
 //! The machine: a state that is sound, its steps, and what it answers.
 
-ghost use Rattle.std.specs.Prelude.{◌≡◌, ◌≢◌, ◌+◌, ◌<◌, ◌↔◌, IfOk, IsOk, IsTrue, Some, Err, true, false, not, length};
+ghost use Rattle.std.specs.Prelude.{◌≡◌, ◌≢◌, ◌+◌, ◌<◌, ◌↔◌, IfOk, IsOk, IsTrue, Some, Err, true, false, not, length, slice_get};
 ghost use Rattle.gaspi_types.specs.Need.{need_of};
 ghost use Rattle.gaspi_model.specs.State.{opening};
 ghost use Rattle.gaspi_model.specs.Step.{step, Steps, answer_in, is_declared, is_active, room_taken, transfer_event};
@@ -9,9 +9,10 @@ ghost use Rattle.plain_machine.specs.Memory.{is_load, takes_memory};
 
 use crate::called::is_there;
 use crate::calls::{answer, is_running, thread_at};
-use crate::listing::transfers;
+use crate::listing::{transfer_at, transfer_count, transfers};
 use crate::opening::{all_memories, all_posts, all_taken};
-use crate::steps::step;
+use crate::standing::LaneId;
+use crate::steps::step_named;
 use crate::transfers::{find_entry, put_outcome};
 use gaspi_model::{Memory, Posts, StepFault, Why, soundness};
 use gaspi_types::{
@@ -31,6 +32,8 @@ pub struct Machine {
     memories: Rows<Memory>,
     /// The room that each rank has taken.
     taken: Rows<u32>,
+    /// The lanes that have an entry, by origin, queue and target.
+    standing: Vec<LaneId>,
 }
 
 impl Model for Machine {
@@ -42,7 +45,7 @@ impl Model for Machine {
 
     ghost view = { λ m. state_of m.limits m.posts m.memories };
 
-    ghost invariant = { λ m. IsMachine (state_of m.limits m.posts m.memories) m.taken };
+    ghost invariant = { λ m. IsMachine (state_of m.limits m.posts m.memories) m.taken m.standing.items };
 }
 
 impl Machine {
@@ -59,6 +62,7 @@ impl Machine {
             posts: all_posts(alloc, shape)?,
             memories: all_memories(alloc, shape)?,
             taken: all_taken(alloc, shape)?,
+            standing: Vec::new(alloc),
         })
     }
 
@@ -69,12 +73,13 @@ impl Machine {
         ensures ample { takes_memory event.now ≡ false → result ≢ Err StepFault.NoMemory }
     {
         soundness();
-        step(
+        step_named(
             alloc,
             &self.limits,
             &mut self.posts,
             &mut self.memories,
             &mut self.taken,
+            &mut self.standing,
             event,
         )
     }
@@ -102,7 +107,21 @@ impl Machine {
     pub fn transfers(&self, alloc: Global) -> Result<Transfers, NoMemory>
         ensures { IfOk result (λ found. found ≡ transfers self.now.limits self.now.posts) }
     {
-        transfers(alloc, &self.limits, &self.posts)
+        transfers(alloc, &self.limits, &self.posts, &self.standing)
+    }
+
+    /// How many transfers may come next. It takes no memory.
+    pub fn transfer_count(&self) -> usize
+        ensures { result ≡ length (transfers self.now.limits self.now.posts) }
+    {
+        transfer_count(&self.limits, &self.posts, &self.standing)
+    }
+
+    /// The transfer at a place of those that may come next, by origin, queue, target and number. It takes no memory.
+    pub fn transfer_at(&self, place: usize) -> Option<Transfer>
+        ensures { result ≡ slice_get (transfers self.now.limits self.now.posts) place }
+    {
+        transfer_at(&self.limits, &self.posts, &self.standing, place)
     }
 
     /// The outcome of a transfer that may come next.

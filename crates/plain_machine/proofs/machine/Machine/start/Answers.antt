@@ -1,5 +1,6 @@
+use Rattle.std.proofs.Common.{◌∙◌}
 use Rattle.std.specs.List.{range_with_len}
-use Rattle.plain_machine.proofs.Opened.{fitting-opening, taken-opening}
+use Rattle.plain_machine.proofs.Opened.{fitting-opening, taken-opening, standing-opening}
 use Rattle.plain_machine.proofs.machine.Machine.start.Goals as goal
 
 pub invariant_of-result : goal.invariant_of-result
@@ -9,4 +10,5 @@ invariant_of-result c =
       sound = c.soundness.ensures.opens c.args.shape.now c.limits-limits.ensures.world;
       fitting = fitting-opening c.args.shape.now c.limits-limits.ensures.world.limits;
       taken = taken-opening c.args.shape.now (range_with_len 0 c.args.shape.now.limits.ranks);
+      named = c.new.ensures.items ∙ standing-opening c.args.shape.now (range_with_len 0 c.args.shape.now.limits.ranks);
     })

@@ -4,4 +4,4 @@ use Rattle.plain_machine.proofs.machine.Machine.step.Goals as goal
 
 pub invariant_of-self : goal.invariant_of-self
 invariant_of-self c =
-    stepped (state_of c.self.inside.limits c.self.inside.posts c.self.inside.memories) _ c.args.event.now _ _ c.step.result c.soundness.ensures.steps c.self.invariant c.step.ensures.step c.step.ensures.taken
+    stepped (state_of c.self.inside.limits c.self.inside.posts c.self.inside.memories) _ c.args.event.now _ _ _ _ c.step_named.result c.soundness.ensures.steps c.self.invariant c.step_named.ensures.step c.step_named.ensures.taken c.step_named.ensures.named

@@ -1,5 +1,8 @@
-use Rattle.plain_machine.proofs.Running.{listable}
+use Rattle.plain_machine.proofs.Walked.{transfers-standing}
 use Rattle.plain_machine.proofs.machine.Machine.transfers.Goals as goal
 
-pub transfers-requires : goal.transfers-requires
-transfers-requires c = listable _ _ c.self.invariant
+pub returns : goal.returns
+returns c =
+    rw (← c.self.view_is)
+    (rw (transfers-standing c.self.inside.limits c.self.inside.posts)
+    (rw (c.deref.ensures.value, c.self.invariant.named) at c.transfers.ensures))

@@ -1,0 +1,384 @@
+-- What a step does to the names of the lanes that have an entry.
+use Rattle.std.proofs.Common.{◌≡◌, ℕ, zero, suc, ◌+◌, ◌<◌, ◌≤◌, Bool, true, false, ◌&&◌, nat_le, nat_lt, List, [], ◌∷◌, ◌++◌, Option, None, Some, Result, Ok, Err, length, slice_get, slice_set, remove, is_none, refl, ap, ◌∙◌, arith, if◌then◌else◌}
+use Rattle.std.specs.List.{flat_map, enumerate_from, prefix_len, insert}
+use Rattle.std.proofs.lemmas.Bool.{lt-ltb}
+use Rattle.std.proofs.lemmas.Bool.Decides.{nat_tests}
+use Rattle.std.proofs.lemmas.Option.{slice_get_within}
+use Rattle.gaspi_types.specs.Checks.{check, found}
+use Rattle.gaspi_types.specs.Lanes.{may_take, may_put, posted_entries}
+use Rattle.gaspi_types.specs.Posts.{write_notify_kinds}
+use Rattle.gaspi_types.specs.Replies.{same_reply, is_idle}
+use Rattle.gaspi_types.specs.World.{are_limits}
+use Rattle.gaspi_types.specs.declared.calls.Call.{Call}
+use Rattle.gaspi_types.specs.declared.calls.Call.TheVariants.{Store, Load, WriteNotify, Wait, Waitsome, Reset, End}
+use Rattle.gaspi_types.specs.declared.entries.Entry.{Entry}
+use Rattle.gaspi_types.specs.declared.entries.Kind.{Kind}
+use Rattle.gaspi_types.specs.declared.entries.Phase.TheVariants as phases
+use Rattle.gaspi_types.specs.declared.events.Event.{Event}
+use Rattle.gaspi_types.specs.declared.events.Event.TheVariants.{Called, Take, Put}
+use Rattle.gaspi_types.specs.declared.events.Outcome.{Outcome}
+use Rattle.gaspi_types.specs.declared.events.Outcome.TheVariants.{Applied, Failed}
+use Rattle.gaspi_types.specs.declared.replies.Refusal.{Refusal}
+use Rattle.gaspi_types.specs.declared.replies.Reply.{Reply}
+use Rattle.gaspi_types.specs.declared.shapes.Limits.{Limits}
+use Rattle.gaspi_types.specs.declared.shapes.CallerId.{CallerId}
+use Rattle.gaspi_model.proofs.Tables.{slice_get-set_same, past-none}
+use Rattle.gaspi_model.specs.State.{owed, thread_at}
+use Rattle.gaspi_model.specs.Calls.{answer, recorded_reply, charge, posts_done, posts_after, memory_after, with_post, with_entries, changed_at, counted}
+use Rattle.gaspi_model.specs.Sound.{IsSound, IsSoundPosts}
+use Rattle.gaspi_model.specs.Step.{step, called, is_there, Steps}
+use Rattle.gaspi_model.specs.Transfers.{Found, find_entry, take, put, put_with, put_outcome, same_outcome, with_lane, with_phase, Parts}
+use Rattle.gaspi_model.specs.declared.states.Queue.{Queue}
+use Rattle.gaspi_model.specs.declared.states.Posts.{Posts}
+use Rattle.gaspi_model.specs.declared.states.Memory.{Memory}
+use Rattle.gaspi_model.specs.declared.states.State.{State}
+use Rattle.gaspi_model.specs.declared.states.StepFault.{StepFault}
+use Rattle.gaspi_model.specs.declared.states.StepFault.TheVariants as faults
+use Rattle.gaspi_model.specs.declared.states.Why.{Why}
+use Rattle.gaspi_model.specs.declared.states.Why.TheVariants as whys
+use Rattle.plain_machine.specs.Machine.{IsFitting}
+use Rattle.plain_machine.specs.Standing.{lane_id, lane_named, queue_named, rank_named, standing_lanes, lane_entries, is_before, call_lane, event_lane, is_put}
+use Rattle.plain_machine.specs.declared.standing.LaneId.{LaneId}
+use Rattle.plain_machine.proofs.Chains.{passed, found_there, check_holds, changed_there}
+use Rattle.plain_machine.proofs.Kept.{IsAt, found_at}
+use Rattle.plain_machine.proofs.CallRoom.{found_by, post_by, two_kinds, IsPost}
+use Rattle.plain_machine.proofs.Items.{length-posted_entries}
+use Rattle.plain_machine.proofs.Parted.{IsParted, parted_by, kept_by, named_by, unnamed_by}
+
+-- posts that differ in one lane and in nothing else that names lanes
+record IsRelaned (p p' : Posts) (queue target : ℕ) (lane lane' : List Entry) : Type 0 where
+  q : Queue
+  q' : Queue
+  q_there : slice_get p.queues queue ≡ Some q
+  there : slice_get q.lanes target ≡ Some lane
+  queues : p'.queues ≡ slice_set p.queues queue q'
+  lanes : q'.lanes ≡ slice_set q.lanes target lane'
+
+-- the names then, and what stands in that lane
+parted : (posts : List Posts) (o queue target : ℕ) (p p' : Posts) (lane lane' : List Entry) → slice_get posts o ≡ Some p → IsRelaned p p' queue target lane lane'
+    → IsParted (lane_id o queue target) (standing_lanes posts) (standing_lanes (slice_set posts o p')) (lane_named o queue (target, lane)) (lane_named o queue (target, lane'))
+parted posts o queue target p p' lane lane' there r = parted_by posts o queue target p p' r.q r.q' lane lane' there r.q_there r.there r.queues r.lanes
+
+entries_old : (posts : List Posts) (o queue target : ℕ) (p p' : Posts) (lane lane' : List Entry) → slice_get posts o ≡ Some p → IsRelaned p p' queue target lane lane'
+    → lane_entries posts (lane_id o queue target) ≡ lane
+entries_old posts o queue target p p' lane lane' there r = rw there rw r.q_there rw r.there refl
+
+entries_new : (posts : List Posts) (o queue target : ℕ) (p p' : Posts) (lane lane' : List Entry) → slice_get posts o ≡ Some p → IsRelaned p p' queue target lane lane'
+    → lane_entries (slice_set posts o p') (lane_id o queue target) ≡ lane'
+entries_new posts o queue target p p' lane lane' there r =
+    rw (slice_get-set_same posts o p p' there) rw r.queues rw (slice_get-set_same p.queues queue r.q r.q' r.q_there) rw r.lanes rw (slice_get-set_same r.q.lanes target lane lane' r.there) refl
+
+-- a lane with an entry, and a lane with an entry changed
+named_at : (o queue target place : ℕ) (lane : List Entry) (e : Entry) → slice_get lane place ≡ Some e → lane_named o queue (target, lane) ≡ lane_id o queue target ∷ []
+named_at o queue target place [] e there = cc
+named_at o queue target place (x ∷ lane) e there = refl
+
+named_set : (o queue target place : ℕ) (lane : List Entry) (e : Entry) → lane_named o queue (target, slice_set lane place e) ≡ lane_named o queue (target, lane)
+named_set o queue target place [] e = refl
+named_set o queue target zero (x ∷ lane) e = refl
+named_set o queue target (suc place) (x ∷ lane) e = refl
+
+named_more : (o queue target : ℕ) (lane more : List Entry) (n : ℕ) → length more ≡ suc n → lane_named o queue (target, lane ++ more) ≡ lane_id o queue target ∷ []
+named_more o queue target [] [] n long = absurd (let no : ⊥ = omega (arith, long) in no)
+named_more o queue target [] (y ∷ more) n long = refl
+named_more o queue target (x ∷ lane) more n long = refl
+
+-- posts with a lane of theirs replaced
+relaned : (posts : Posts) (queue target : ℕ) (at : Found) (lane' : List Entry) → IsAt posts queue target at → IsRelaned posts (counted (with_lane posts queue target lane')) queue target at.lane lane'
+relaned posts queue target at lane' there = record {
+  q = at.queue;
+  q' = record at.queue { lanes = slice_set at.queue.lanes target lane' };
+  q_there = there.q;
+  there = there.lane;
+  queues = changed_there posts.queues queue _ at.queue there.q;
+  lanes = refl;
+}
+
+-- a take keeps the names
+take_names : (ps : List Posts) (o : ℕ) (limits : Limits) (posts : Posts) (memory : Memory) (queue target number : ℕ) (outcome : Outcome) (after : Posts) → slice_get ps o ≡ Some posts
+    → take limits posts memory queue target number outcome ≡ Ok after → standing_lanes (slice_set ps o after) ≡ standing_lanes ps
+take_names ps o limits posts memory queue target number outcome after o_there is =
+    passed (find_entry posts queue target number whys.Take) _ _ is (λ at found_it more.
+    passed (check (is_none at.queue.broken) _) _ _ more (λ u whole more.
+    passed (check (may_take limits.depth at.lane at.entry) _) _ _ more (λ u permitted more.
+    passed (check (same_outcome outcome Applied) _) _ _ more (λ u applied more.
+    done at _ after (found_at _ _ _ _ _ at found_it) more))))
+  where
+    done : (at : Found) (bytes : List ℕ) (after : Posts) → IsAt posts queue target at
+        → ◌≡◌ {A = Result Posts Why} (Ok (counted (with_lane posts queue target (with_phase at.lane at.place at.entry (phases.Carried bytes))))) (Ok after) → standing_lanes (slice_set ps o after) ≡ standing_lanes ps
+    done at bytes after there is =
+        let same : counted (with_lane posts queue target (with_phase at.lane at.place at.entry (phases.Carried bytes))) ≡ after = cc in
+        let lane' : List Entry = with_phase at.lane at.place at.entry (phases.Carried bytes) in
+        let parts = parted ps o queue target posts (counted (with_lane posts queue target lane')) at.lane lane' o_there (relaned posts queue target at lane' there) in
+        rw (← same) (kept_by (lane_id o queue target) _ _ (lane_named o queue (target, at.lane))
+        (rw (named_set o queue target at.place at.lane (record at.entry { phase = phases.Carried bytes })) at parts))
+
+-- a put may take the name of its lane away
+put_names : (ps : List Posts) (o : ℕ) (posts : Posts) (memory : Memory) (queue target number : ℕ) (outcome : Outcome) (after : Parts) → slice_get ps o ≡ Some posts
+    → put posts memory queue target number outcome ≡ Ok after
+    → IsParted (lane_id o queue target) (standing_lanes ps) (standing_lanes (slice_set ps o after.posts)) (lane_id o queue target ∷ []) (lane_named o queue (target, lane_entries (slice_set ps o after.posts) (lane_id o queue target)))
+put_names ps o posts memory queue target number outcome after o_there is =
+    passed (find_entry posts queue target number whys.Put) _ _ is (λ at found_it more.
+    passed (check (is_none at.queue.broken) _) _ _ more (λ u whole more.
+    passed (check (may_put at.lane at.entry) _) _ _ more (λ u permitted more.
+    passed (check (same_outcome outcome (put_outcome memory at.entry.kind)) _) _ _ more (λ u fits more.
+    done at outcome after (found_at _ _ _ _ _ at found_it) more))))
+  where
+    of_lane : (at : Found) (p' : Posts) (lane' : List Entry) → IsAt posts queue target at → IsRelaned posts p' queue target at.lane lane'
+        → IsParted (lane_id o queue target) (standing_lanes ps) (standing_lanes (slice_set ps o p')) (lane_id o queue target ∷ []) (lane_named o queue (target, lane_entries (slice_set ps o p') (lane_id o queue target)))
+    of_lane at p' lane' there r =
+        let parts = parted ps o queue target posts p' at.lane lane' o_there r in
+        rw (entries_new ps o queue target posts p' at.lane lane' o_there r)
+        (rw (named_at o queue target at.place at.lane at.entry there.entry) at parts)
+
+    of_outcome : (at : Found) (outcome : Outcome) → IsAt posts queue target at
+        → IsParted (lane_id o queue target) (standing_lanes ps) (standing_lanes (slice_set ps o (put_with posts memory queue target at outcome).posts)) (lane_id o queue target ∷ []) (lane_named o queue (target, lane_entries (slice_set ps o (put_with posts memory queue target at outcome).posts) (lane_id o queue target)))
+    of_outcome at Applied there = of_lane at _ (remove at.lane at.place) there (relaned posts queue target at (remove at.lane at.place) there)
+    of_outcome at Failed there = of_lane at _ (with_phase at.lane at.place at.entry phases.Failed) there (record {
+      q = at.queue;
+      q' = record at.queue { broken = Some target; lanes = slice_set at.queue.lanes target (with_phase at.lane at.place at.entry phases.Failed) };
+      q_there = there.q;
+      there = there.lane;
+      queues = changed_there posts.queues queue _ at.queue there.q;
+      lanes = refl;
+    })
+
+    done : (at : Found) (outcome : Outcome) (after : Parts) → IsAt posts queue target at
+        → ◌≡◌ {A = Result Parts Why} (Ok (put_with posts memory queue target at outcome)) (Ok after)
+        → IsParted (lane_id o queue target) (standing_lanes ps) (standing_lanes (slice_set ps o after.posts)) (lane_id o queue target ∷ []) (lane_named o queue (target, lane_entries (slice_set ps o after.posts) (lane_id o queue target)))
+    done at outcome after there is =
+        let same : put_with posts memory queue target at outcome ≡ after = cc in
+        rw (← same) (of_outcome at outcome there)
+
+-- a post that is done gives its lane a name
+post_names : (ps : List Posts) (o : ℕ) (limits : Limits) (posts : Posts) (queue target : ℕ) (finds : Result (List Kind) Refusal) (reply : Reply) → slice_get ps o ≡ Some posts
+    → IsSoundPosts limits posts → IsPost limits posts target queue finds reply → ((kinds : List Kind) → finds ≡ Ok kinds → length kinds ≡ 2)
+    → IsParted (lane_id o queue target) (standing_lanes ps) (standing_lanes (slice_set ps o (counted (with_post posts queue target finds)))) (lane_named o queue (target, lane_entries ps (lane_id o queue target))) (lane_id o queue target ∷ [])
+post_names ps o limits posts queue target finds reply o_there sound p two = by_lane (slice_get p.q.lanes target) refl
+  where
+    more : List Entry
+    more = posted_entries posts.next p.kinds
+
+    by_lane : (found : Option (List Entry)) → slice_get p.q.lanes target ≡ found
+        → IsParted (lane_id o queue target) (standing_lanes ps) (standing_lanes (slice_set ps o (counted (with_post posts queue target finds)))) (lane_named o queue (target, lane_entries ps (lane_id o queue target))) (lane_id o queue target ∷ [])
+    by_lane None there =
+        let lanes = sound.lanes queue p.q p.there in
+        let within : target < length p.q.lanes = grind (arith, nat_tests, p.ranked) in
+        absurd (past-none p.q.lanes target within there)
+    by_lane (Some lane) there =
+        let r : IsRelaned posts (counted (with_post posts queue target finds)) queue target lane (lane ++ more) = rw p.made (record {
+          q = p.q;
+          q' = with_entries target more p.q;
+          q_there = p.there;
+          there = there;
+          queues = changed_there posts.queues queue _ p.q p.there;
+          lanes = changed_there p.q.lanes target _ lane there;
+        }) in
+        let long = length-posted_entries posts.next p.kinds ∙ two p.kinds p.made in
+        let parts = parted ps o queue target posts (counted (with_post posts queue target finds)) lane (lane ++ more) o_there r in
+        rw (entries_old ps o queue target posts _ lane (lane ++ more) o_there r) (rw (named_more o queue target lane more 1 long) at parts)
+
+-- posts with the same names
+same_in : {X : Type 0} (h : ℕ × X → List LaneId) (n i : ℕ) (xs : List X) (x y : X) → slice_get xs i ≡ Some x → ((j : ℕ) → h (j, y) ≡ h (j, x))
+    → flat_map h (enumerate_from n (slice_set xs i y)) ≡ flat_map h (enumerate_from n xs)
+same_in h n i [] x y there same = refl
+same_in {X} h n zero (z ∷ xs) x y there same =
+    let is : x ≡ z = cc in
+    ap (λ (ys : List LaneId). ys ++ flat_map h (enumerate_from (n + 1) xs)) (same n ∙ ap (λ (w : X). h (n, w)) is)
+same_in {X} h n (suc i) (z ∷ xs) x y there same = ap (λ (ys : List LaneId). h (n, z) ++ ys) (same_in h (n + 1) i xs x y there same)
+
+same_changed : {X : Type 0} (h : ℕ × X → List LaneId) (n i : ℕ) (xs : List X) (change : X → X) → ((j : ℕ) (x : X) → h (j, change x) ≡ h (j, x))
+    → flat_map h (enumerate_from n (changed_at xs i change)) ≡ flat_map h (enumerate_from n xs)
+same_changed {X} h n i xs change same = by_item (slice_get xs i) refl
+  where
+    by_item : (o : Option X) → slice_get xs i ≡ o → flat_map h (enumerate_from n (changed_at xs i change)) ≡ flat_map h (enumerate_from n xs)
+    by_item None there = rw there refl
+    by_item (Some x) there = rw (changed_there xs i change x there) (same_in h n i xs x (change x) there (λ j. same j x))
+
+-- a call that posts to no lane keeps the names of its rank
+quiet_call : (limits : Limits) (me : ℕ) (posts : Posts) (memory : Memory) (thread : ℕ) (call : Call) (reply : Reply) (j : ℕ) → are_limits limits ≡ true → length posts.queues ≤ 8
+    → same_reply reply (recorded_reply (answer limits me posts memory thread call)) ≡ true → is_idle reply ≡ false → call_lane me call ≡ None
+    → rank_named (j, posts_done limits me posts thread call) ≡ rank_named (j, posts)
+quiet_call limits me posts memory thread (Store seg offset bytes) reply j limited few same busy lane = refl
+quiet_call limits me posts memory thread (Load seg offset size) reply j limited few same busy lane = refl
+quiet_call limits me posts memory thread (WriteNotify seg offset rank rseg roffset size note value queue) reply j limited few same busy lane =
+    let f = found_by limits me posts memory thread (WriteNotify seg offset rank rseg roffset size note value queue) reply same busy in
+    let p = post_by limits me posts seg offset rank rseg roffset size note value queue f.reply_found f.finds in
+    let within = slice_get_within posts.queues queue p.q p.there in
+    let rank_in : rank < 16 = grind (arith, nat_tests, p.ranked) in
+    let a = lt-ltb rank 16 rank_in in
+    let b = lt-ltb queue 8 (omega (arith, within, few)) in
+    let is : call_lane me (WriteNotify seg offset rank rseg roffset size note value queue) ≡ Some (lane_id me queue rank) = rw a rw b refl in
+    cc
+quiet_call limits me posts memory thread (Wait queue) reply j limited few same busy lane =
+    same_changed (queue_named j) 0 queue posts.queues (λ (q : Queue). record q { open_count = 0 }) (λ k q. refl)
+quiet_call limits me posts memory thread (Waitsome seg begin num) reply j limited few same busy lane = refl
+quiet_call limits me posts memory thread (Reset seg note) reply j limited few same busy lane = refl
+quiet_call limits me posts memory thread End reply j limited few same busy lane = refl
+
+-- what a recorded call has passed
+record IsCalled (limits : Limits) (me : ℕ) (posts : Posts) (memory : Memory) (thread : ℕ) (call : Call) (reply : Reply) (after : Posts) : Type 0 where
+  replied : same_reply reply (recorded_reply (answer limits me posts memory thread call)) ≡ true
+  after_is : posts_after limits me posts thread call reply ≡ after
+
+called_by : (limits : Limits) (me : ℕ) (posts : Posts) (memory : Memory) (thread : ℕ) (call : Call) (reply : Reply) (after : Parts)
+    → called limits me posts memory thread call reply ≡ Ok after → IsCalled limits me posts memory thread call reply after.posts
+called_by limits me posts memory thread call reply after is =
+    passed (check (is_there (thread_at posts thread)) _) _ _ is (λ u there more.
+    passed (check (same_reply reply (recorded_reply (answer limits me posts memory thread call))) _) _ _ more (λ u answered more.
+    passed (check (nat_le (posts.events + owed posts + charge (thread_at posts thread) call reply) limits.events) _) _ _ more (λ u room more.
+    record { replied = check_holds _ _ _ answered; after_is = done after more })))
+  where
+    done : (after : Parts) → ◌≡◌ {A = Result Parts Why} (Ok (record { posts = posts_after limits me posts thread call reply; memory = memory_after memory call reply })) (Ok after)
+        → posts_after limits me posts thread call reply ≡ after.posts
+    done after is =
+        let same : record { posts = posts_after limits me posts thread call reply; memory = memory_after memory call reply } ≡ after = cc in
+        ap (λ (parts : Parts). parts.posts) same
+
+-- what a step that was made has done to the posts
+record IsPosted (s t : State) (o : ℕ) (P : Posts → Posts → Type 0) : Type 0 where
+  p : Posts
+  p' : Posts
+  there : slice_get s.posts o ≡ Some p
+  is : slice_set s.posts o p' ≡ t.posts
+  by : P p p'
+
+call_posts : (s t : State) (c : CallerId) (call : Call) (reply : Reply) → step s (Called c call reply) ≡ Ok t
+    → IsPosted s t c.rank (λ p p'. (memory : Memory) × IsCalled s.limits c.rank p memory c.thread call reply p')
+call_posts s t c call reply is =
+    passed (found (slice_get s.posts c.rank) whys.Caller) _ _ is (λ p p_there more.
+    passed (found (slice_get s.memories c.rank) whys.Caller) _ _ more (λ m m_there more.
+    passed (called s.limits c.rank p m c.thread call reply) _ _ more (λ after steps more.
+    record { p = p; p' = after.posts; there = found_there _ _ _ p_there; is = done after more; by = (m, called_by s.limits c.rank p m c.thread call reply after steps) })))
+  where
+    done : (after : Parts) → ◌≡◌ {A = Result State Why} (Ok (record s { posts = slice_set s.posts c.rank after.posts; memories = slice_set s.memories c.rank after.memory })) (Ok t) → slice_set s.posts c.rank after.posts ≡ t.posts
+    done after is =
+        let same : record s { posts = slice_set s.posts c.rank after.posts; memories = slice_set s.memories c.rank after.memory } ≡ t = cc in
+        ap (λ (x : State). x.posts) same
+
+-- a lane of an event that is a call
+some_lane : (idle : Bool) (o : Option LaneId) (id : LaneId) → (if idle then None else o) ≡ Some id → (idle ≡ false) × (o ≡ Some id)
+some_lane true o id is = absurd (let no : ⊥ = cc in no)
+some_lane false o id is = (refl, is)
+
+lane_of_post : (b : Bool) (x id : LaneId) → (if b then Some x else None) ≡ Some id → x ≡ id
+lane_of_post true x id is = cc
+lane_of_post false x id is = absurd (let no : ⊥ = cc in no)
+
+-- a post that is done
+pub posting : (s t : State) (e : Event) (id : LaneId) → IsSound s → event_lane e ≡ Some id → is_put e ≡ false → step s e ≡ Ok t
+    → IsParted id (standing_lanes s.posts) (standing_lanes t.posts) (lane_named id.origin id.queue (id.target, lane_entries s.posts id)) (id ∷ [])
+posting s t (Take origin queue target number outcome) id sound lane puts is = absurd (let no : ⊥ = cc in no)
+posting s t (Put origin queue target number outcome) id sound lane puts is = absurd (let no : ⊥ = cc in no)
+posting s t (Called c call reply) id sound lane puts is =
+    let l = some_lane (is_idle reply) (call_lane c.rank call) id lane in of_call call l.0 l.1 (call_posts s t c call reply is)
+  where
+    of_call : (call : Call) → is_idle reply ≡ false → call_lane c.rank call ≡ Some id
+        → IsPosted s t c.rank (λ p p'. (memory : Memory) × IsCalled s.limits c.rank p memory c.thread call reply p')
+        → IsParted id (standing_lanes s.posts) (standing_lanes t.posts) (lane_named id.origin id.queue (id.target, lane_entries s.posts id)) (id ∷ [])
+    of_call (Store seg offset bytes) busy lane done = absurd (let no : ⊥ = cc in no)
+    of_call (Load seg offset size) busy lane done = absurd (let no : ⊥ = cc in no)
+    of_call (WriteNotify seg offset rank rseg roffset size note value queue) busy lane done =
+        let memory = done.by.0 in
+        let made = done.by.1 in
+        let f = found_by s.limits c.rank done.p memory c.thread (WriteNotify seg offset rank rseg roffset size note value queue) reply made.replied busy in
+        let p = post_by s.limits c.rank done.p seg offset rank rseg roffset size note value queue f.reply_found f.finds in
+        let finds : Result (List Kind) Refusal = write_notify_kinds s.limits.notes c.rank done.p.own done.p.known seg offset rank rseg roffset size note value in
+        let after : counted (with_post done.p queue rank finds) ≡ done.p' = rw busy at made.after_is in
+        let parts = post_names s.posts c.rank s.limits done.p queue rank finds f.reply_found done.there (sound.posts c.rank done.p done.there) p
+        (λ kinds is. two_kinds s.limits.notes c.rank done.p.own done.p.known seg offset rank rseg roffset size note value kinds is) in
+        rw (← lane_of_post (nat_lt rank 16 && nat_lt queue 8) (lane_id c.rank queue rank) id lane, ← done.is, ← after) parts
+    of_call (Wait queue) busy lane done = absurd (let no : ⊥ = cc in no)
+    of_call (Waitsome seg begin num) busy lane done = absurd (let no : ⊥ = cc in no)
+    of_call (Reset seg note) busy lane done = absurd (let no : ⊥ = cc in no)
+    of_call End busy lane done = absurd (let no : ⊥ = cc in no)
+
+-- a put
+pub leaving : (s t : State) (e : Event) (id : LaneId) → event_lane e ≡ Some id → is_put e ≡ true → step s e ≡ Ok t
+    → IsParted id (standing_lanes s.posts) (standing_lanes t.posts) (id ∷ []) (lane_named id.origin id.queue (id.target, lane_entries t.posts id))
+leaving s t (Called c call reply) id lane puts is = absurd (let no : ⊥ = cc in no)
+leaving s t (Take origin queue target number outcome) id lane puts is = absurd (let no : ⊥ = cc in no)
+leaving s t (Put origin queue target number outcome) id lane puts is =
+    passed (found (slice_get s.posts origin) whys.Put) _ _ is (λ p p_there more.
+    passed (found (slice_get s.memories target) whys.Put) _ _ more (λ m m_there more.
+    passed (put p m queue target number outcome) _ _ more (λ after steps more.
+    done p m after (found_there _ _ _ p_there) steps more)))
+  where
+    done : (p : Posts) (m : Memory) (after : Parts) → slice_get s.posts origin ≡ Some p → put p m queue target number outcome ≡ Ok after
+        → ◌≡◌ {A = Result State Why} (Ok (record s { posts = slice_set s.posts origin after.posts; memories = slice_set s.memories target after.memory })) (Ok t)
+        → IsParted id (standing_lanes s.posts) (standing_lanes t.posts) (id ∷ []) (lane_named id.origin id.queue (id.target, lane_entries t.posts id))
+    done p m after there steps is =
+        let same : record s { posts = slice_set s.posts origin after.posts; memories = slice_set s.memories target after.memory } ≡ t = cc in
+        let at : lane_id origin queue target ≡ id = cc in
+        rw (← at, ← same) (put_names s.posts origin p m queue target number outcome after there steps)
+
+-- any other event keeps the names
+pub quiet : (s t : State) (e : Event) → IsSound s → IsFitting s → event_lane e ≡ None → step s e ≡ Ok t → standing_lanes t.posts ≡ standing_lanes s.posts
+quiet s t (Called c call reply) sound fits lane is = by_idle (is_idle reply) refl
+  where
+    done : IsPosted s t c.rank (λ p p'. (memory : Memory) × IsCalled s.limits c.rank p memory c.thread call reply p')
+    done = call_posts s t c call reply is
+
+    by_idle : (idle : Bool) → is_idle reply ≡ idle → standing_lanes t.posts ≡ standing_lanes s.posts
+    by_idle true idle =
+        let after : counted done.p ≡ done.p' = rw idle at done.by.1.after_is in
+        rw (← done.is, ← after) (same_in rank_named 0 c.rank s.posts done.p (counted done.p) done.there (λ j. refl))
+    by_idle false busy =
+        let after : counted (posts_done s.limits c.rank done.p c.thread call) ≡ done.p' = rw busy at done.by.1.after_is in
+        let none : call_lane c.rank call ≡ None = rw busy at lane in
+        rw (← done.is, ← after) (same_in rank_named 0 c.rank s.posts done.p (counted (posts_done s.limits c.rank done.p c.thread call)) done.there
+        (λ j. quiet_call s.limits c.rank done.p done.by.0 c.thread call reply j sound.limits (fits.queues c.rank done.p done.there) done.by.1.replied busy none))
+quiet s t (Take origin queue target number outcome) sound fits lane is =
+    passed (found (slice_get s.posts origin) whys.Take) _ _ is (λ p p_there more.
+    passed (found (slice_get s.memories origin) whys.Take) _ _ more (λ m m_there more.
+    passed (take s.limits p m queue target number outcome) _ _ more (λ after steps more.
+    done p m after (found_there _ _ _ p_there) steps more)))
+  where
+    done : (p : Posts) (m : Memory) (after : Posts) → slice_get s.posts origin ≡ Some p → take s.limits p m queue target number outcome ≡ Ok after
+        → ◌≡◌ {A = Result State Why} (Ok (record s { posts = slice_set s.posts origin after })) (Ok t) → standing_lanes t.posts ≡ standing_lanes s.posts
+    done p m after there steps is =
+        let same : record s { posts = slice_set s.posts origin after } ≡ t = cc in
+        rw (← same) (take_names s.posts origin s.limits p m queue target number outcome after there steps)
+quiet s t (Put origin queue target number outcome) sound fits lane is = absurd (let no : ⊥ = cc in no)
+
+-- The names after the step of a function that steps.
+
+-- a step that was not made has changed no posts
+pub same_posts : (s t : State) (fault : StepFault) (outcome : Result State Why) → Steps (Err fault) s t outcome → t.posts ≡ s.posts
+same_posts s t (faults.Illegal why) outcome steps = ap (λ (x : State). x.posts) steps.1
+same_posts s t faults.NoMemory outcome steps = ap (λ (x : State). x.posts) steps
+
+pub quiet_steps : (s t : State) (e : Event) (result : Result (Unit {0}) StepFault) → IsSound s → IsFitting s → event_lane e ≡ None → Steps result s t (step s e) → standing_lanes t.posts ≡ standing_lanes s.posts
+quiet_steps s t e (Ok done) sound fits lane steps = quiet s t e sound fits lane steps
+quiet_steps s t e (Err fault) sound fits lane steps = ap standing_lanes (same_posts s t fault (step s e) steps)
+
+-- a lane that has an entry, or has none
+pub named_some : (o queue target : ℕ) (lane : List Entry) → (lane ≡ [] → ⊥) → lane_named o queue (target, lane) ≡ lane_id o queue target ∷ []
+named_some o queue target [] some = absurd (some refl)
+named_some o queue target (e ∷ lane) some = refl
+
+-- a post to a lane that has an entry
+pub posting_more : (s t : State) (e : Event) (id : LaneId) (result : Result (Unit {0}) StepFault) → IsSound s → event_lane e ≡ Some id → is_put e ≡ false → (lane_entries s.posts id ≡ [] → ⊥)
+    → Steps result s t (step s e) → standing_lanes t.posts ≡ standing_lanes s.posts
+posting_more s t e id (Ok done) sound lane puts some steps =
+    kept_by id _ _ (id ∷ []) (rw (named_some id.origin id.queue id.target (lane_entries s.posts id) some) at (posting s t e id sound lane puts steps))
+posting_more s t e id (Err fault) sound lane puts some steps = ap standing_lanes (same_posts s t fault (step s e) steps)
+
+-- a post to a lane that has none
+pub posting_first : (s t : State) (e : Event) (id : LaneId) → IsSound s → event_lane e ≡ Some id → is_put e ≡ false → lane_entries s.posts id ≡ []
+    → step s e ≡ Ok t → insert (standing_lanes s.posts) (prefix_len (λ x. is_before x id) (standing_lanes s.posts)) id ≡ standing_lanes t.posts
+posting_first s t e id sound lane puts none steps =
+    named_by id (standing_lanes s.posts) (standing_lanes t.posts) (rw none at (posting s t e id sound lane puts steps))
+
+-- a put that leaves an entry in its lane
+pub leaving_some : (s t : State) (e : Event) (id : LaneId) → event_lane e ≡ Some id → is_put e ≡ true → (lane_entries t.posts id ≡ [] → ⊥) → step s e ≡ Ok t
+    → standing_lanes t.posts ≡ standing_lanes s.posts
+leaving_some s t e id lane puts some steps =
+    kept_by id _ _ (id ∷ []) (rw (named_some id.origin id.queue id.target (lane_entries t.posts id) some) at (leaving s t e id lane puts steps))
+
+-- a put that leaves none
+pub leaving_none : (s t : State) (e : Event) (id : LaneId) → event_lane e ≡ Some id → is_put e ≡ true → lane_entries t.posts id ≡ [] → step s e ≡ Ok t
+    → (prefix_len (λ x. is_before x id) (standing_lanes s.posts) < length (standing_lanes s.posts))
+    × (remove (standing_lanes s.posts) (prefix_len (λ x. is_before x id) (standing_lanes s.posts)) ≡ standing_lanes t.posts)
+leaving_none s t e id lane puts none steps =
+    unnamed_by id (standing_lanes s.posts) (standing_lanes t.posts) (rw none at (leaving s t e id lane puts steps))

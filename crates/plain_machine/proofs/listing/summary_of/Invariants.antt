@@ -1,0 +1,10 @@
+use Rattle.std.proofs.Common.{◌≡◌, ◌≤◌, ℕ, take}
+use Rattle.gaspi_types.specs.Lanes.{carried_count, has_earlier_write}
+use Rattle.plain_machine.specs.Standing.{is_over}
+use Rattle.plain_machine.proofs.listing.summary_of.Given as goal
+
+abbrev pub invariant-loop-entry : goal.invariant-loop-entry
+invariant-loop-entry l =
+    (l.carried ≤ l.entry-index)
+    × (l.carried ≡ carried_count (take l.entry-index l.entries))
+    × ((n : ℕ) → has_earlier_write (take l.entry-index l.entries) n ≡ is_over l.first_write n)

@@ -1,0 +1,153 @@
+//! The lanes that have an entry, by their names. (GASPI: one-sided communication)
+
+ghost use Rattle.std.specs.Prelude.{◌≡◌, ◌≢◌, ◌<◌, ◌≤◌, [], length, true, false, vec_len, vec_capacity};
+ghost use Rattle.std.specs.List.{insert, remove, prefix_len};
+ghost use Rattle.std.specs.Option.{option_copied};
+ghost use Rattle.plain_machine.specs.Standing.{is_before, lane_queue, queue_entries, lane_entries, open_entries, call_lane, event_lane, is_put};
+
+use crate::replies::is_idle;
+use gaspi_model::{Posts, Queue};
+use gaspi_types::{Call, Entry, Event, QueueId, RankId, Rows};
+
+/// The name of a lane: its origin, its queue and its target.
+#[derive(Clone, Copy, Debug, PartialEq, Eq)]
+pub struct LaneId {
+    pub origin: RankId,
+    pub queue: QueueId,
+    pub target: RankId,
+}
+
+/// Whether a lane comes before another in the order of origin, queue and target.
+fn is_before(a: &LaneId, b: &LaneId) -> bool
+    ensures { result ≡ is_before a.now b.now }
+{
+    if a.origin != b.origin {
+        return a.origin.number() < b.origin.number();
+    }
+    if a.queue != b.queue {
+        return a.queue.number() < b.queue.number();
+    }
+    a.target.number() < b.target.number()
+}
+
+/// How many of the lanes stand before a lane, up to the first that does not.
+fn place_among(lanes: &[LaneId], id: &LaneId) -> usize
+    ensures place { result ≡ prefix_len (λ x. is_before x id.now) lanes.now }
+    ensures bound { result ≤ length lanes.now }
+{
+    for (place, named) in lanes.iter().enumerate() {
+        if !is_before(named, id) {
+            return place;
+        }
+    }
+    lanes.len()
+}
+
+/// The queue of a lane, if it is there.
+fn lane_queue<'a>(posts: &'a Rows<Posts>, id: &LaneId) -> Option<&'a Queue>
+    ensures { option_copied result ≡ lane_queue posts.now id.now }
+{
+    let posts = posts.get(id.origin.index())?;
+    posts.queues.get(id.queue.index())
+}
+
+/// The entries of a queue's lane to a target: of one that is not there, none.
+fn queue_entries(q: &Queue, target: RankId) -> &[Entry]
+    ensures { result.now ≡ queue_entries q.now target }
+{
+    match q.lanes.get(target.index()) {
+        Some(lane) => lane.as_slice(),
+        None => &[],
+    }
+}
+
+/// Whether a lane has an entry.
+pub fn has_entry(posts: &Rows<Posts>, id: &LaneId) -> bool
+    ensures none { result ≡ false → lane_entries posts.now id.now ≡ [] }
+    ensures some { result ≡ true → lane_entries posts.now id.now ≢ [] }
+{
+    match lane_queue(posts, id) {
+        Some(q) => !queue_entries(q, id.target).is_empty(),
+        None => false,
+    }
+}
+
+/// The entries of a lane whose queue is not broken: of another, none.
+pub fn open_entries<'a>(posts: &'a Rows<Posts>, id: &LaneId) -> &'a [Entry]
+    ensures { result.now ≡ open_entries posts.now id.now }
+{
+    match lane_queue(posts, id) {
+        Some(q) if q.broken.is_none() => queue_entries(q, id.target),
+        Some(_) | None => &[],
+    }
+}
+
+/// The lane to which a call of a rank posts.
+fn call_lane(rank: RankId, call: &Call) -> Option<LaneId>
+    ensures { result ≡ call_lane rank call.now }
+{
+    match call {
+        Call::WriteNotify {
+            rank: target,
+            queue,
+            ..
+        } if *target < 16 && *queue < 8 => Some(LaneId {
+            origin: rank,
+            queue: QueueId::of(*queue as u32),
+            target: RankId::of(*target as u32),
+        }),
+        Call::Store { .. }
+        | Call::Load { .. }
+        | Call::WriteNotify { .. }
+        | Call::Wait { .. }
+        | Call::Waitsome { .. }
+        | Call::Reset { .. }
+        | Call::End => None,
+    }
+}
+
+/// The lane to which an event may add entries, or from which it may take one.
+pub fn event_lane(event: &Event) -> Option<LaneId>
+    ensures { result ≡ event_lane event.now }
+{
+    match event {
+        Event::Called(caller, call, reply) => {
+            if is_idle(reply) {
+                None
+            } else {
+                call_lane(caller.rank, call)
+            }
+        }
+        Event::Take(..) => None,
+        Event::Put(origin, queue, target, _, _) => Some(LaneId {
+            origin: *origin,
+            queue: *queue,
+            target: *target,
+        }),
+    }
+}
+
+/// Whether an event is a put.
+pub fn is_put(event: &Event) -> bool
+    ensures { result ≡ is_put event.now }
+{
+    matches!(event, Event::Put(..))
+}
+
+/// Names a lane at its place. There is room for it.
+pub fn name_lane(standing: &mut Vec<LaneId>, id: LaneId)
+    requires { vec_len standing.old < vec_capacity standing.old }
+    ensures { standing.new.items ≡ insert standing.old.items (prefix_len (λ x. is_before x id) standing.old.items) id }
+{
+    let place = place_among(standing, &id);
+    let _named = standing.insert(place, id);
+}
+
+/// Takes the name of a lane out, where it stands at its place.
+pub fn unname_lane(standing: &mut Vec<LaneId>, id: &LaneId)
+    requires { prefix_len (λ x. is_before x id.now) standing.old.items < length standing.old.items }
+    ensures { standing.new.items ≡ remove standing.old.items (prefix_len (λ x. is_before x id.now) standing.old.items) }
+{
+    let place = place_among(standing, id);
+    let _named = standing.remove(place);
+}
