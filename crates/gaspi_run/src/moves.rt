@@ -176,19 +176,19 @@ fn candidate_turn(
     turns: &mut Turns,
     alloc: Global,
     limit: u32,
-    listed: &[Transfer],
     candidate: usize,
 ) -> Result<(), NoMemory>
     requires declared { AreDeclared turns.old }
-    requires listed { listed.now ≡ transfers turns.old.state.limits turns.old.state.posts }
-    requires within { candidate < length turns.old.waiting + length listed.now }
     ensures { OnOk result (turns.new ≡ candidate_turn limit turns.old candidate) }
 {
     let waiting = turns.waiting.len();
     if candidate < waiting {
         return caller_turn(turns, alloc, limit, candidate);
     }
-    transfer_turn(turns, alloc, &listed[candidate - waiting])
+    match turns.state.transfer_at(candidate - waiting) {
+        Some(transfer) => transfer_turn(turns, alloc, &transfer),
+        None => Ok(()),
+    }
 }
 
 /// One turn: a draw picks the candidate. False where there is none, and then nothing has happened.
@@ -197,13 +197,12 @@ pub fn turn(turns: &mut Turns, alloc: Global, limit: u32) -> Result<bool, NoMemo
     ensures over { result ≡ Ok false → (candidates turns.old ≡ 0) × (turns.new ≡ turns.old) }
     ensures turned { result ≡ Ok true → (0 < candidates turns.old) × (turns.new ≡ turn limit turns.old) }
 {
-    let transfers = turns.state.transfers(alloc)?;
-    let count = turns.waiting.len() as u128 + transfers.len() as u128;
+    let count = turns.waiting.len() as u128 + turns.state.transfer_count() as u128;
     if count == 0 {
         return Ok(false);
     }
     turns.x = drawn(turns.x);
     let candidate = (u128::from(turns.x / 65536) % count) as usize;
-    candidate_turn(turns, alloc, limit, transfers.as_slice(), candidate)?;
+    candidate_turn(turns, alloc, limit, candidate)?;
     Ok(true)
 }
