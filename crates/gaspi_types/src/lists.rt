@@ -103,7 +103,7 @@ impl<T> Rows<T> {
     }
 
     /// The allocator that holds the list.
-    pub(crate) fn allocator(&self) -> Global {
+    pub fn allocator(&self) -> Global {
         *self.items.allocator()
     }
 
