@@ -8,6 +8,7 @@ pub mod RunningAll
 pub mod NumberRanges
 pub mod Started
 pub mod Scheduling
+mod Calling
 mod Transcribing
 mod CommandWords
 mod Answering

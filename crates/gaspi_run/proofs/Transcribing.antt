@@ -1,22 +1,19 @@
--- A transcript told event by event.
-use Rattle.std.proofs.Common.{◌≡◌, ℕ, zero, suc, ◌+◌, ◌≤◌, length, Bool, true, false, List, [], ◌∷◌, ◌++◌, None, Some, Result, Ok, Err, OnOk, not, refl, sym, ap, ◌∙◌, arith, append_assoc, add-one}
+-- A transcript told call by call.
+use Rattle.std.proofs.Common.{◌≡◌, ℕ, zero, suc, ◌+◌, ◌<◌, ◌≤◌, length, get_or, true, false, List, [], ◌∷◌, ◌++◌, None, Some, Result, Ok, Err, OnOk, refl, sym, ap, ◌∙◌, arith, append_assoc, add-one}
 use Rattle.std.proofs.Math.ListN.{drop}
 use Rattle.std.specs.List.{slice_get}
-use Rattle.gaspi_types.specs.World.{is_caller}
+use Rattle.std.proofs.lemmas.Option.{slice_get-get_or}
 use Rattle.gaspi_types.specs.declared.shapes.CallerId.{CallerId}
-use Rattle.gaspi_types.specs.declared.calls.Call.{Call}
-use Rattle.gaspi_types.specs.declared.replies.Reply.{Reply}
-use Rattle.gaspi_types.specs.declared.events.Event.{Event}
-use Rattle.gaspi_types.specs.declared.events.Event.TheVariants.{Called, Take, Put}
-use Rattle.gaspi_model.specs.Step.{own_calls, is_end}
+use Rattle.gaspi_model.specs.Step.{is_end}
 use Rattle.rank_script.specs.Runs.{is_stuck}
 use Rattle.rank_script.specs.declared.scripts.ScriptLine.{ScriptLine}
+use Rattle.gaspi_run.specs.OwnCalls.{pairs_of}
 use Rattle.gaspi_run.specs.Transcripts.{transcript, call_line, ended_line, stuck_line, limit_line}
+use Rattle.gaspi_run.specs.declared.own_calls.OwnCall.{OwnCall}
 
--- what is told, with what the lines and events behind will tell, is all that is to be told
-abbrev pub HasTold : CallerId → List ScriptLine → List Event → List ℕ → List ℕ → ℕ → ℕ → Type 0
-HasTold c lines journal old text place done =
-    text ++ transcript c (drop done lines) (own_calls c.rank c.thread (drop place journal)) ≡ old ++ transcript c lines (own_calls c.rank c.thread journal)
+-- what is told, with what the lines and calls behind will tell, is all that is to be told
+abbrev pub HasTold : CallerId → List ScriptLine → List OwnCall → List ℕ → List ℕ → ℕ → Type 0
+HasTold c lines calls old text done = text ++ transcript c (drop done lines) (pairs_of (drop done calls)) ≡ old ++ transcript c lines (pairs_of calls)
 
 drop-suc : {A : Type 0} (xs : List A) (i : ℕ) (x : A) → slice_get xs i ≡ Some x → drop i xs ≡ x ∷ drop (suc i) xs
 drop-suc {A} [] zero x at = absurd (let no : ⊥ = cc in no)
@@ -33,95 +30,45 @@ drop-past {A} [] (suc i) at = refl
 drop-past {A} (y ∷ xs) zero at = absurd (let no : ⊥ = cc in no)
 drop-past {A} (y ∷ xs) (suc i) at = drop-past xs i at
 
--- an event that is no call of the caller tells nothing
-pub told-other : (c : CallerId) (lines : List ScriptLine) (journal : List Event) (old text : List ℕ) (place done : ℕ) (e : Event) → slice_get journal place ≡ Some e
-    → own_calls c.rank c.thread (e ∷ drop (place + 1) journal) ≡ own_calls c.rank c.thread (drop (place + 1) journal)
-    → HasTold c lines journal old text place done → HasTold c lines journal old text (place + 1) done
-told-other c lines journal old text place done e at same told =
-    ap (λ (pairs : List (Call × Reply)). text ++ transcript c (drop done lines) pairs) (sym same)
-    ∙ ap (λ (es : List Event). text ++ transcript c (drop done lines) (own_calls c.rank c.thread es)) (sym (drop-at journal place e at)) ∙ told
-
--- behind the last line nothing is told of a call
-pub told-past : (c : CallerId) (lines : List ScriptLine) (journal : List Event) (old text : List ℕ) (place done : ℕ) → slice_get lines done ≡ None
-    → HasTold c lines journal old text place done → HasTold c lines journal old text (place + 1) done
-told-past c lines journal old text place done past told = go (drop done lines) (drop-past lines done past) told
-  where
-    go : (rest : List ScriptLine) → rest ≡ [] → text ++ transcript c rest (own_calls c.rank c.thread (drop place journal)) ≡ old ++ transcript c lines (own_calls c.rank c.thread journal)
-        → text ++ transcript c rest (own_calls c.rank c.thread (drop (place + 1) journal)) ≡ old ++ transcript c lines (own_calls c.rank c.thread journal)
-    go [] none told = told
-    go (line ∷ rest) none told = absurd (let no : ⊥ = cc in no)
-
--- the caller's own next pair
-own-pair : (c : CallerId) (lines : List ScriptLine) (journal : List Event) (old text : List ℕ) (place done : ℕ) (d : CallerId) (call : Call) (reply : Reply) (line : ScriptLine)
-    → slice_get journal place ≡ Some (Called d call reply) → is_caller c.rank c.thread d ≡ true → slice_get lines done ≡ Some line
-    → HasTold c lines journal old text place done
-    → text ++ transcript c (line ∷ drop (done + 1) lines) ((call, reply) ∷ own_calls c.rank c.thread (drop (place + 1) journal)) ≡ old ++ transcript c lines (own_calls c.rank c.thread journal)
-own-pair c lines journal old text place done d call reply line at own here told =
-    ap (λ (ls : List ScriptLine). text ++ transcript c ls ((call, reply) ∷ own_calls c.rank c.thread (drop (place + 1) journal))) (sym (drop-at lines done line here))
-    ∙ ap (λ (pairs : List (Call × Reply)). text ++ transcript c (drop done lines) pairs) (sym (taken (drop (place + 1) journal)))
-    ∙ ap (λ (es : List Event). text ++ transcript c (drop done lines) (own_calls c.rank c.thread es)) (sym (drop-at journal place (Called d call reply) at)) ∙ told
-  where
-    taken : (es : List Event) → own_calls c.rank c.thread (Called d call reply ∷ es) ≡ (call, reply) ∷ own_calls c.rank c.thread es
-    taken es = rw own refl
+-- the next line and the next call
+next-pair : (c : CallerId) (lines : List ScriptLine) (calls : List OwnCall) (old text : List ℕ) (done : ℕ) (own : OwnCall) (line : ScriptLine)
+    → slice_get calls done ≡ Some own → slice_get lines done ≡ Some line → HasTold c lines calls old text done
+    → text ++ transcript c (line ∷ drop (done + 1) lines) ((own.call.now, own.reply.now) ∷ pairs_of (drop (done + 1) calls)) ≡ old ++ transcript c lines (pairs_of calls)
+next-pair c lines calls old text done own line at here told =
+    ap (λ (ls : List ScriptLine). text ++ transcript c ls ((own.call.now, own.reply.now) ∷ pairs_of (drop (done + 1) calls))) (sym (drop-at lines done line here))
+    ∙ ap (λ (rest : List OwnCall). text ++ transcript c (drop done lines) (pairs_of rest)) (sym (drop-at calls done own at)) ∙ told
 
 -- the end before a line
-pub told-end : (c : CallerId) (lines : List ScriptLine) (journal : List Event) (old text : List ℕ) (place done : ℕ) (d : CallerId) (call : Call) (reply : Reply) (line : ScriptLine)
-    → slice_get journal place ≡ Some (Called d call reply) → is_caller c.rank c.thread d ≡ true → slice_get lines done ≡ Some line
-    → is_end call ≡ true → HasTold c lines journal old text place done
-    → text ++ limit_line c line.number ≡ old ++ transcript c lines (own_calls c.rank c.thread journal)
-told-end c lines journal old text place done d call reply line at own here end told =
-    ap (λ (more : List ℕ). text ++ more) (rw end refl) ∙ own-pair c lines journal old text place done d call reply line at own here told
+pub told-end : (c : CallerId) (lines : List ScriptLine) (calls : List OwnCall) (old text : List ℕ) (done : ℕ) (own : OwnCall) (line : ScriptLine)
+    → slice_get calls done ≡ Some own → slice_get lines done ≡ Some line → is_end own.call.now ≡ true → HasTold c lines calls old text done
+    → text ++ limit_line c line.number ≡ old ++ transcript c lines (pairs_of calls)
+told-end c lines calls old text done own line at here end told =
+    ap (λ (more : List ℕ). text ++ more) (rw end refl) ∙ next-pair c lines calls old text done own line at here told
 
 -- a call that is stuck
-pub told-stuck : (c : CallerId) (lines : List ScriptLine) (journal : List Event) (old text : List ℕ) (place done : ℕ) (d : CallerId) (call : Call) (reply : Reply) (line : ScriptLine)
-    → slice_get journal place ≡ Some (Called d call reply) → is_caller c.rank c.thread d ≡ true → slice_get lines done ≡ Some line
-    → is_end call ≡ false → is_stuck line reply ≡ true → HasTold c lines journal old text place done
-    → (text ++ call_line c line.number reply) ++ stuck_line c line.number ≡ old ++ transcript c lines (own_calls c.rank c.thread journal)
-told-stuck c lines journal old text place done d call reply line at own here call-on stuck told =
-    append_assoc text (call_line c line.number reply) (stuck_line c line.number)
-    ∙ ap (λ (more : List ℕ). text ++ more) (rw call-on (rw stuck refl)) ∙ own-pair c lines journal old text place done d call reply line at own here told
+pub told-stuck : (c : CallerId) (lines : List ScriptLine) (calls : List OwnCall) (old text : List ℕ) (done : ℕ) (own : OwnCall) (line : ScriptLine)
+    → slice_get calls done ≡ Some own → slice_get lines done ≡ Some line → is_end own.call.now ≡ false → is_stuck line own.reply.now ≡ true → HasTold c lines calls old text done
+    → (text ++ call_line c line.number own.reply.now) ++ stuck_line c line.number ≡ old ++ transcript c lines (pairs_of calls)
+told-stuck c lines calls old text done own line at here call-on stuck told =
+    append_assoc text (call_line c line.number own.reply.now) (stuck_line c line.number)
+    ∙ ap (λ (more : List ℕ). text ++ more) (rw call-on (rw stuck refl)) ∙ next-pair c lines calls old text done own line at here told
 
 -- a call after which the run goes on
-pub told-more : (c : CallerId) (lines : List ScriptLine) (journal : List Event) (old text new : List ℕ) (place done : ℕ) (d : CallerId) (call : Call) (reply : Reply) (line : ScriptLine)
-    → slice_get journal place ≡ Some (Called d call reply) → is_caller c.rank c.thread d ≡ true → slice_get lines done ≡ Some line
-    → is_end call ≡ false → is_stuck line reply ≡ false → HasTold c lines journal old text place done
-    → new ≡ text ++ call_line c line.number reply → HasTold c lines journal old new (place + 1) (done + 1)
-told-more c lines journal old text new place done d call reply line at own here call-on on told added =
-    ap (λ (front : List ℕ). front ++ rest) added ∙ append_assoc text (call_line c line.number reply) rest
-    ∙ ap (λ (more : List ℕ). text ++ more) (rw call-on (rw on refl)) ∙ own-pair c lines journal old text place done d call reply line at own here told
+pub told-more : (c : CallerId) (lines : List ScriptLine) (calls : List OwnCall) (old text new : List ℕ) (done : ℕ) (own : OwnCall) (line : ScriptLine)
+    → slice_get calls done ≡ Some own → slice_get lines done ≡ Some line → is_end own.call.now ≡ false → is_stuck line own.reply.now ≡ false → HasTold c lines calls old text done
+    → new ≡ text ++ call_line c line.number own.reply.now → HasTold c lines calls old new (done + 1)
+told-more c lines calls old text new done own line at here call-on on told added =
+    ap (λ (front : List ℕ). front ++ rest) added ∙ append_assoc text (call_line c line.number own.reply.now) rest
+    ∙ ap (λ (more : List ℕ). text ++ more) (rw call-on (rw on refl)) ∙ next-pair c lines calls old text done own line at here told
   where
     rest : List ℕ
-    rest = transcript c (drop (done + 1) lines) (own_calls c.rank c.thread (drop (place + 1) journal))
+    rest = transcript c (drop (done + 1) lines) (pairs_of (drop (done + 1) calls))
 
--- Where the loop stands.
-
-pub on-ok : {A E P Q : Type 0} (r : Result A E) → (P → Q) → OnOk r P → OnOk r Q
-on-ok {A} {E} {P} {Q} (Ok x) f p = f p
-on-ok {A} {E} {P} {Q} (Err e) f p = tt
-
-pub not-true : (b : Bool) → not b ≡ true → b ≡ false
-not-true true h = absurd (let no : ⊥ = cc in no)
-not-true false h = refl
-
-pub not-false : (b : Bool) → not b ≡ false → b ≡ true
-not-false true h = refl
-not-false false h = absurd (let no : ⊥ = cc in no)
-
--- an event that is no call is not the caller's
-pub told-none : (c : CallerId) (lines : List ScriptLine) (journal : List Event) (old text : List ℕ) (place done : ℕ) (e : Event) → slice_get journal place ≡ Some e
-    → ((d : CallerId) (call : Call) (reply : Reply) → e ≡ Called d call reply → ⊥)
-    → HasTold c lines journal old text place done → HasTold c lines journal old text (place + 1) done
-told-none c lines journal old text place done (Called d call reply) at none told = absurd (none d call reply refl)
-told-none c lines journal old text place done (Take o q t n outcome) at none told = told-other c lines journal old text place done (Take o q t n outcome) at refl told
-told-none c lines journal old text place done (Put o q t n outcome) at none told = told-other c lines journal old text place done (Put o q t n outcome) at refl told
-
--- a call of another caller
-pub told-else : (c : CallerId) (lines : List ScriptLine) (journal : List Event) (old text : List ℕ) (place done : ℕ) (d : CallerId) (call : Call) (reply : Reply)
-    → slice_get journal place ≡ Some (Called d call reply) → is_caller c.rank c.thread d ≡ false
-    → HasTold c lines journal old text place done → HasTold c lines journal old text (place + 1) done
-told-else c lines journal old text place done d call reply at other told = told-other c lines journal old text place done (Called d call reply) at (rw other refl) told
-
--- At the end of the events.
+-- no line is left
+pub told-ended : (c : CallerId) (lines : List ScriptLine) (calls : List OwnCall) (old text : List ℕ) (done : ℕ) → slice_get lines done ≡ None → HasTold c lines calls old text done
+    → text ++ ended_line c ≡ old ++ transcript c lines (pairs_of calls)
+told-ended c lines calls old text done past told =
+    ap (λ (ls : List ScriptLine). text ++ transcript c ls (pairs_of (drop done calls))) (sym (drop-past lines done past)) ∙ told
 
 drop-all : {A : Type 0} (xs : List A) (i : ℕ) → length xs ≤ i → drop i xs ≡ []
 drop-all {A} [] zero h = refl
@@ -129,15 +76,17 @@ drop-all {A} [] (suc i) h = refl
 drop-all {A} (x ∷ xs) zero h = absurd (omega arith)
 drop-all {A} (x ∷ xs) (suc i) h = drop-all xs i (omega arith)
 
-pub told-limit : (c : CallerId) (lines : List ScriptLine) (journal : List Event) (old text : List ℕ) (place done : ℕ) (line : ScriptLine)
-    → length journal ≤ place → slice_get lines done ≡ Some line → HasTold c lines journal old text place done
-    → text ++ limit_line c line.number ≡ old ++ transcript c lines (own_calls c.rank c.thread journal)
-told-limit c lines journal old text place done line over here told =
+-- no call is left
+pub told-limit : (c : CallerId) (lines : List ScriptLine) (calls : List OwnCall) (old text : List ℕ) (done : ℕ) (line : ScriptLine)
+    → length calls ≤ done → slice_get lines done ≡ Some line → HasTold c lines calls old text done → text ++ limit_line c line.number ≡ old ++ transcript c lines (pairs_of calls)
+told-limit c lines calls old text done line over here told =
     ap (λ (ls : List ScriptLine). text ++ transcript c ls []) (sym (drop-at lines done line here))
-    ∙ ap (λ (es : List Event). text ++ transcript c (drop done lines) (own_calls c.rank c.thread es)) (sym (drop-all journal place over)) ∙ told
+    ∙ ap (λ (rest : List OwnCall). text ++ transcript c (drop done lines) (pairs_of rest)) (sym (drop-all calls done over)) ∙ told
 
-pub told-ended : (c : CallerId) (lines : List ScriptLine) (journal : List Event) (old text : List ℕ) (place done : ℕ)
-    → slice_get lines done ≡ None → HasTold c lines journal old text place done
-    → text ++ ended_line c ≡ old ++ transcript c lines (own_calls c.rank c.thread journal)
-told-ended c lines journal old text place done past told =
-    ap (λ (ls : List ScriptLine). text ++ transcript c ls (own_calls c.rank c.thread (drop place journal))) (sym (drop-past lines done past)) ∙ told
+pub on-ok : {A E P Q : Type 0} (r : Result A E) → (P → Q) → OnOk r P → OnOk r Q
+on-ok {A} {E} {P} {Q} (Ok x) f p = f p
+on-ok {A} {E} {P} {Q} (Err e) f p = tt
+
+-- an item as it was read
+pub read-at : {A : Type 0} (xs : List A) (i : ℕ) (x : A) → i < length xs → x ≡ get_or xs i x → slice_get xs i ≡ Some x
+read-at {A} xs i x within is = slice_get-get_or xs i x within ∙ ap (λ (y : A). Some y) (sym is)

@@ -3,6 +3,7 @@
 
 mod commands;
 mod moves;
+mod own_calls;
 mod schedule;
 mod transcripts;
 mod turns;

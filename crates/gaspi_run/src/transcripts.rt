@@ -1,13 +1,15 @@
 //! Transcripts: what each caller was told, line by line, and how its run ended.
 
-ghost use Rattle.std.specs.Prelude.{◌≡◌, ◌<◌, ◌++◌, OnOk};
-ghost use Rattle.gaspi_model.specs.Step.{own_calls, is_end};
+ghost use Rattle.std.specs.Prelude.{◌≡◌, ◌<◌, ◌++◌, List, OnOk};
+ghost use Rattle.gaspi_types.specs.declared.events.Event.{Event};
+ghost use Rattle.gaspi_model.specs.Step.{is_end};
+ghost use Rattle.gaspi_run.specs.OwnCalls.{pairs_of, HasCallers, IsCallTable};
 ghost use Rattle.gaspi_run.specs.Transcripts.{caller_text, call_line, ended_line, stuck_line, limit_line, transcript, thread_transcript, rank_transcripts, transcripts};
 
+use crate::own_calls::{CallTable, OwnCall, own_calls};
 use crate::schedule::Journal;
 use gaspi_types::{
-    Bytes, Call, CallerId, Event, NoMemory, RankId, Reply, Shape, ThreadId, write_number,
-    write_reply,
+    Bytes, Call, CallerId, NoMemory, RankId, Reply, Shape, ThreadId, write_number, write_reply,
 };
 use rank_script::{Script, Scripts, is_stuck};
 
@@ -67,32 +69,27 @@ fn is_end(call: &Call) -> bool
     matches!(call, Call::End)
 }
 
-/// Adds the transcript of one caller.
-fn write_transcript(text: &mut Bytes, script: &Script, journal: &Journal) -> Result<(), NoMemory>
-    ensures { OnOk result (text.new ≡ text.old
-        ++ transcript script.now.caller script.now.lines (own_calls script.now.caller.rank script.now.caller.thread journal.now)) }
+/// Adds the transcript of one caller, from its own calls.
+fn write_transcript(
+    text: &mut Bytes,
+    script: &Script,
+    calls: &[OwnCall<'_>],
+) -> Result<(), NoMemory>
+    ensures { OnOk result (text.new ≡ text.old ++ transcript script.now.caller script.now.lines (pairs_of calls.now)) }
 {
-    let mut done = 0;
-    for place in 0..journal.len() {
-        let Event::Called(caller, call, reply) = journal.at(place) else {
-            continue;
-        };
-        if *caller != script.caller {
-            continue;
-        }
+    for (done, own) in calls.iter().enumerate() {
         let Some(line) = script.lines.get(done) else {
-            continue;
+            return write_ended(text, script.caller);
         };
-        if is_end(call) {
+        if is_end(own.call) {
             return write_limit(text, script.caller, line.number);
         }
-        write_call(text, script.caller, line.number, reply)?;
-        if is_stuck(line, reply) {
+        write_call(text, script.caller, line.number, own.reply)?;
+        if is_stuck(line, own.reply) {
             return write_stuck(text, script.caller, line.number);
         }
-        done += 1;
     }
-    match script.lines.get(done) {
+    match script.lines.get(calls.len()) {
         Some(line) => write_limit(text, script.caller, line.number),
         None => write_ended(text, script.caller),
     }
@@ -103,14 +100,17 @@ fn write_thread(
     text: &mut Bytes,
     caller: CallerId,
     scripts: &Scripts,
-    journal: &Journal,
+    table: &CallTable<'_>,
 ) -> Result<(), NoMemory>
-    ensures { OnOk result (text.new ≡ text.old ++ thread_transcript scripts.now journal.now caller.rank caller.thread) }
+    requires { HasCallers table.now }
+    ensures { (history : List Event) → IsCallTable table.now history → OnOk result (text.new ≡ text.old ++ thread_transcript scripts.now history caller.rank caller.thread) }
 {
-    match scripts.of(caller) {
-        Some(script) => write_transcript(text, script, journal),
-        None => Ok(()),
-    }
+    let Some(script) = scripts.of(caller) else {
+        return Ok(());
+    };
+    let row = table.at(script.caller.rank.index());
+    let calls = row.at(script.caller.thread.index());
+    write_transcript(text, script, calls.as_slice())
 }
 
 /// Adds the transcripts of a rank's callers, by thread.
@@ -118,17 +118,18 @@ fn write_rank(
     text: &mut Bytes,
     rank: u32,
     scripts: &Scripts,
-    journal: &Journal,
+    table: &CallTable<'_>,
 ) -> Result<(), NoMemory>
-    requires { rank < 16 }
-    ensures { OnOk result (text.new ≡ text.old ++ rank_transcripts scripts.now journal.now rank) }
+    requires rank { rank < 16 }
+    requires callers { HasCallers table.now }
+    ensures { (history : List Event) → IsCallTable table.now history → OnOk result (text.new ≡ text.old ++ rank_transcripts scripts.now history rank) }
 {
     for thread in 0..4u32 {
         let caller = CallerId {
             rank: RankId::of(rank),
             thread: ThreadId::of(thread),
         };
-        write_thread(text, caller, scripts, journal)?;
+        write_thread(text, caller, scripts, table)?;
     }
     Ok(())
 }
@@ -142,9 +143,10 @@ pub fn write_transcripts(
 ) -> Result<(), NoMemory>
     ensures { OnOk result (text.new ≡ text.old ++ transcripts shape.now scripts.now journal.now) }
 {
+    let table = own_calls(text.allocator(), journal.as_slice())?;
     let limits = shape.limits();
     for rank in 0..limits.ranks {
-        write_rank(text, rank, scripts, journal)?;
+        write_rank(text, rank, scripts, &table)?;
     }
     Ok(())
 }

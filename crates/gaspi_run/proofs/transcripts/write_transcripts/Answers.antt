@@ -3,4 +3,5 @@ use Rattle.gaspi_run.proofs.NumberRanges.{range-more}
 use Rattle.gaspi_run.proofs.transcripts.write_transcripts.Goals as goal
 
 pub loop-rank-preserved : goal.loop-rank-preserved
-loop-rank-preserved c = range-more (rank_transcripts c.args.scripts.now c.args.journal.now) c.loop-rank.rank _ _ _ c.in_ok-write_rank.ensures c.loop-rank.invariant
+loop-rank-preserved c =
+    range-more (rank_transcripts c.args.scripts.now c.args.journal.now) c.loop-rank.rank _ _ _ (c.in_ok-write_rank.ensures c.args.journal.now (rw c.as_slice.ensures at c.in_ok-table.ensures)) c.loop-rank.invariant
