@@ -101,6 +101,11 @@ fn lists(
 ) -> Result<(), Fail> {
     let transfers = machine.transfers(alloc)?;
     assert!(rt; transfers.as_slice() == expected);
+    assert_eq!(rt; machine.transfer_count(), expected.len());
+    for (place, transfer) in expected.iter().enumerate() {
+        assert!(rt; machine.transfer_at(place) == Some(*transfer));
+    }
+    assert!(rt; machine.transfer_at(expected.len()).is_none());
     Ok(())
 }
 
