@@ -10,3 +10,8 @@ pub mod SoundSteps
 pub mod SoundOpening
 pub mod Activity
 pub mod EnabledEvents
+pub mod Locality
+pub mod Histories
+pub mod NotificationOrder
+pub mod OpenCounts
+pub mod CallQueues

@@ -12,7 +12,8 @@ use Rattle.gaspi_types.specs.World.{World, IsWorld, is_caller}
 use Rattle.gaspi_types.specs.Lanes.{lane_owed}
 use Rattle.gaspi_types.specs.declared.shapes.CallerId.{CallerId}
 use Rattle.gaspi_model.specs.State.{opening, opening_memory, opening_posts, opening_queue, opening_thread, entries_owed, queue_owed, is_running}
-use Rattle.gaspi_model.specs.Sound.{IsSoundPosts, IsSound}
+use Rattle.gaspi_model.specs.Sound.{IsSoundQueue, IsSoundPosts, IsSound}
+use Rattle.gaspi_types.specs.declared.entries.Entry.{Entry}
 use Rattle.gaspi_model.specs.declared.states.Queue.{Queue}
 use Rattle.gaspi_model.specs.declared.states.ThreadState.TheVariants.{Absent, Running}
 
@@ -87,6 +88,14 @@ entries-none w rank =
     let queues = sum_by-replicate queue_owed w.limits.queues (opening_queue w.limits.ranks) in
     queues ∙ rw lanes (omega arith)
 
+empty-queue : (ranks depth : ℕ) → IsSoundQueue depth (opening_queue ranks)
+empty-queue ranks depth = record {
+  carried = λ target lane at. rw (slice_get-replicate ranks [] lane target at) (omega arith);
+  from_posted = λ target lane at place e here posted.
+      absurd (let none : slice_get {X = Entry} [] place ≡ Some e = subst (λ (l : List Entry). slice_get l place ≡ Some e) (slice_get-replicate ranks [] lane target at) here in let no : ⊥ = cc in no);
+  opened = omega arith;
+}
+
 opening-sound : (w : World) (rank : ℕ) → IsWorld w → IsSoundPosts w.limits (opening_posts w rank)
 opening-sound w rank world = record {
   lanes = λ queue q at. rw (slice_get-replicate w.limits.queues (opening_queue w.limits.ranks) q queue at) (length-replicate w.limits.ranks []);
@@ -100,6 +109,8 @@ opening-sound w rank world = record {
       let opened = slice_get-replicate w.limits.queues (opening_queue w.limits.ranks) q queue at in
       let none = slice_get-replicate w.limits.ranks [] lane target (subst (λ (x : Queue). slice_get x.lanes target ≡ Some lane) opened here) in
       rw none tt;
+  queues = λ queue q at.
+      rw (slice_get-replicate w.limits.queues (opening_queue w.limits.ranks) q queue at) (empty-queue w.limits.ranks w.limits.depth);
 }
 
 pub opens : (w : World) → IsWorld w → IsSound (opening w)

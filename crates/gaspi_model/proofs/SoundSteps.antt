@@ -1,9 +1,9 @@
 -- The opening state is sound, and every step keeps a state sound.
-use Rattle.std.proofs.Common.{◌-◌, subst, ◌≡◌, ℕ, ◌+◌, ◌≤◌, Bool, true, false, List, ◌++◌, length, Option, None, Some, Result, Ok, Err, refl, ap, ◌∙◌, arith, if◌then◌else◌, ◌⊎◌, inl, inr, remove}
+use Rattle.std.proofs.Common.{◌-◌, subst, ◌≡◌, ℕ, ◌+◌, ◌≤◌, Bool, true, false, List, ◌++◌, length, Option, None, Some, Result, Ok, Err, refl, sym, ap, ◌∙◌, arith, if◌then◌else◌, ◌⊎◌, inl, inr, remove}
 use Rattle.std.specs.List.{sum_by, slice_get, slice_set}
 use Rattle.std.proofs.lemmas.Bool.{leb-true}
 use Rattle.std.proofs.lemmas.List.{length-set}
-use Rattle.gaspi_types.specs.Lanes.{posted_entries}
+use Rattle.gaspi_types.specs.Lanes.{posted_entries, is_posted}
 use Rattle.gaspi_types.specs.Replies.{is_idle}
 use Rattle.gaspi_types.specs.Posts.{write_notify_kinds}
 use Rattle.gaspi_types.specs.declared.entries.Entry.{Entry}
@@ -33,6 +33,9 @@ use Rattle.gaspi_model.proofs.Same.{same_reply-same}
 use Rattle.gaspi_model.proofs.Made.{IsFound, IsTake, IsPut, IsCalled, step-called, step-take, step-put}
 use Rattle.gaspi_model.proofs.Accounts.{take-owed, put-owed, kinds-two}
 use Rattle.gaspi_model.proofs.CallAccounts.{HasLanes, with_post-events, call-grows}
+use Rattle.gaspi_model.proofs.Chains.{both}
+use Rattle.gaspi_model.proofs.OpenCounts.{queue-phase, queue-remove, carried-more, carried-failed}
+use Rattle.gaspi_model.proofs.CallQueues.{queues-changed, called-queues}
 
 -- a table keeps its length when an item is changed
 pub length-changed_at : {A : Type 0} (xs : List A) (i : ℕ) (change : A → A) → length (changed_at xs i change) ≡ length xs
@@ -167,6 +170,7 @@ called-sound limits me posts memory thread call reply after sound h =
       room = omega arith;
       numbers = (let events = keeps.events in let next = keeps.numbers in omega arith);
       rising = keeps.rising;
+      queues = called-queues limits me posts memory thread call reply (same_reply-same _ _ h.answered) sound.queues sound.rising;
     })
 
 lanes-with_lane : (ranks : ℕ) (posts : Posts) (queue target : ℕ) (lane : List Entry) → HasLanes ranks posts → HasLanes ranks (with_lane posts queue target lane)
@@ -193,6 +197,12 @@ take-sound limits posts memory queue target number outcome after at sound h =
       room = (let same = ap (λ (p : Posts). p.events + owed p) h.leaves in omega arith);
       numbers = omega arith;
       rising = rise-with_lane posts queue target number at lane h.is (AreRising-phase posts.next at.lane at.place at.entry (phases.Carried (taken_bytes memory at.entry.kind)) h.is.in_lane rises) sound.rising;
+      queues = queues-changed limits.depth posts.queues queue (λ (q : Queue). record q { lanes = slice_set q.lanes target lane }) sound.queues
+          (λ q here.
+          let same : at.queue ≡ q = (let some : ◌≡◌ {A = Option Queue} (Some at.queue) (Some q) = sym h.is.in_posts ∙ here in cc) in
+          rw (sym same) (queue-phase limits.depth at.queue (record at.queue { lanes = slice_set at.queue.lanes target lane }) target at.lane at.place at.entry
+          (phases.Carried (taken_bytes memory at.entry.kind)) (sound.queues queue at.queue h.is.in_posts) h.is.in_queue h.is.in_lane refl refl refl
+          (carried-more limits.depth at.lane at.place at.entry (phases.Carried (taken_bytes memory at.entry.kind)) h.is.in_lane (both (is_posted at.entry) _ h.permitted).1)));
     } in
     rw h.leaves made
 
@@ -209,6 +219,11 @@ put-sound limits posts memory queue target number Applied after at sound h =
       room = (let same = ap (λ (p : Parts). p.posts.events + owed p.posts) h.leaves in omega arith);
       numbers = omega arith;
       rising = rise-with_lane posts queue target number at lane h.is (AreRising-remove posts.next at.lane at.place rises) sound.rising;
+      queues = queues-changed limits.depth posts.queues queue (λ (q : Queue). record q { lanes = slice_set q.lanes target lane }) sound.queues
+          (λ q here.
+          let same : at.queue ≡ q = (let some : ◌≡◌ {A = Option Queue} (Some at.queue) (Some q) = sym h.is.in_posts ∙ here in cc) in
+          rw (sym same) (queue-remove limits.depth at.queue (record at.queue { lanes = slice_set at.queue.lanes target lane }) target at.lane at.place at.entry
+          (sound.queues queue at.queue h.is.in_posts) h.is.in_queue h.is.in_lane refl refl));
     } in
     rw h.leaves made
 put-sound limits posts memory queue target number Failed after at sound h =
@@ -224,6 +239,12 @@ put-sound limits posts memory queue target number Failed after at sound h =
       numbers = omega arith;
       rising = rise-changed posts.next posts.queues queue change
           (λ q here. rise-lane posts.next q.lanes target lane (AreRising-phase posts.next at.lane at.place at.entry phases.Failed h.is.in_lane rises) (sound.rising queue q here)) sound.rising;
+      queues = queues-changed limits.depth posts.queues queue change sound.queues
+          (λ q here.
+          let same : at.queue ≡ q = (let some : ◌≡◌ {A = Option Queue} (Some at.queue) (Some q) = sym h.is.in_posts ∙ here in cc) in
+          let s0 = sound.queues queue at.queue h.is.in_posts in
+          rw (sym same) (queue-phase limits.depth at.queue (change at.queue) target at.lane at.place at.entry phases.Failed s0 h.is.in_queue h.is.in_lane refl refl refl
+          (carried-failed limits.depth at.lane at.place at.entry h.is.in_lane (s0.carried target at.lane h.is.in_queue))));
     } in
     rw h.leaves made
 

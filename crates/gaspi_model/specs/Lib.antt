@@ -3,3 +3,6 @@ pub mod Calls
 pub mod Transfers
 pub mod Step
 pub mod Sound
+pub mod Shards
+pub mod Changes
+pub mod Order

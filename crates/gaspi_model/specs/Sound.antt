@@ -1,5 +1,6 @@
 -- What holds in every state of a legal history, and is used by whoever runs the machine.
-use Rattle.std.specs.Prelude.{◌≡◌, ℕ, ◌+◌, ◌-◌, ◌*◌, ◌<◌, ◌≤◌, true, sum_by, List, [], ◌∷◌, length, slice_get, Some}
+use Rattle.std.specs.Prelude.{◌≡◌, ℕ, ◌+◌, ◌-◌, ◌*◌, ◌<◌, ◌≤◌, true, nat_le, sum_by, count_by, List, [], ◌∷◌, length, slice_get, Some}
+use Rattle.gaspi_types.specs.Lanes.{is_posted, carried_count}
 use Rattle.gaspi_types.specs.declared.entries.Entry.{Entry}
 use Rattle.gaspi_types.specs.World.{are_limits}
 use Rattle.gaspi_types.specs.declared.shapes.Limits.{Limits}
@@ -18,13 +19,29 @@ abbrev pub AreRising : ℕ → List Entry → Type 0
 AreRising next [] = Unit {0}
 AreRising next (e ∷ lane) = (e.number < next) × AreAbove e.number lane × AreRising next lane
 
--- The posts of a rank: each queue has a lane to each rank; what is recorded and owed has room; no event gave more than
--- 256 numbers to entries; and the numbers of each lane rise, and are below the next one.
+-- how many entries of a lane, and of a queue, have a number from n on
+abbrev pub lane_from : ℕ → List Entry → ℕ
+lane_from n lane = count_by (λ e. nat_le n e.number) lane
+
+abbrev pub queue_from : ℕ → Queue → ℕ
+queue_from n q = sum_by (lane_from n) q.lanes
+
+-- A queue: at most DEPTH entries of a lane have taken their bytes; and the entries of the queue from each posted one on,
+-- so from the least, are in any phase at most the open count, which is at most DEPTH.
+pub record IsSoundQueue (depth : ℕ) (q : Queue) : Type 0 where
+  pub carried : (target : ℕ) (lane : List Entry) → slice_get q.lanes target ≡ Some lane → carried_count lane ≤ depth
+  pub from_posted : (target : ℕ) (lane : List Entry) → slice_get q.lanes target ≡ Some lane → (place : ℕ) (e : Entry) → slice_get lane place ≡ Some e
+      → is_posted e ≡ true → queue_from e.number q ≤ q.open_count
+  pub opened : q.open_count ≤ depth
+
+-- The posts of a rank: each queue has a lane to each rank, and is sound; what is recorded and owed has room; no event
+-- gave more than 256 numbers to entries; and the numbers of each lane rise, and are below the next one.
 pub record IsSoundPosts (limits : Limits) (posts : Posts) : Type 0 where
   pub lanes : (queue : ℕ) (q : Queue) → slice_get posts.queues queue ≡ Some q → length q.lanes ≡ limits.ranks
   pub room : posts.events + owed posts ≤ limits.events
   pub numbers : posts.next ≤ 256 * posts.events
   pub rising : (queue : ℕ) (q : Queue) → slice_get posts.queues queue ≡ Some q → (target : ℕ) (lane : List Entry) → slice_get q.lanes target ≡ Some lane → AreRising posts.next lane
+  pub queues : (queue : ℕ) (q : Queue) → slice_get posts.queues queue ≡ Some q → IsSoundQueue limits.depth q
 
 pub record IsSound (s : State) : Type 0 where
   pub limits : are_limits s.limits ≡ true

@@ -1,0 +1,88 @@
+-- Histories, one event after another.
+use Rattle.std.proofs.Common.{◌≡◌, true, zero, suc, Bool, List, [], ◌∷◌, ◌++◌, Option, None, Some, Result, Ok, Err, refl, sym, ap, ◌∙◌, is_ok}
+use Rattle.std.specs.List.{slice_get, slice_set}
+use Rattle.gaspi_types.specs.Replies.{is_idle}
+use Rattle.gaspi_types.specs.World.{World, IsWorld}
+use Rattle.gaspi_types.specs.declared.shapes.CallerId.{CallerId}
+use Rattle.gaspi_types.specs.declared.calls.Call.{Call}
+use Rattle.gaspi_types.specs.declared.replies.Reply.{Reply}
+use Rattle.gaspi_types.specs.declared.events.Event.{Event}
+use Rattle.gaspi_types.specs.declared.events.Event.TheVariants.{Called}
+use Rattle.gaspi_model.specs.State.{opening}
+use Rattle.gaspi_model.specs.Calls.{counted, posts_after, memory_after}
+use Rattle.gaspi_model.specs.Step.{step, after, reached, is_legal}
+use Rattle.gaspi_model.specs.Sound.{IsSound}
+use Rattle.gaspi_model.specs.Changes.{IsOnlyCounted}
+use Rattle.gaspi_model.specs.declared.states.Posts.{Posts}
+use Rattle.gaspi_model.specs.declared.states.Memory.{Memory}
+use Rattle.gaspi_model.specs.declared.states.State.{State}
+use Rattle.gaspi_model.specs.declared.states.Why.{Why}
+use Rattle.gaspi_model.proofs.Made.{step-called}
+use Rattle.gaspi_model.proofs.SoundOpening.{opens}
+use Rattle.gaspi_model.proofs.SoundSteps.{steps}
+
+-- the state after one event and the others
+pub after-step : (s t : State) (e : Event) (events : List Event) → step s e ≡ Ok t → after s (e ∷ events) ≡ after t events
+after-step s t e events h = rw h refl
+
+-- where events lead to a state, the first leads to one from which the others do
+pub after-first : (s u : State) (e : Event) (events : List Event) → after s (e ∷ events) ≡ Ok u → (t : State) × (step s e ≡ Ok t) × (after t events ≡ Ok u)
+after-first s u e events h = go (step s e) refl
+  where
+    go : (r : Result State Why) → step s e ≡ r → (t : State) × (step s e ≡ Ok t) × (after t events ≡ Ok u)
+    go (Ok t) is = (t, is, rw is at h)
+    go (Err why) is = absurd (let err = rw is at h in let no : ⊥ = cc in no)
+
+-- where two lists of events lead to a state, the first leads to one from which the second does
+pub after-both : (s u : State) (a b : List Event) → after s (a ++ b) ≡ Ok u → (t : State) × (after s a ≡ Ok t) × (after t b ≡ Ok u)
+after-both s u [] b h = (s, refl, h)
+after-both s u (e ∷ a) b h =
+    let first = after-first s u e (a ++ b) h in
+    let rest = after-both first.0 u a b first.2 in
+    (rest.0, after-step s first.0 e a first.1 ∙ rest.1, rest.2)
+
+pub after-joined : (s t : State) (a b : List Event) → after s a ≡ Ok t → after s (a ++ b) ≡ after t b
+after-joined s t [] b h = let same : s ≡ t = cc in rw same refl
+after-joined s t (e ∷ a) b h =
+    let first = after-first s t e a h in
+    after-step s first.0 e (a ++ b) first.1 ∙ after-joined first.0 t a b first.2
+
+pub leads : (r : Result State Why) → is_ok r ≡ true → (t : State) × (r ≡ Ok t)
+leads (Ok t) h = (t, refl)
+leads (Err why) h = absurd (let no : ⊥ = cc in no)
+
+-- a prefix of a legal history is legal
+pub prefix : (w : World) (a b : List Event) → is_legal w (a ++ b) ≡ true → is_legal w a ≡ true
+prefix w a b h =
+    let end = leads (reached w (a ++ b)) h in
+    let first = after-both (opening w) end.0 a b end.1 in
+    ap is_ok first.1
+
+after-sound : (s t : State) (events : List Event) → IsSound s → after s events ≡ Ok t → IsSound t
+after-sound s t [] sound h = let same : s ≡ t = cc in rw (sym same) sound
+after-sound s t (e ∷ events) sound h =
+    let first = after-first s t e events h in
+    after-sound first.0 t events (steps s first.0 e sound first.1) first.2
+
+-- every state of a legal history is sound
+pub reached-sound : (w : World) (history : List Event) (s : State) → IsWorld w → reached w history ≡ Ok s → IsSound s
+reached-sound w history s world h = after-sound (opening w) s history (opens w world) h
+
+-- what stands at a place, set there, changes nothing
+pub set-there : {A : Type 0} (table : List A) (place : _) (x : A) → slice_get table place ≡ Some x → slice_set table place x ≡ table
+set-there [] place x at = refl
+set-there (y ∷ table) zero x at = let same : y ≡ x = cc in ap (λ (z : _). z ∷ table) (sym same)
+set-there (y ∷ table) (suc place) x at = ap (λ (rest : List _). y ∷ rest) (set-there table place x at)
+
+-- a refusal or a timeout changes nothing but the count of events
+pub only-counted : (s t : State) (c : CallerId) (call : Call) (reply : Reply) → is_idle reply ≡ true → step s (Called c call reply) ≡ Ok t → IsOnlyCounted s t c.rank
+only-counted s t c call reply idle h =
+    let made = step-called s t c call reply h in
+    let m = made.3 in
+    let posts : made.2.posts ≡ counted made.0 = rw (m.is.leaves, idle) refl in
+    let memory : made.2.memory ≡ made.1 = rw (m.is.leaves, idle) refl in
+    record {
+      posts = made.0;
+      there = m.posts_there;
+      after = m.leaves ∙ rw (posts, memory, set-there s.memories c.rank made.1 m.memory_there) refl;
+    }
