@@ -1,5 +1,5 @@
 -- Histories, one event after another.
-use Rattle.std.proofs.Common.{◌≡◌, true, zero, suc, Bool, List, [], ◌∷◌, ◌++◌, Option, None, Some, Result, Ok, Err, refl, sym, ap, ◌∙◌, is_ok}
+use Rattle.std.proofs.Common.{◌≡◌, true, zero, suc, List, [], ◌∷◌, ◌++◌, Some, Result, Ok, Err, refl, sym, ap, ◌∙◌, is_ok}
 use Rattle.std.specs.List.{slice_get, slice_set}
 use Rattle.gaspi_types.specs.Replies.{is_idle}
 use Rattle.gaspi_types.specs.World.{World, IsWorld}
@@ -9,12 +9,10 @@ use Rattle.gaspi_types.specs.declared.replies.Reply.{Reply}
 use Rattle.gaspi_types.specs.declared.events.Event.{Event}
 use Rattle.gaspi_types.specs.declared.events.Event.TheVariants.{Called}
 use Rattle.gaspi_model.specs.State.{opening}
-use Rattle.gaspi_model.specs.Calls.{counted, posts_after, memory_after}
+use Rattle.gaspi_model.specs.Calls.{counted}
 use Rattle.gaspi_model.specs.Step.{step, after, reached, is_legal}
 use Rattle.gaspi_model.specs.Sound.{IsSound}
 use Rattle.gaspi_model.specs.Changes.{IsOnlyCounted}
-use Rattle.gaspi_model.specs.declared.states.Posts.{Posts}
-use Rattle.gaspi_model.specs.declared.states.Memory.{Memory}
 use Rattle.gaspi_model.specs.declared.states.State.{State}
 use Rattle.gaspi_model.specs.declared.states.Why.{Why}
 use Rattle.gaspi_model.proofs.Made.{step-called}

@@ -10,8 +10,14 @@ pub mod SoundSteps
 pub mod SoundOpening
 pub mod Activity
 pub mod EnabledEvents
-pub mod Locality
+pub mod LocalSteps
+pub mod PutDone
 pub mod Histories
 pub mod NotificationOrder
 pub mod OpenCounts
 pub mod CallQueues
+pub mod Layouts
+pub mod FittingEntries
+pub mod CoherentSteps
+pub mod CoherentOpening
+pub mod PostStands

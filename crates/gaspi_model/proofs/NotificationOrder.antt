@@ -1,6 +1,6 @@
 -- A write stands in its lane until it is put, and while it stands no later notification of its lane is put.
 use Rattle.std.proofs.Common.{◌≡◌, ℕ, zero, suc, ◌+◌, ◌<◌, arith, Bool, true, false, not, ◌==◌, ◌&&◌, ◌||◌, nat_lt, List, [], ◌∷◌, ◌++◌, length, remove, Option, None, Some, Result, Ok, Err, refl, sym, ap, ◌∙◌, subst, ◌⊎◌, inl, inr, if◌then◌else◌}
-use Rattle.std.specs.List.{slice_get, slice_set, prefix_len, list_any}
+use Rattle.std.specs.List.{slice_get, slice_set, prefix_len}
 use Rattle.std.proofs.lemmas.Bool.{eq-eqb, eqb-true, lt-ltb}
 use Rattle.gaspi_types.specs.Lanes.{is_write, is_write_kind, has_earlier_write, may_put, may_put_kind, is_carried, place_of, posted_entries}
 use Rattle.gaspi_types.specs.Posts.{write_notify_kinds}
@@ -13,14 +13,12 @@ use Rattle.gaspi_types.specs.declared.entries.Phase.TheVariants as phases
 use Rattle.gaspi_types.specs.declared.shapes.Limits.{Limits}
 use Rattle.gaspi_types.specs.declared.calls.Call.{Call}
 use Rattle.gaspi_types.specs.declared.calls.Call.TheVariants.{Store, Load, WriteNotify, Wait, Waitsome, Reset, End}
-use Rattle.gaspi_types.specs.declared.replies.Reply.{Reply}
 use Rattle.gaspi_types.specs.declared.replies.Refusal.{Refusal}
-use Rattle.gaspi_types.specs.declared.events.Outcome.{Outcome}
 use Rattle.gaspi_types.specs.declared.events.Outcome.TheVariants.{Applied, Failed}
 use Rattle.gaspi_types.specs.declared.events.Event.{Event}
 use Rattle.gaspi_types.specs.declared.events.Event.TheVariants.{Called, Take, Put}
 use Rattle.gaspi_model.specs.Calls.{changed_at, with_entries, with_post, posts_done, counted}
-use Rattle.gaspi_model.specs.Transfers.{Found, Parts, find_entry, with_lane, with_phase, put_with, taken_bytes}
+use Rattle.gaspi_model.specs.Transfers.{Found, find_entry, with_phase, taken_bytes}
 use Rattle.gaspi_model.specs.State.{opening}
 use Rattle.gaspi_model.specs.Step.{step, after, reached, is_legal}
 use Rattle.gaspi_model.specs.Order.{IsWriteStanding, IsNotificationStanding}
@@ -34,8 +32,8 @@ use Rattle.gaspi_model.specs.declared.states.Why.TheVariants as whys
 use Rattle.gaspi_model.proofs.Chains.{both}
 use Rattle.gaspi_model.proofs.Made.{IsFound, find_entry-ok, step-called, step-take, step-put}
 use Rattle.gaspi_model.proofs.Tables.{slice_get-set_same, slice_get-set_other}
-use Rattle.gaspi_model.proofs.Histories.{after-first, after-both, after-joined, leads}
-use Rattle.gaspi_model.proofs.Locality.{found-again}
+use Rattle.gaspi_model.proofs.Histories.{after-first, after-both, leads}
+use Rattle.gaspi_model.proofs.LocalSteps.{found-again}
 
 -- a number is another or not
 pub same-or-not : {P : Type 0} (a b : ℕ) → (a ≡ b → P) → ((a ≡ b → ⊥) → P) → P
@@ -367,8 +365,8 @@ no-put t u origin queue target m n e stands h kind less put =
     let lane' : stands.in_queues.in_queue.lane ≡ made.3.lane = (let some : ◌≡◌ {A = Option (List Entry)} (Some stands.in_queues.in_queue.lane) (Some made.3.lane) = sym stands.in_queues.in_queue.lane_there ∙ rw queue' f.is.is.in_queue in cc) in
     let number = found-number made.3.lane n made.3.place made.3.entry f.is.is.numbered f.is.is.in_lane in
     let earlier : has_earlier_write made.3.lane made.3.entry.number ≡ true =
-        write-earlier made.3.lane has.place has.entry made.3.entry.number (subst (λ (l : List Entry). slice_get l has.place ≡ Some has.entry) lane' has.there) has.writes
-        (rw (has.numbered, number) less) in
+    write-earlier made.3.lane has.place has.entry made.3.entry.number (subst (λ (l : List Entry). slice_get l has.place ≡ Some has.entry) lane' has.there) has.writes
+    (rw (has.numbered, number) less) in
     notify-waits made.3.lane made.3.entry (rw entry kind) f.is.permitted earlier
 
 pub order : (w : World) (earlier later rest : List Event) (origin queue target m n : ℕ) → is_legal w (earlier ++ later ++ Put origin queue target n Applied ∷ rest) ≡ true

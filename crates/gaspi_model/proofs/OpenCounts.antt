@@ -1,7 +1,7 @@
 -- What is carried, and what is open: each event keeps the queues of a rank sound.
-use Rattle.std.proofs.Common.{◌≡◌, ℕ, zero, suc, ◌+◌, ◌<◌, ◌≤◌, Bool, true, false, not, ◌==◌, ◌&&◌, ◌||◌, nat_lt, nat_le, List, [], ◌∷◌, ◌++◌, length, remove, Option, None, Some, Result, Ok, Err, refl, sym, ap, ◌∙◌, subst, arith, cond, ◌⊎◌, inl, inr, if◌then◌else◌}
+use Rattle.std.proofs.Common.{◌≡◌, ℕ, zero, suc, ◌+◌, ◌<◌, ◌≤◌, Bool, true, false, ◌||◌, nat_lt, nat_le, List, [], ◌∷◌, ◌++◌, length, remove, Option, None, Some, refl, sym, ap, ◌∙◌, subst, arith, cond, ◌⊎◌, inl, inr}
 use Rattle.std.specs.List.{slice_get, slice_set, sum_by, count_by, list_any}
-use Rattle.std.proofs.lemmas.Bool.{lt-ltb, ltb-true, le-ltb, leb-true, eq-eqb}
+use Rattle.std.proofs.lemmas.Bool.{ltb-true, leb-true}
 use Rattle.std.proofs.lemmas.List.Sums.{sum_by-cons, sum_by-append, sum_by-remove, count_by-le-length}
 use Rattle.std.proofs.lemmas.Option.{slice_get_within, get_or_from_slice_get}
 use Rattle.gaspi_types.specs.Lanes.{is_posted, is_posted_phase, is_carried, is_carried_phase, carried_count, has_posted, posted_entries}
@@ -9,9 +9,9 @@ use Rattle.gaspi_types.specs.declared.entries.Entry.{Entry}
 use Rattle.gaspi_types.specs.declared.entries.Kind.{Kind}
 use Rattle.gaspi_types.specs.declared.entries.Phase.{Phase}
 use Rattle.gaspi_types.specs.declared.entries.Phase.TheVariants as phases
-use Rattle.gaspi_model.specs.Calls.{changed_at, with_entries}
+use Rattle.gaspi_model.specs.Calls.{with_entries}
 use Rattle.gaspi_model.specs.Transfers.{with_phase}
-use Rattle.gaspi_model.specs.Sound.{AreAbove, AreRising, lane_from, queue_from, IsSoundQueue}
+use Rattle.gaspi_model.specs.Sound.{AreRising, lane_from, queue_from, IsSoundQueue}
 use Rattle.gaspi_model.specs.declared.states.Queue.{Queue}
 use Rattle.gaspi_model.proofs.Tables.{slice_get-set, sum_by-changed, remove-part, append-parts}
 
@@ -92,7 +92,7 @@ queue-lane depth q q' target lane lane' sound at lanes count carried fewer old =
   from_posted = λ t l here place e there posted.
       let less = fewer e.number in
       let sum : sum_by (lane_from e.number) (slice_set q.lanes target lane') + lane_from e.number lane ≡ sum_by (lane_from e.number) q.lanes + lane_from e.number lane' =
-          sum_by-changed (lane_from e.number) q.lanes target lane lane' at in
+      sum_by-changed (lane_from e.number) q.lanes target lane lane' at in
       let before = posted-of t l place e (slice_get-set q.lanes target t lane' l (rw lanes at here)) there posted in
       let total : queue_from e.number q' ≡ sum_by (lane_from e.number) (slice_set q.lanes target lane') = rw lanes refl in
       omega arith;

@@ -1,27 +1,23 @@
 -- The opening state is sound.
-use Rattle.std.proofs.Common.{◌≡◌, ℕ, ◌+◌, ◌<◌, ◌≤◌, Bool, true, false, ◌&&◌, ◌||◌, ◌==◌, List, [], ◌∷◌, Option, None, Some, refl, sym, ◌∙◌, subst, arith, cond, if◌then◌else◌, replicate, map}
+use Rattle.std.proofs.Common.{◌≡◌, ℕ, ◌+◌, ◌≤◌, Bool, true, false, ◌&&◌, ◌||◌, ◌==◌, List, [], ◌∷◌, Option, None, Some, refl, sym, ◌∙◌, subst, arith, cond, if◌then◌else◌, map}
 use Rattle.std.specs.List.{slice_get, count_by, list_any, range_with_len}
 use Rattle.std.specs.Option.{option_map}
 use Rattle.std.proofs.lemmas.Bool.Decides.{nat_tests}
-use Rattle.std.proofs.lemmas.List.{get_or-replicate, length-replicate}
+use Rattle.std.proofs.lemmas.List.{length-replicate}
 use Rattle.std.proofs.lemmas.List.FromFn.{length-map-range_with_len}
 use Rattle.std.proofs.lemmas.List.Folds.{sum_by-replicate}
 use Rattle.std.proofs.lemmas.List.Sums.{sum_by-cons}
-use Rattle.std.proofs.lemmas.Option.{slice_get-map, slice_get_within, get_or_from_slice_get}
+use Rattle.std.proofs.lemmas.Option.{slice_get-map}
 use Rattle.gaspi_types.specs.World.{World, IsWorld, is_caller}
 use Rattle.gaspi_types.specs.Lanes.{lane_owed}
 use Rattle.gaspi_types.specs.declared.shapes.CallerId.{CallerId}
 use Rattle.gaspi_model.specs.State.{opening, opening_memory, opening_posts, opening_queue, opening_thread, entries_owed, queue_owed, is_running}
+use Rattle.gaspi_model.proofs.Tables.{slice_get-replicate}
+use Rattle.gaspi_model.proofs.CoherentOpening.{opens-coherent}
 use Rattle.gaspi_model.specs.Sound.{IsSoundQueue, IsSoundPosts, IsSound}
 use Rattle.gaspi_types.specs.declared.entries.Entry.{Entry}
 use Rattle.gaspi_model.specs.declared.states.Queue.{Queue}
 use Rattle.gaspi_model.specs.declared.states.ThreadState.TheVariants.{Absent, Running}
-
--- what stands in a list of copies
-pub slice_get-replicate : {A : Type 0} (n : ℕ) (x y : A) (k : ℕ) → slice_get (replicate n x) k ≡ Some y → y ≡ x
-slice_get-replicate n x y k h =
-    let within : k < n = subst (λ (m : ℕ). k < m) (length-replicate n x) (slice_get_within (replicate n x) k y h) in
-    sym (get_or_from_slice_get (replicate n x) k y y h) ∙ get_or-replicate n k x y within
 
 option_map-some : {A B : Type 0} (f : A → B) (o : Option A) (y : B) → option_map f o ≡ Some y → (x : A) × (y ≡ f x)
 option_map-some f None y h = absurd (let no : ⊥ = cc in no)
@@ -121,4 +117,5 @@ opens w world = record {
   posts = λ rank posts at.
       let here = option_map-some (opening_posts w) (slice_get (range_with_len 0 w.limits.ranks) rank) posts (sym (slice_get-map (opening_posts w) (range_with_len 0 w.limits.ranks) rank) ∙ at) in
       rw here.1 (opening-sound w here.0 world);
+  coherent = opens-coherent w;
 }

@@ -22,6 +22,7 @@ use Rattle.gaspi_model.specs.State.{owed}
 use Rattle.gaspi_model.specs.Calls.{changed_at, with_entries, with_post, posts_done, counted}
 use Rattle.gaspi_model.specs.Transfers.{Found, with_lane, with_phase, put_with, taken_bytes, Parts}
 use Rattle.gaspi_model.specs.Step.{step}
+use Rattle.gaspi_model.specs.Coherence.{IsCoherent}
 use Rattle.gaspi_model.specs.Sound.{IsSoundPosts, IsSound, AreRising, events_left}
 use Rattle.gaspi_model.proofs.Rising.{AreRising-more, AreRising-phase, AreRising-remove, AreRising-post}
 use Rattle.gaspi_model.specs.declared.states.Queue.{Queue}
@@ -35,6 +36,7 @@ use Rattle.gaspi_model.proofs.Accounts.{take-owed, put-owed, kinds-two}
 use Rattle.gaspi_model.proofs.CallAccounts.{HasLanes, with_post-events, call-grows}
 use Rattle.gaspi_model.proofs.Chains.{both}
 use Rattle.gaspi_model.proofs.OpenCounts.{queue-phase, queue-remove, carried-more, carried-failed}
+use Rattle.gaspi_model.proofs.CoherentSteps.{steps-coherent}
 use Rattle.gaspi_model.proofs.CallQueues.{queues-changed, called-queues}
 
 -- a table keeps its length when an item is changed
@@ -263,31 +265,37 @@ steps s t (Called c call reply) sound h =
     let made = step-called s t c call reply h in
     let m = made.3 in
     let after = called-sound s.limits c.rank made.0 made.1 c.thread call reply made.2 (sound.posts c.rank made.0 m.posts_there) m.is in
+    let coherent = steps-coherent s t (Called c call reply) sound.coherent h in
     rw m.leaves (record {
       limits = sound.limits;
       ranks = length-set s.posts c.rank made.2.posts ∙ sound.ranks;
       memories = length-set s.memories c.rank made.2.memory ∙ sound.memories;
       posts = posts-sound s.limits s.posts c.rank made.2.posts after sound.posts;
+      coherent = subst IsCoherent m.leaves coherent;
     })
 steps s t (Take origin queue target number outcome) sound h =
     let made = step-take s t origin queue target number outcome h in
     let m = made.4 in
     let after = take-sound s.limits made.0 made.1 queue target number outcome made.2 made.3 (sound.posts origin made.0 m.posts_there) m.is in
+    let coherent = steps-coherent s t (Take origin queue target number outcome) sound.coherent h in
     rw m.leaves (record {
       limits = sound.limits;
       ranks = length-set s.posts origin made.2 ∙ sound.ranks;
       memories = sound.memories;
       posts = posts-sound s.limits s.posts origin made.2 after sound.posts;
+      coherent = subst IsCoherent m.leaves coherent;
     })
 steps s t (Put origin queue target number outcome) sound h =
     let made = step-put s t origin queue target number outcome h in
     let m = made.4 in
     let after = put-sound s.limits made.0 made.1 queue target number outcome made.2 made.3 (sound.posts origin made.0 m.posts_there) m.is in
+    let coherent = steps-coherent s t (Put origin queue target number outcome) sound.coherent h in
     rw m.leaves (record {
       limits = sound.limits;
       ranks = length-set s.posts origin made.2.posts ∙ sound.ranks;
       memories = length-set s.memories target made.2.memory ∙ sound.memories;
       posts = posts-sound s.limits s.posts origin made.2.posts after sound.posts;
+      coherent = subst IsCoherent m.leaves coherent;
     })
 
 -- each event adds one to the events of its owner

@@ -1,8 +1,10 @@
 -- Tables with one item changed.
-use Rattle.std.proofs.Common.{◌≤◌, ◌<◌, None, length, ◌++◌, ◌∙◌, arith, remove, ◌≡◌, ℕ, ◌+◌, zero, suc, List, [], ◌∷◌, Some, refl, sym, ap, subst, inl, inr, ◌⊎◌}
+use Rattle.std.proofs.Common.{replicate, take, drop, ◌≤◌, ◌<◌, Option, None, length, ◌++◌, ◌∙◌, arith, remove, ◌≡◌, ℕ, ◌+◌, zero, suc, List, [], ◌∷◌, Some, refl, sym, ap, subst, inl, inr, ◌⊎◌}
 use Rattle.std.specs.List.{slice_get, slice_set, sum_by, flat_map, enumerate_from}
+use Rattle.std.proofs.lemmas.List.{get_or-replicate, length-replicate}
 use Rattle.std.proofs.lemmas.List.Sums.{sum_by-set}
 use Rattle.std.proofs.lemmas.Option.{slice_get_within, get_or_from_slice_get}
+use Rattle.gaspi_model.specs.State.{entry_at}
 use Rattle.gaspi_model.specs.Calls.{changed_at}
 
 -- what stands in a table after a change: at the place what was set, elsewhere what was there
@@ -86,3 +88,42 @@ enumerate-at n (x ∷ xs) zero p at =
     let same : ◌≡◌ {A = ℕ × _} (n, x) p = cc in
     (sym (ap (λ (q : ℕ × _). q.0) same) ∙ omega arith, ap (λ (q : ℕ × _). Some q.1) same)
 enumerate-at n (x ∷ xs) (suc i) p at = let rest = enumerate-at (n + 1) xs i p at in (rest.0 ∙ omega arith, rest.1)
+
+-- what stands in a list of copies
+pub slice_get-replicate : {A : Type 0} (n : ℕ) (x y : A) (k : ℕ) → slice_get (replicate n x) k ≡ Some y → y ≡ x
+slice_get-replicate n x y k h =
+    let within : k < n = subst (λ (m : ℕ). k < m) (length-replicate n x) (slice_get_within (replicate n x) k y h) in
+    sym (get_or_from_slice_get (replicate n x) k y y h) ∙ get_or-replicate n k x y within
+
+-- what stands in a table of things that may be missing
+pub joined : {A : Type 0} (table : List (Option A)) (k : ℕ) (x : A) → entry_at table k ≡ Some x → slice_get table k ≡ Some (Some x)
+joined {A} table k x h = go (slice_get table k) refl
+  where
+    go : (o : Option (Option A)) → slice_get table k ≡ o → slice_get table k ≡ Some (Some x)
+    go None at = absurd (let none : ◌≡◌ {A = Option A} None (Some x) = rw at at h in let no : ⊥ = cc in no)
+    go (Some None) at = absurd (let none : ◌≡◌ {A = Option A} None (Some x) = rw at at h in let no : ⊥ = cc in no)
+    go (Some (Some y)) at = let some : ◌≡◌ {A = Option A} (Some y) (Some x) = rw at at h in at ∙ ap (λ (o : Option A). Some o) some
+
+-- Items of lists that were cut and joined.
+
+pub front-of-joined : {A : Type 0} (xs ys : List A) (k : ℕ) → k < length xs → slice_get (xs ++ ys) k ≡ slice_get xs k
+front-of-joined [] ys k less = absurd (let no : ⊥ = omega arith in no)
+front-of-joined (x ∷ xs) ys zero less = refl
+front-of-joined (x ∷ xs) ys (suc k) less = front-of-joined xs ys k (omega arith)
+
+pub behind-of-joined : {A : Type 0} (xs ys : List A) (k j : ℕ) → j ≡ length xs + k → slice_get (xs ++ ys) j ≡ slice_get ys k
+behind-of-joined [] ys k j is = let same : j ≡ k = omega arith in rw same refl
+behind-of-joined (x ∷ xs) ys k zero is = absurd (let no : ⊥ = omega arith in no)
+behind-of-joined (x ∷ xs) ys k (suc j) is = behind-of-joined xs ys k j (omega arith)
+
+pub front-of-taken : {A : Type 0} (n : ℕ) (xs : List A) (k : ℕ) → k < n → slice_get (take n xs) k ≡ slice_get xs k
+front-of-taken zero xs k less = absurd (let no : ⊥ = omega arith in no)
+front-of-taken (suc n) [] k less = refl
+front-of-taken (suc n) (x ∷ xs) zero less = refl
+front-of-taken (suc n) (x ∷ xs) (suc k) less = front-of-taken n xs k (omega arith)
+
+pub rest-of-dropped : {A : Type 0} (n : ℕ) (xs : List A) (k j : ℕ) → j ≡ n + k → slice_get (drop n xs) k ≡ slice_get xs j
+rest-of-dropped zero xs k j is = let same : j ≡ k = omega arith in rw same refl
+rest-of-dropped (suc n) [] k j is = refl
+rest-of-dropped (suc n) (x ∷ xs) k zero is = absurd (let no : ⊥ = omega arith in no)
+rest-of-dropped (suc n) (x ∷ xs) k (suc j) is = rest-of-dropped n xs k j (omega arith)

@@ -2,6 +2,7 @@ pub mod State
 pub mod Calls
 pub mod Transfers
 pub mod Step
+pub mod Coherence
 pub mod Sound
 pub mod Shards
 pub mod Changes

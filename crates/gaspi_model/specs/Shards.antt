@@ -7,7 +7,6 @@ use Rattle.gaspi_types.specs.declared.events.Event.{Event}
 use Rattle.gaspi_types.specs.declared.events.Event.TheVariants.{Called, Take, Put}
 use Rattle.gaspi_model.specs.Transfers.{Found, find_entry}
 use Rattle.gaspi_model.specs.declared.states.Posts.{Posts}
-use Rattle.gaspi_model.specs.declared.states.Memory.{Memory}
 use Rattle.gaspi_model.specs.declared.states.State.{State}
 use Rattle.gaspi_model.specs.declared.states.Why.{Why}
 use Rattle.gaspi_model.specs.declared.states.Why.TheVariants as whys

@@ -5,6 +5,7 @@ use Rattle.gaspi_types.specs.declared.entries.Entry.{Entry}
 use Rattle.gaspi_types.specs.World.{are_limits}
 use Rattle.gaspi_types.specs.declared.shapes.Limits.{Limits}
 use Rattle.gaspi_model.specs.State.{owed}
+use Rattle.gaspi_model.specs.Coherence.{IsCoherent}
 use Rattle.gaspi_model.specs.declared.states.Queue.{Queue}
 use Rattle.gaspi_model.specs.declared.states.Posts.{Posts}
 use Rattle.gaspi_model.specs.declared.states.State.{State}
@@ -48,6 +49,7 @@ pub record IsSound (s : State) : Type 0 where
   pub ranks : length s.posts ≡ s.limits.ranks
   pub memories : length s.memories ≡ s.limits.ranks
   pub posts : (rank : ℕ) (posts : Posts) → slice_get s.posts rank ≡ Some posts → IsSoundPosts s.limits posts
+  pub coherent : IsCoherent s
 
 -- the events that may still be recorded, in all ranks
 abbrev pub events_left : State → ℕ

@@ -1,26 +1,39 @@
 //! Laws of the machine: the contracts of functions that do nothing.
 
-ghost use Rattle.std.specs.Prelude.{◌≡◌, ℕ, ◌+◌, ◌≤◌, Ok, Some, IsOk, true, false, slice_get};
+ghost use Rattle.std.specs.Prelude.{◌≡◌, ◌≢◌, ℕ, ◌+◌, ◌<◌, ◌≤◌, ◌∷◌, ◌++◌, [], List, Ok, Some, IsOk, true, false, slice_get};
 ghost use Rattle.gaspi_types.specs.Need.{need_of};
+ghost use Rattle.gaspi_types.specs.Replies.{is_idle};
 ghost use Rattle.gaspi_types.specs.World.{World, IsWorld};
 ghost use Rattle.gaspi_types.specs.declared.calls.Call.{Call};
+ghost use Rattle.gaspi_types.specs.declared.calls.Call.TheVariants.{WriteNotify};
 ghost use Rattle.gaspi_types.specs.declared.events.Event.{Event};
-ghost use Rattle.gaspi_types.specs.declared.events.Event.TheVariants.{Called};
+ghost use Rattle.gaspi_types.specs.declared.events.Event.TheVariants.{Called, Put};
+ghost use Rattle.gaspi_types.specs.declared.events.Outcome.TheVariants.{Applied};
 ghost use Rattle.gaspi_types.specs.declared.events.Transfer.{Transfer};
 ghost use Rattle.gaspi_types.specs.declared.replies.Ready.{Ready};
+ghost use Rattle.gaspi_types.specs.declared.replies.Reply.{Reply};
+ghost use Rattle.gaspi_types.specs.declared.replies.Reply.TheVariants as replies;
+ghost use Rattle.gaspi_types.specs.declared.shapes.CallerId.{CallerId};
 ghost use Rattle.gaspi_model.specs.Calls.{recorded_reply};
+ghost use Rattle.gaspi_model.specs.Changes.{IsOnlyCounted, IsPutDone};
+ghost use Rattle.gaspi_model.specs.Order.{IsNotificationStanding, IsWriteStanding};
+ghost use Rattle.gaspi_model.specs.Shards.{AgreeOn, ComeToSame, HaveSamePart, is_shard, owner_of, shards};
 ghost use Rattle.gaspi_model.specs.State.{opening};
-ghost use Rattle.gaspi_model.specs.Step.{step, ends_caller, answer_in, is_active, room_taken, transfer_event};
+ghost use Rattle.gaspi_model.specs.Step.{step, reached, is_legal, ends_caller, answer_in, is_active, room_taken, transfer_event};
 ghost use Rattle.gaspi_model.specs.Sound.{IsSound, events_left};
 ghost use Rattle.gaspi_model.specs.Transfers.{transfers};
+ghost use Rattle.gaspi_model.specs.declared.states.Posts.{Posts};
 ghost use Rattle.gaspi_model.specs.declared.states.State.{State};
 
-/// The opening state is sound, and every step keeps a state sound: in every state of a legal history what a rank has
-/// recorded and owes is at most EVENTS, its next entry number is at most 256 times its events, and the numbers of a
-/// lane rise and are below its origin's next number.
+/// The opening state is sound, and every step keeps a state sound, so every state of a legal history is: what a rank has
+/// recorded and owes is at most EVENTS; its next entry number is at most 256 times its events; the numbers of a lane
+/// rise and are below its origin's next number; a lane has at most DEPTH carried entries; the entries of a queue from
+/// its least posted one on are at most its open count, which is at most DEPTH; and the tables of segments, the memories
+/// and the ranges of entries agree.
 pub fn soundness()
     ensures opens { (w : World) → IsWorld w → IsSound (opening w) }
     ensures steps { (s t : State) (e : Event) → IsSound s → step s e ≡ Ok t → IsSound t }
+    ensures histories { (w : World) (history : List Event) (s : State) → IsWorld w → reached w history ≡ Ok s → IsSound s }
     ensures limits { (s t : State) (e : Event) → step s e ≡ Ok t → t.limits ≡ s.limits }
     // Each event takes one of the events that are left.
     ensures counts { (s t : State) (e : Event) → IsSound s → step s e ≡ Ok t → events_left t + 1 ≡ events_left s }
@@ -37,4 +50,44 @@ pub fn enabled()
     ensures call { (s : State) (rank thread : ℕ) (call : Call) (ready : Ready) → IsSound s → is_active s rank thread ≡ true
         → room_taken s rank + need_of call false false ≤ s.limits.events → answer_in s rank thread call ≡ Some ready
         → IsOk (step s (Called (record { rank = rank; thread = thread }) call (recorded_reply ready))) }
+{}
+
+/// What events change. A put that is made changes exactly the range or the one slot that its entry states, and takes the
+/// entry out of its lane; a refusal or a timeout changes nothing; and in both cases nothing else has changed but the
+/// count of events. (GASPI: one-sided communication, notifications, timeouts)
+pub fn changes()
+    ensures put { (s t : State) (origin queue target number : ℕ) → IsSound s → step s (Put origin queue target number Applied) ≡ Ok t
+        → IsPutDone s t origin queue target number }
+    ensures idle { (s t : State) (c : CallerId) (call : Call) (reply : Reply) → is_idle reply ≡ true → step s (Called c call reply) ≡ Ok t
+        → IsOnlyCounted s t c.rank }
+{}
+
+/// A notification comes after the earlier writes of its lane. The entries of a post stand in their lane from the post on.
+/// In a legal history, where a write stands in a lane after some events, and later a notification of that lane with a
+/// greater number is put, the write was put in between. (GASPI: notification order)
+pub fn notification_order()
+    ensures posted { (w : World) (history : List Event) (c : CallerId) (seg offset rank rseg roffset size note value queue : ℕ) (s : State) (posts : Posts)
+        → IsWorld w → reached w history ≡ Ok s → slice_get s.posts c.rank ≡ Some posts
+        → is_legal w (history ++ Called c (WriteNotify seg offset rank rseg roffset size note value queue) replies.Done ∷ []) ≡ true
+        → IsWriteStanding w (history ++ Called c (WriteNotify seg offset rank rseg roffset size note value queue) replies.Done ∷ []) c.rank queue rank posts.next
+        × IsNotificationStanding w (history ++ Called c (WriteNotify seg offset rank rseg roffset size note value queue) replies.Done ∷ []) c.rank queue rank (posts.next + 1) }
+    ensures order { (w : World) (earlier later rest : List Event) (origin queue target m n : ℕ)
+        → is_legal w (earlier ++ later ++ Put origin queue target n Applied ∷ rest) ≡ true
+        → IsWriteStanding w earlier origin queue target m → IsNotificationStanding w (earlier ++ later) origin queue target n → m < n
+        → (place : ℕ) × (slice_get later place ≡ Some (Put origin queue target m Applied)) }
+{}
+
+/// Where a history is legal, so is each part that it begins with.
+pub fn prefixes()
+    ensures { (w : World) (earlier later : List Event) → is_legal w (earlier ++ later) ≡ true → is_legal w earlier ≡ true }
+{}
+
+/// An event is a matter of its shards. It leaves every other part as it was; whether it is a step, the cause where it is
+/// none, and the new parts of its shards depend on the limits and on those parts alone; and which shards it has, its
+/// owner's among them, depends on its owner's part.
+pub fn locality()
+    ensures frame { (s t : State) (e : Event) (rank : ℕ) → step s e ≡ Ok t → is_shard (shards s e) rank ≡ false → HaveSamePart t s rank }
+    ensures determined { (s s' : State) (e : Event) → AgreeOn (shards s e) s s' → ComeToSame (shards s e) (step s e) (step s' e) }
+    ensures owner { (s : State) (e : Event) → is_shard (shards s e) (owner_of e) ≡ true }
+    ensures shards { (s s' : State) (e : Event) → HaveSamePart s s' (owner_of e) → shards s e ≡ shards s' e }
 {}

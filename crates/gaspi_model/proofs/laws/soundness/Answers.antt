@@ -1,6 +1,7 @@
 use Rattle.gaspi_model.proofs.SoundOpening.{opens}
 use Rattle.gaspi_model.proofs.SoundSteps.{steps, counts, limits-stay}
 use Rattle.gaspi_model.proofs.Activity.{active}
+use Rattle.gaspi_model.proofs.Histories.{reached-sound}
 use Rattle.gaspi_model.proofs.laws.soundness.Goals as goal
 
 pub returns-clause-opens : goal.returns-clause-opens
@@ -17,3 +18,6 @@ returns-clause-active c = active
 
 pub returns-clause-limits : goal.returns-clause-limits
 returns-clause-limits c = limits-stay
+
+pub returns-clause-histories : goal.returns-clause-histories
+returns-clause-histories c = reached-sound

@@ -1,0 +1,80 @@
+-- What the parts of a state have in common: the tables of segments in the posts agree with the memories, and the ranges
+-- of entries lie within their segments. (GASPI: segments, one-sided communication)
+use Rattle.std.specs.Prelude.{◌≡◌, ℕ, ◌<◌, true, List, map, length, nat_lt, Option, Some, slice_get}
+use Rattle.std.specs.Option.{option_map}
+use Rattle.gaspi_types.specs.Posts.{extent_in}
+use Rattle.gaspi_types.specs.SegmentBytes.{is_within}
+use Rattle.gaspi_types.specs.declared.entries.Entry.{Entry}
+use Rattle.gaspi_types.specs.declared.entries.Extent.{Extent}
+use Rattle.gaspi_types.specs.declared.entries.ByteRange.{ByteRange}
+use Rattle.gaspi_types.specs.declared.entries.Kind.{Kind}
+use Rattle.gaspi_types.specs.declared.entries.Kind.TheVariants.{Write, Notify}
+use Rattle.gaspi_types.specs.declared.entries.Phase.{Phase}
+use Rattle.gaspi_types.specs.declared.entries.Phase.TheVariants.{Posted, Carried, Failed}
+use Rattle.gaspi_model.specs.State.{entry_at}
+use Rattle.gaspi_model.specs.declared.states.Queue.{Queue}
+use Rattle.gaspi_model.specs.declared.states.Posts.{Posts}
+use Rattle.gaspi_model.specs.declared.states.Segment.{Segment}
+use Rattle.gaspi_model.specs.declared.states.Memory.{Memory}
+use Rattle.gaspi_model.specs.declared.states.State.{State}
+
+-- the generation and the size of a segment
+abbrev pub extent_of : Segment → Extent
+extent_of s = record { generation = s.generation; size = length s.bytes }
+
+-- the segments of a memory as a table
+abbrev pub extents_of : Memory → List (Option Extent)
+extents_of memory = map (option_map extent_of) memory.segments
+
+-- how many slots its segments have
+abbrev pub slot_counts : Memory → List (Option ℕ)
+slot_counts memory = map (option_map (λ (s : Segment). length s.slots)) memory.segments
+
+-- the tables of own segments of all ranks
+abbrev pub own_tables : List Posts → List (List (Option Extent))
+own_tables posts = map (λ (p : Posts). p.own) posts
+
+-- a range is that of a segment that is there in its generation, and lies within it
+pub record LiesIn (table : List (Option Extent)) (range : ByteRange) : Type 0 where
+  pub extent : Extent
+  pub there : extent_in table range.segment ≡ Some extent
+  pub generation : extent.generation ≡ range.generation
+  pub within : is_within range.offset range.size extent.size ≡ true
+
+-- a range lies within the segment of its generation, where that is there
+abbrev pub LiesInIfThere : List (Option Extent) → ByteRange → Type 0
+LiesInIfThere table range = (extent : Extent) → extent_in table range.segment ≡ Some extent → extent.generation ≡ range.generation
+    → is_within range.offset range.size extent.size ≡ true
+
+-- what a write has to do with its own range: a posted one will take its bytes, a carried one has taken them
+abbrev pub HasSource : List (Option Extent) → ByteRange → Phase → Type 0
+HasSource mine own Posted = LiesIn mine own
+HasSource mine own (Carried bytes) = length bytes ≡ own.size
+HasSource mine own Failed = Unit {0}
+
+-- an entry's ranges and its slot, where its origin and its target have those segments
+abbrev pub Fits : ℕ → List (Option Extent) → List (Option Extent) → Entry → Type 0
+Fits notes mine theirs e = of_kind e.kind
+  where
+    of_kind : Kind → Type 0
+    of_kind (Write own target) = (own.size ≡ target.size) × (nat_lt target.segment 32 ≡ true) × LiesInIfThere theirs target × HasSource mine own e.phase
+    of_kind (Notify target value) = (target.note < notes)
+
+-- each entry of the queues of an origin fits
+abbrev pub AllFit : ℕ → List (List (Option Extent)) → ℕ → List Queue → Type 0
+AllFit notes tables origin queues =
+    (queue : ℕ) (q : Queue) → slice_get queues queue ≡ Some q → (target : ℕ) (lane : List Entry) → slice_get q.lanes target ≡ Some lane
+    → (place : ℕ) (e : Entry) → slice_get lane place ≡ Some e → (mine theirs : List (Option Extent)) → slice_get tables origin ≡ Some mine → slice_get tables target ≡ Some theirs
+    → Fits notes mine theirs e
+
+-- what a rank knows of the segments of others is their size, where they are there in that generation
+abbrev pub Knows : List (List (Option Extent)) → List (List (Option Extent)) → Type 0
+Knows tables known =
+    (rank : ℕ) (table theirs : List (Option Extent)) → slice_get known rank ≡ Some table → slice_get tables rank ≡ Some theirs
+    → (segment : ℕ) (x y : Extent) → extent_in table segment ≡ Some x → extent_in theirs segment ≡ Some y → y.generation ≡ x.generation → y.size ≡ x.size
+
+pub record IsCoherent (s : State) : Type 0 where
+  pub own : (rank : ℕ) (posts : Posts) (memory : Memory) → slice_get s.posts rank ≡ Some posts → slice_get s.memories rank ≡ Some memory → posts.own ≡ extents_of memory
+  pub slots : (rank : ℕ) (memory : Memory) → slice_get s.memories rank ≡ Some memory → (segment n : ℕ) → entry_at (slot_counts memory) segment ≡ Some n → n ≡ s.limits.notes
+  pub known : (rank : ℕ) (posts : Posts) → slice_get s.posts rank ≡ Some posts → Knows (own_tables s.posts) posts.known
+  pub entries : (origin : ℕ) (posts : Posts) → slice_get s.posts origin ≡ Some posts → AllFit s.limits.notes (own_tables s.posts) origin posts.queues
