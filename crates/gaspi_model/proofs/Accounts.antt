@@ -1,5 +1,5 @@
 -- What a step does to the room that a rank has taken.
-use Rattle.std.proofs.Common.{◌≡◌, ℕ, ◌+◌, ◌*◌, true, List, [], ◌∷◌, length, Option, None, Some, Ok, refl, sym, ap, ◌∙◌, subst, arith, not, nat_lt, nat_le, ◌==◌}
+use Rattle.std.proofs.Common.{◌≡◌, ℕ, ◌+◌, ◌*◌, true, List, [], ◌∷◌, length, Option, None, Some, Result, Ok, refl, sym, ap, ◌∙◌, subst, arith, not, nat_lt, nat_le, ◌==◌}
 use Rattle.std.specs.List.{slice_get, slice_set, sum_by, remove}
 use Rattle.std.proofs.lemmas.List.Sums.{sum_by-remove, sum_by-cons}
 use Rattle.std.proofs.lemmas.Option.{slice_get_within, get_or_from_slice_get}
@@ -12,16 +12,17 @@ use Rattle.gaspi_types.specs.declared.shapes.Limits.{Limits}
 use Rattle.gaspi_types.specs.declared.events.Outcome.{Outcome}
 use Rattle.gaspi_types.specs.declared.events.Outcome.TheVariants.{Applied, Failed}
 use Rattle.gaspi_model.specs.State.{owed, queue_owed}
-use Rattle.gaspi_model.specs.Calls.{changed_at, counted, write_notify_finds}
+use Rattle.gaspi_model.specs.Calls.{changed_at, counted, asked_finds}
 use Rattle.gaspi_model.specs.Transfers.{Found, with_lane, with_phase, taken_bytes, Parts}
 use Rattle.gaspi_model.specs.declared.states.Queue.{Queue}
 use Rattle.gaspi_model.specs.declared.states.Posts.{Posts}
 use Rattle.gaspi_model.specs.declared.states.Memory.{Memory}
-use Rattle.gaspi_types.specs.Posts.{extent_in, known_extent, write_notify_kinds}
+use Rattle.gaspi_types.specs.Posts.{extent_in, known_extent, write_kinds, notify_kinds, write_notify_kinds}
 use Rattle.gaspi_types.specs.SegmentBytes.{is_transfer_size, is_within}
 use Rattle.gaspi_types.specs.declared.entries.Extent.{Extent}
 use Rattle.gaspi_types.specs.declared.replies.Reply.{Reply}
 use Rattle.gaspi_types.specs.declared.replies.Reply.TheVariants as replies
+use Rattle.gaspi_types.specs.declared.replies.Refusal.{Refusal}
 use Rattle.gaspi_types.specs.declared.replies.Refusal.TheVariants.{BadRank, BadQueue, QueueBroken}
 use Rattle.gaspi_model.proofs.Chains.{both, bind_then, check_then, found_then, absent_then, same_Ok}
 use Rattle.gaspi_model.proofs.Made.{IsFound, IsTake, IsPut}
@@ -99,7 +100,26 @@ put-owed posts memory queue target number Failed after at h =
 
 -- A call that is recorded: the room that is taken grows by its charge.
 
--- what a write with its notification asks for is two entries
+-- a write asks for one entry, and so does a notification
+pub kinds-write : (me : ℕ) (own : List (Option Extent)) (known : List (List (Option Extent))) (seg offset rank rseg roffset size : ℕ) (kinds : List Kind)
+    → write_kinds me own known seg offset rank rseg roffset size ≡ Ok kinds → length kinds ≡ 1
+kinds-write me own known seg offset rank rseg roffset size kinds h =
+    found_then (extent_in own seg) _ _ kinds h (λ mine hm h1.
+    found_then (known_extent me own known rank rseg) _ _ kinds h1 (λ theirs ht h2.
+    check_then (is_transfer_size size) _ _ kinds h2 (λ sized h3.
+    check_then (is_within offset size mine.size) _ _ kinds h3 (λ from h4.
+    check_then (is_within roffset size theirs.size) _ _ kinds h4 (λ to h5.
+    sym (ap length (same_Ok _ _ h5)))))))
+
+pub kinds-notify : (notes me : ℕ) (own : List (Option Extent)) (known : List (List (Option Extent))) (rseg rank note value : ℕ) (kinds : List Kind)
+    → notify_kinds notes me own known rseg rank note value ≡ Ok kinds → length kinds ≡ 1
+kinds-notify notes me own known rseg rank note value kinds h =
+    found_then (known_extent me own known rank rseg) _ _ kinds h (λ theirs ht h1.
+    check_then (nat_lt note notes) _ _ kinds h1 (λ noted h2.
+    check_then (not (value == 0)) _ _ kinds h2 (λ valued h3.
+    sym (ap length (same_Ok _ _ h3)))))
+
+-- a write with its notification asks for two
 pub kinds-two : (notes me : ℕ) (own : List (Option Extent)) (known : List (List (Option Extent))) (seg offset rank rseg roffset size note value : ℕ) (kinds : List Kind)
     → write_notify_kinds notes me own known seg offset rank rseg roffset size note value ≡ Ok kinds → length kinds ≡ 2
 kinds-two notes me own known seg offset rank rseg roffset size note value kinds h =
@@ -112,22 +132,21 @@ kinds-two notes me own known seg offset rank rseg roffset size note value kinds 
     check_then (not (value == 0)) _ _ kinds h6 (λ valued h7.
     sym (ap length (same_Ok _ _ h7)))))))))
 
--- a write with its notification that was taken
-pub record IsPosted (limits : Limits) (me : ℕ) (posts : Posts) (seg offset rank rseg roffset size note value queue : ℕ) (reply : Option Reply) (q : Queue) (kinds : List Kind) : Type 0 where
+-- a post that was taken
+pub record IsPosted (limits : Limits) (posts : Posts) (rank queue : ℕ) (asked : Result (List Kind) Refusal) (reply : Option Reply) (q : Queue) (kinds : List Kind) : Type 0 where
   pub ranked : nat_lt rank limits.ranks ≡ true
   pub in_posts : slice_get posts.queues queue ≡ Some q
-  pub asked : write_notify_kinds limits.notes me posts.own posts.known seg offset rank rseg roffset size note value ≡ Ok kinds
+  pub asks : asked ≡ Ok kinds
   pub whole : q.broken ≡ None
   pub room : nat_le (q.open_count + length kinds) limits.depth ≡ true
   pub done : reply ≡ Some replies.Done
 
-pub post-ok : (limits : Limits) (me : ℕ) (posts : Posts) (seg offset rank rseg roffset size note value queue : ℕ) (reply : Option Reply)
-    → write_notify_finds limits me posts seg offset rank rseg roffset size note value queue ≡ Ok reply
-    → (q : Queue) × (kinds : List Kind) × IsPosted limits me posts seg offset rank rseg roffset size note value queue reply q kinds
-post-ok limits me posts seg offset rank rseg roffset size note value queue reply h =
+pub post-ok : (limits : Limits) (posts : Posts) (rank queue : ℕ) (asked : Result (List Kind) Refusal) (reply : Option Reply) → asked_finds limits posts rank queue asked ≡ Ok reply
+    → (q : Queue) × (kinds : List Kind) × IsPosted limits posts rank queue asked reply q kinds
+post-ok limits posts rank queue asked reply h =
     check_then (nat_lt rank limits.ranks) BadRank _ reply h (λ ranked h1.
     found_then (slice_get posts.queues queue) BadQueue _ reply h1 (λ q hq h2.
-    bind_then (write_notify_kinds limits.notes me posts.own posts.known seg offset rank rseg roffset size note value) _ reply h2 (λ kinds hk h3.
+    bind_then asked _ reply h2 (λ kinds hk h3.
     absent_then q.broken QueueBroken _ reply h3 (λ whole h4.
     check_then (nat_le (q.open_count + length kinds) limits.depth) _ _ reply h4 (λ room h5.
-    (q, kinds, record { ranked = ranked; in_posts = hq; asked = hk; whole = whole; room = room; done = sym (same_Ok _ _ h5) }))))))
+    (q, kinds, record { ranked = ranked; in_posts = hq; asks = hk; whole = whole; room = room; done = sym (same_Ok _ _ h5) }))))))

@@ -3,11 +3,11 @@ use Rattle.std.proofs.Common.{◌≡◌, ℕ, Bool, true, false, ◌&&◌, ◌==
 use Rattle.std.specs.List.{slice_get, slice_set}
 use Rattle.std.proofs.lemmas.Bool.{eqb-true, eqb-false}
 use Rattle.gaspi_types.specs.Replies.{is_idle}
-use Rattle.gaspi_types.specs.Posts.{write_notify_kinds}
+use Rattle.gaspi_types.specs.Posts.{write_kinds, notify_kinds, write_notify_kinds}
 use Rattle.gaspi_types.specs.declared.entries.Kind.{Kind}
 use Rattle.gaspi_types.specs.declared.shapes.Limits.{Limits}
 use Rattle.gaspi_types.specs.declared.calls.Call.{Call}
-use Rattle.gaspi_types.specs.declared.calls.Call.TheVariants.{Store, Load, WriteNotify, Wait, Waitsome, Reset, End}
+use Rattle.gaspi_types.specs.declared.calls.Call.TheVariants.{Store, Load, Write, Notify, WriteNotify, Wait, Waitsome, Reset, End}
 use Rattle.gaspi_types.specs.declared.replies.Refusal.{Refusal}
 use Rattle.gaspi_types.specs.declared.events.Outcome.{Outcome}
 use Rattle.gaspi_types.specs.declared.events.Outcome.TheVariants.{Applied, Failed}
@@ -47,6 +47,10 @@ threads-done : (limits : Limits) (me : ℕ) (posts : Posts) (caller : ℕ) (call
     → slice_get (posts_done limits me posts caller call).threads thread ≡ slice_get posts.threads thread
 threads-done limits me posts caller (Store seg offset bytes) thread h = refl
 threads-done limits me posts caller (Load seg offset size) thread h = refl
+threads-done limits me posts caller (Write seg offset rank rseg roffset size queue) thread h =
+    ap (λ (ts : List ThreadState). slice_get ts thread) (threads-post posts queue rank (write_kinds me posts.own posts.known seg offset rank rseg roffset size))
+threads-done limits me posts caller (Notify rseg rank note value queue) thread h =
+    ap (λ (ts : List ThreadState). slice_get ts thread) (threads-post posts queue rank (notify_kinds limits.notes me posts.own posts.known rseg rank note value))
 threads-done limits me posts caller (WriteNotify seg offset rank rseg roffset size note value queue) thread h =
     ap (λ (ts : List ThreadState). slice_get ts thread) (threads-post posts queue rank (write_notify_kinds limits.notes me posts.own posts.known seg offset rank rseg roffset size note value))
 threads-done limits me posts caller (Wait queue) thread h = refl

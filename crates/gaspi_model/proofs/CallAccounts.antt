@@ -1,30 +1,30 @@
 -- A call that is recorded: the room that is taken grows by its charge.
-use Rattle.std.proofs.Common.{◌≡◌, ℕ, ◌+◌, ◌<◌, Bool, true, false, List, [], ◌++◌, length, Option, None, Some, Result, Ok, Err, refl, sym, subst, arith, cond, get_or, if◌then◌else◌}
+use Rattle.std.proofs.Common.{◌≡◌, ℕ, ◌+◌, ◌*◌, ◌<◌, Bool, true, false, List, [], ◌++◌, length, Option, None, Some, Result, Ok, Err, refl, sym, subst, arith, cond, get_or, if◌then◌else◌}
 use Rattle.std.specs.List.{slice_get, slice_set}
 use Rattle.std.proofs.lemmas.Bool.{ltb-true}
 use Rattle.std.proofs.lemmas.List.Sums.{sum_by-append}
 use Rattle.std.proofs.lemmas.Option.{slice_get-get_or}
 use Rattle.gaspi_types.specs.Lanes.{lane_owed, posted_entries}
 use Rattle.gaspi_types.specs.Replies.{is_idle}
-use Rattle.gaspi_types.specs.Posts.{write_notify_kinds}
+use Rattle.gaspi_types.specs.Posts.{write_kinds, notify_kinds, write_notify_kinds}
 use Rattle.gaspi_types.specs.declared.entries.Entry.{Entry}
 use Rattle.gaspi_types.specs.declared.entries.Kind.{Kind}
 use Rattle.gaspi_types.specs.declared.shapes.Limits.{Limits}
 use Rattle.gaspi_types.specs.declared.calls.Call.{Call}
-use Rattle.gaspi_types.specs.declared.calls.Call.TheVariants.{Store, Load, WriteNotify, Wait, Waitsome, Reset, End}
+use Rattle.gaspi_types.specs.declared.calls.Call.TheVariants.{Store, Load, Write, Notify, WriteNotify, Wait, Waitsome, Reset, End}
 use Rattle.gaspi_types.specs.declared.replies.Reply.{Reply}
 use Rattle.gaspi_types.specs.declared.replies.Reply.TheVariants as replies
 use Rattle.gaspi_types.specs.declared.replies.Refusal.{Refusal}
 use Rattle.gaspi_types.specs.declared.replies.Refusal.TheVariants.{CallerEnded}
 use Rattle.gaspi_model.specs.State.{owed, queue_owed, is_running, thread_at}
-use Rattle.gaspi_model.specs.Calls.{changed_at, with_entries, with_post, posts_after, counted, charge, answer, call_finds, ready_of, recorded_reply}
+use Rattle.gaspi_model.specs.Calls.{changed_at, with_entries, with_post, posts_after, counted, charge, post_charge, answer, asked_finds, call_finds, ready_of, recorded_reply}
 use Rattle.gaspi_model.specs.declared.states.Queue.{Queue}
 use Rattle.gaspi_model.specs.declared.states.ThreadState.{ThreadState}
 use Rattle.gaspi_model.specs.declared.states.ThreadState.TheVariants as threads
 use Rattle.gaspi_model.specs.declared.states.Posts.{Posts}
 use Rattle.gaspi_model.specs.declared.states.Memory.{Memory}
 use Rattle.gaspi_model.proofs.Tables.{sum_by-changed, changed_at-found}
-use Rattle.gaspi_model.proofs.Accounts.{entries_owed-queue, queue_owed-lane, lane_owed-posted, kinds-two, IsPosted, post-ok}
+use Rattle.gaspi_model.proofs.Accounts.{entries_owed-queue, queue_owed-lane, lane_owed-posted, kinds-write, kinds-notify, kinds-two, IsPosted, post-ok}
 
 -- each queue has that many lanes
 abbrev pub HasLanes : ℕ → Posts → Type 0
@@ -40,17 +40,15 @@ queue_owed-entries q target entries within =
     rw (changed_at-found q.lanes target lane (λ (l : List Entry). l ++ entries) at) (omega arith)
 
 -- the posts after a post that was taken
-post-owed : (limits : Limits) (me : ℕ) (posts : Posts) (seg offset rank rseg roffset size note value queue : ℕ) (reply : Option Reply) (q : Queue) (kinds : List Kind) → HasLanes limits.ranks posts
-    → IsPosted limits me posts seg offset rank rseg roffset size note value queue reply q kinds
-    → owed (with_post posts queue rank (write_notify_kinds limits.notes me posts.own posts.known seg offset rank rseg roffset size note value)) ≡ owed posts + 4
-post-owed limits me posts seg offset rank rseg roffset size note value queue reply q kinds lanes h =
+post-owed : (limits : Limits) (posts : Posts) (rank queue : ℕ) (asked : Result (List Kind) Refusal) (reply : Option Reply) (q : Queue) (kinds : List Kind) → HasLanes limits.ranks posts
+    → IsPosted limits posts rank queue asked reply q kinds → owed (with_post posts queue rank asked) ≡ owed posts + 2 * length kinds
+post-owed limits posts rank queue asked reply q kinds lanes h =
     let within : rank < length q.lanes = subst (λ (n : ℕ). rank < n) (sym (lanes queue q h.in_posts)) (ltb-true rank limits.ranks h.ranked) in
-    let two = kinds-two limits.notes me posts.own posts.known seg offset rank rseg roffset size note value kinds h.asked in
     let entries = posted_entries posts.next kinds in
     let more = lane_owed-posted posts.next kinds in
     let one = queue_owed-entries q rank entries within in
     let all = entries_owed-queue posts.queues queue q (with_entries rank entries) h.in_posts in
-    rw h.asked (omega arith)
+    rw h.asks (omega arith)
 
 -- a thread of a rank that ends
 ended-owed : (posts : Posts) (thread : ℕ) → is_running (thread_at posts thread) ≡ true
@@ -94,14 +92,21 @@ idle-grows : (b : Bool) (posts : Posts) → (counted (if b then posts else posts
 idle-grows true posts = omega arith
 idle-grows false posts = omega arith
 
-posted-grows : (limits : Limits) (me : ℕ) (posts : Posts) (thread seg offset rank rseg roffset size note value queue : ℕ) (reply : Option Reply) (q : Queue) (kinds : List Kind) → HasLanes limits.ranks posts
-    → IsPosted limits me posts seg offset rank rseg roffset size note value queue reply q kinds
-    → Grows limits me posts thread (WriteNotify seg offset rank rseg roffset size note value queue) replies.Done
-posted-grows limits me posts thread seg offset rank rseg roffset size note value queue reply q kinds lanes h =
-    let asked = write_notify_kinds limits.notes me posts.own posts.known seg offset rank rseg roffset size note value in
-    let owes = post-owed limits me posts seg offset rank rseg roffset size note value queue reply q kinds lanes h in
+-- a post, by what it asks for: so many entries, where it is not refused
+posted-grows : (limits : Limits) (posts : Posts) (rank queue count : ℕ) (asked : Result (List Kind) Refusal) (finds : Result (Option Reply) Refusal) → HasLanes limits.ranks posts
+    → ((kinds : List Kind) → asked ≡ Ok kinds → length kinds ≡ count) → asked_finds limits posts rank queue asked ≡ finds
+    → (counted (if is_idle (recorded_reply (ready_of finds)) then posts else with_post posts queue rank asked)).events
+    + owed (counted (if is_idle (recorded_reply (ready_of finds)) then posts else with_post posts queue rank asked)) ≡ posts.events + owed posts + post_charge count (recorded_reply (ready_of finds))
+posted-grows limits posts rank queue count asked (Ok None) lanes counts is = omega arith
+posted-grows limits posts rank queue count asked (Ok (Some reply)) lanes counts is =
+    let posted = post-ok limits posts rank queue asked (Some reply) is in
+    let p = posted.2 in
+    let same : reply ≡ replies.Done = let done = p.done in cc in
+    let owes = post-owed limits posts rank queue asked (Some reply) posted.0 posted.1 lanes p in
+    let many = counts posted.1 p.asks in
     let events = with_post-events posts queue rank asked in
-    omega arith
+    rw same (omega arith)
+posted-grows limits posts rank queue count asked (Err refusal) lanes counts is = omega arith
 
 waited-grows : (b : Bool) (posts : Posts) (queue : ℕ) → (counted (if b then posts else (record posts { queues = changed_at posts.queues queue (λ (q : Queue). record q { open_count = 0 }) }))).events
     + owed (counted (if b then posts else (record posts { queues = changed_at posts.queues queue (λ (q : Queue). record q { open_count = 0 }) }))) ≡ posts.events + owed posts + 1
@@ -114,13 +119,15 @@ running-grows : (limits : Limits) (me : ℕ) (posts : Posts) (memory : Memory) (
     → Grows limits me posts thread call (recorded_reply (ready_of finds))
 running-grows limits me posts memory thread (Store seg offset bytes) finds lanes running is = idle-grows (is_idle (recorded_reply (ready_of finds))) posts
 running-grows limits me posts memory thread (Load seg offset size) finds lanes running is = idle-grows (is_idle (recorded_reply (ready_of finds))) posts
-running-grows limits me posts memory thread (WriteNotify seg offset rank rseg roffset size note value queue) (Ok None) lanes running is = omega arith
-running-grows limits me posts memory thread (WriteNotify seg offset rank rseg roffset size note value queue) (Ok (Some reply)) lanes running is =
-    let posted = post-ok limits me posts seg offset rank rseg roffset size note value queue (Some reply) is in
-    let same : reply ≡ replies.Done = let done = posted.2.done in cc in
-    subst (λ (r : Reply). Grows limits me posts thread (WriteNotify seg offset rank rseg roffset size note value queue) r) (sym same)
-    (posted-grows limits me posts thread seg offset rank rseg roffset size note value queue (Some reply) posted.0 posted.1 lanes posted.2)
-running-grows limits me posts memory thread (WriteNotify seg offset rank rseg roffset size note value queue) (Err refusal) lanes running is = omega arith
+running-grows limits me posts memory thread (Write seg offset rank rseg roffset size queue) finds lanes running is =
+    posted-grows limits posts rank queue 1 (write_kinds me posts.own posts.known seg offset rank rseg roffset size) finds lanes
+    (λ kinds asks. kinds-write me posts.own posts.known seg offset rank rseg roffset size kinds asks) is
+running-grows limits me posts memory thread (Notify rseg rank note value queue) finds lanes running is =
+    posted-grows limits posts rank queue 1 (notify_kinds limits.notes me posts.own posts.known rseg rank note value) finds lanes
+    (λ kinds asks. kinds-notify limits.notes me posts.own posts.known rseg rank note value kinds asks) is
+running-grows limits me posts memory thread (WriteNotify seg offset rank rseg roffset size note value queue) finds lanes running is =
+    posted-grows limits posts rank queue 2 (write_notify_kinds limits.notes me posts.own posts.known seg offset rank rseg roffset size note value) finds lanes
+    (λ kinds asks. kinds-two limits.notes me posts.own posts.known seg offset rank rseg roffset size note value kinds asks) is
 running-grows limits me posts memory thread (Wait queue) finds lanes running is = waited-grows (is_idle (recorded_reply (ready_of finds))) posts queue
 running-grows limits me posts memory thread (Waitsome seg begin num) finds lanes running is = idle-grows (is_idle (recorded_reply (ready_of finds))) posts
 running-grows limits me posts memory thread (Reset seg note) finds lanes running is = idle-grows (is_idle (recorded_reply (ready_of finds))) posts
@@ -133,6 +140,8 @@ ended-grows : (limits : Limits) (me : ℕ) (posts : Posts) (thread : ℕ) (call 
     → Grows limits me posts thread call (replies.Refused CallerEnded)
 ended-grows limits me posts thread (Store seg offset bytes) ended = omega arith
 ended-grows limits me posts thread (Load seg offset size) ended = omega arith
+ended-grows limits me posts thread (Write seg offset rank rseg roffset size queue) ended = omega arith
+ended-grows limits me posts thread (Notify rseg rank note value queue) ended = omega arith
 ended-grows limits me posts thread (WriteNotify seg offset rank rseg roffset size note value queue) ended = omega arith
 ended-grows limits me posts thread (Wait queue) ended = omega arith
 ended-grows limits me posts thread (Waitsome seg begin num) ended = omega arith

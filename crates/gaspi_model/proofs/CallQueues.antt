@@ -3,17 +3,19 @@ use Rattle.std.proofs.Common.{◌≡◌, ℕ, ◌+◌, ◌≤◌, Bool, true, fa
 use Rattle.std.specs.List.{slice_get, list_any}
 use Rattle.std.proofs.lemmas.Bool.{leb-true}
 use Rattle.gaspi_types.specs.Lanes.{has_posted, posted_entries}
+use Rattle.gaspi_types.specs.Posts.{write_kinds, notify_kinds, write_notify_kinds}
 use Rattle.gaspi_types.specs.Replies.{is_idle}
 use Rattle.gaspi_types.specs.declared.entries.Entry.{Entry}
+use Rattle.gaspi_types.specs.declared.entries.Kind.{Kind}
 use Rattle.gaspi_types.specs.declared.shapes.Limits.{Limits}
 use Rattle.gaspi_types.specs.declared.calls.Call.{Call}
-use Rattle.gaspi_types.specs.declared.calls.Call.TheVariants.{Store, Load, WriteNotify, Wait, Waitsome, Reset, End}
+use Rattle.gaspi_types.specs.declared.calls.Call.TheVariants.{Store, Load, Write, Notify, WriteNotify, Wait, Waitsome, Reset, End}
 use Rattle.gaspi_types.specs.declared.replies.Reply.{Reply}
 use Rattle.gaspi_types.specs.declared.replies.Reply.TheVariants as replies
 use Rattle.gaspi_types.specs.declared.replies.Refusal.{Refusal}
 use Rattle.gaspi_types.specs.declared.replies.Refusal.TheVariants.{BadQueue, QueueBroken}
 use Rattle.gaspi_model.specs.State.{is_running, thread_at}
-use Rattle.gaspi_model.specs.Calls.{changed_at, with_entries, posts_done, posts_after, answer, call_finds, wait_finds, recorded_reply, ready_of}
+use Rattle.gaspi_model.specs.Calls.{changed_at, with_entries, with_post, asked_finds, posts_done, posts_after, answer, call_finds, wait_finds, recorded_reply, ready_of}
 use Rattle.gaspi_model.specs.Sound.{AreRising, IsSoundQueue}
 use Rattle.gaspi_model.specs.declared.states.Queue.{Queue}
 use Rattle.gaspi_model.specs.declared.states.Posts.{Posts}
@@ -70,18 +72,25 @@ wait-done posts queue reply q h at =
 abbrev RiseBelow : ℕ → List Queue → Type 0
 RiseBelow next queues = (k : ℕ) (q : Queue) → slice_get queues k ≡ Some q → (target : ℕ) (lane : List Entry) → slice_get q.lanes target ≡ Some lane → AreRising next lane
 
-done-queues : (limits : Limits) (me : ℕ) (posts : Posts) (memory : Memory) (thread : ℕ) (call : Call) (reply : Reply) → call_finds limits me posts memory call ≡ Ok (Some reply)
-    → AllSound limits.depth posts.queues → RiseBelow posts.next posts.queues → AllSound limits.depth (posts_done limits me posts thread call).queues
-done-queues limits me posts memory thread (Store seg offset bytes) reply h all rise = all
-done-queues limits me posts memory thread (Load seg offset size) reply h all rise = all
-done-queues limits me posts memory thread (WriteNotify seg offset rank rseg roffset size note value queue) reply h all rise =
-    let posted = post-ok limits me posts seg offset rank rseg roffset size note value queue (Some reply) h in
+post-queues : (limits : Limits) (posts : Posts) (rank queue : ℕ) (asked : Result (List Kind) Refusal) (reply : Reply) → asked_finds limits posts rank queue asked ≡ Ok (Some reply)
+    → AllSound limits.depth posts.queues → RiseBelow posts.next posts.queues → AllSound limits.depth (with_post posts queue rank asked).queues
+post-queues limits posts rank queue asked reply h all rise =
+    let posted = post-ok limits posts rank queue asked (Some reply) h in
     let p = posted.2 in
-    rw p.asked (queues-changed limits.depth posts.queues queue (with_entries rank (posted_entries posts.next posted.1)) all
+    rw p.asks (queues-changed limits.depth posts.queues queue (with_entries rank (posted_entries posts.next posted.1)) all
     (λ q at.
     let same : posted.0 ≡ q = (let some : ◌≡◌ {A = Option Queue} (Some posted.0) (Some q) = sym p.in_posts ∙ at in cc) in
     let room : q.open_count + length posted.1 ≤ limits.depth = rw (sym same) (leb-true _ _ p.room) in
     queue-posted limits.depth posts.next q rank posted.1 (all queue q at) (rise queue q at) room))
+
+done-queues : (limits : Limits) (me : ℕ) (posts : Posts) (memory : Memory) (thread : ℕ) (call : Call) (reply : Reply) → call_finds limits me posts memory call ≡ Ok (Some reply)
+    → AllSound limits.depth posts.queues → RiseBelow posts.next posts.queues → AllSound limits.depth (posts_done limits me posts thread call).queues
+done-queues limits me posts memory thread (Store seg offset bytes) reply h all rise = all
+done-queues limits me posts memory thread (Load seg offset size) reply h all rise = all
+done-queues limits me posts memory thread (Write seg offset rank rseg roffset size queue) reply h all rise = post-queues limits posts rank queue (write_kinds me posts.own posts.known seg offset rank rseg roffset size) reply h all rise
+done-queues limits me posts memory thread (Notify rseg rank note value queue) reply h all rise = post-queues limits posts rank queue (notify_kinds limits.notes me posts.own posts.known rseg rank note value) reply h all rise
+done-queues limits me posts memory thread (WriteNotify seg offset rank rseg roffset size note value queue) reply h all rise =
+    post-queues limits posts rank queue (write_notify_kinds limits.notes me posts.own posts.known seg offset rank rseg roffset size note value) reply h all rise
 done-queues limits me posts memory thread (Wait queue) reply h all rise =
     queues-changed limits.depth posts.queues queue (λ (q : Queue). record q { open_count = 0 }) all
     (λ q at. queue-waited limits.depth q (all queue q at) (wait-done posts queue reply q h at))

@@ -11,7 +11,7 @@ use Rattle.gaspi_types.specs.Replies.{same_refusal, same_reply, is_done}
 use Rattle.gaspi_types.specs.declared.entries.Entry.{Entry}
 use Rattle.gaspi_types.specs.declared.shapes.Limits.{Limits}
 use Rattle.gaspi_types.specs.declared.calls.Call.{Call}
-use Rattle.gaspi_types.specs.declared.calls.Call.TheVariants.{Store, Load, WriteNotify, Wait, Waitsome, Reset, End}
+use Rattle.gaspi_types.specs.declared.calls.Call.TheVariants.{Store, Load, Write, Notify, WriteNotify, Wait, Waitsome, Reset, End}
 use Rattle.gaspi_types.specs.declared.replies.Refusal.{Refusal}
 use Rattle.gaspi_types.specs.declared.replies.Refusal.TheVariants.{BadRank, NoSegment, Unregistered, BadRange, BadSize, BadQueue, QueueFull, QueueBroken, BadNote, ZeroValue, CallerEnded}
 use Rattle.gaspi_types.specs.declared.replies.Reply.{Reply}
@@ -76,15 +76,17 @@ running-there Absent h = absurd (let no : ⊥ = cc in no)
 running-there Running h = refl
 running-there Ended h = absurd (let no : ⊥ = cc in no)
 
-done-charge : (b : Bool) → (if b then 1 + 2 * 2 else 1) ≤ 5
-done-charge true = omega arith
-done-charge false = omega arith
+done-charge : (entries : ℕ) (b : Bool) → (if b then 1 + 2 * entries else 1) ≤ 1 + 2 * entries
+done-charge entries true = omega arith
+done-charge entries false = omega arith
 
 -- no call takes more room than it needs
 pub charge-need : (t : ThreadState) (call : Call) (reply : Reply) → is_running t ≡ true → charge t call reply ≤ need_of call false false
 charge-need t (Store seg offset bytes) reply running = omega arith
 charge-need t (Load seg offset size) reply running = omega arith
-charge-need t (WriteNotify seg offset rank rseg roffset size note value queue) reply running = done-charge (is_done reply)
+charge-need t (Write seg offset rank rseg roffset size queue) reply running = done-charge 1 (is_done reply)
+charge-need t (Notify rseg rank note value queue) reply running = done-charge 1 (is_done reply)
+charge-need t (WriteNotify seg offset rank rseg roffset size note value queue) reply running = done-charge 2 (is_done reply)
 charge-need t (Wait queue) reply running = omega arith
 charge-need t (Waitsome seg begin num) reply running = omega arith
 charge-need t (Reset seg note) reply running = omega arith

@@ -5,18 +5,18 @@ use Rattle.std.specs.Option.{option_map}
 use Rattle.std.proofs.lemmas.Bool.{leb-true, ltb-true, eqb-true}
 use Rattle.std.proofs.lemmas.Option.{slice_get-map}
 use Rattle.gaspi_types.specs.Lanes.{is_posted, is_posted_phase, posted_entries}
-use Rattle.gaspi_types.specs.Posts.{extent_in, known_extent, write_notify_kinds}
+use Rattle.gaspi_types.specs.Posts.{extent_in, known_extent, write_kinds, notify_kinds, write_notify_kinds}
 use Rattle.gaspi_types.specs.SegmentBytes.{is_transfer_size, is_within}
 use Rattle.gaspi_types.specs.declared.entries.Entry.{Entry}
 use Rattle.gaspi_types.specs.declared.entries.Extent.{Extent}
 use Rattle.gaspi_types.specs.declared.entries.ByteRange.{ByteRange}
 use Rattle.gaspi_types.specs.declared.entries.Kind.{Kind}
-use Rattle.gaspi_types.specs.declared.entries.Kind.TheVariants.{Write, Notify}
+use Rattle.gaspi_types.specs.declared.entries.Kind.TheVariants as kinds_of
 use Rattle.gaspi_types.specs.declared.entries.Phase.{Phase}
 use Rattle.gaspi_types.specs.declared.entries.Phase.TheVariants as phases
 use Rattle.gaspi_types.specs.declared.shapes.Limits.{Limits}
 use Rattle.gaspi_types.specs.declared.calls.Call.{Call}
-use Rattle.gaspi_types.specs.declared.calls.Call.TheVariants.{Store, Load, WriteNotify, Wait, Waitsome, Reset, End}
+use Rattle.gaspi_types.specs.declared.calls.Call.TheVariants.{Store, Load, Write, Notify, WriteNotify, Wait, Waitsome, Reset, End}
 use Rattle.gaspi_types.specs.declared.replies.Refusal.{Refusal}
 use Rattle.gaspi_model.specs.State.{segment_at}
 use Rattle.gaspi_model.specs.Calls.{changed_at, with_entries, with_post, posts_done, counted, bytes_of, bytes_in}
@@ -37,16 +37,16 @@ LaneFits notes mine theirs lane = (place : ℕ) (e : Entry) → slice_get lane p
 -- A lane that is changed.
 
 -- an entry in another phase, which has its source still
-phase-fits : (notes : ℕ) (mine theirs : List (Option Extent)) (e : Entry) (phase : Phase) → ((own target : ByteRange) → e.kind ≡ Write own target → HasSource mine own e.phase → HasSource mine own phase)
+phase-fits : (notes : ℕ) (mine theirs : List (Option Extent)) (e : Entry) (phase : Phase) → ((own target : ByteRange) → e.kind ≡ kinds_of.Write own target → HasSource mine own e.phase → HasSource mine own phase)
     → Fits notes mine theirs e → Fits notes mine theirs (record e { phase = phase })
 phase-fits notes mine theirs e phase source fits = go e.kind refl fits
   where
     go : (k : Kind) → e.kind ≡ k → Fits notes mine theirs (record { number = e.number; kind = k; phase = e.phase }) → Fits notes mine theirs (record e { phase = phase })
-    go (Write own target) is h = rw is (h.0, h.1, h.2, source own target is h.3)
-    go (Notify target value) is h = rw is h
+    go (kinds_of.Write own target) is h = rw is (h.0, h.1, h.2, source own target is h.3)
+    go (kinds_of.Notify target value) is h = rw is h
 
 pub lane-phase : (notes : ℕ) (mine theirs : List (Option Extent)) (lane : List Entry) (place : ℕ) (e : Entry) (phase : Phase) → slice_get lane place ≡ Some e
-    → ((own target : ByteRange) → e.kind ≡ Write own target → HasSource mine own e.phase → HasSource mine own phase)
+    → ((own target : ByteRange) → e.kind ≡ kinds_of.Write own target → HasSource mine own e.phase → HasSource mine own phase)
     → LaneFits notes mine theirs lane → LaneFits notes mine theirs (with_phase lane place e phase)
 lane-phase notes mine theirs lane place e phase at source all k x here = go (slice_get-set lane place k (record e { phase = phase }) x here)
   where
@@ -137,29 +137,53 @@ known-lies me own known tables rank segment offset size x theirs hm knows h with
     let size_is = knows rank table theirs at ht segment x y is there generation in
     rw size_is within)
 
--- the kinds of a post
-record KindsFit (notes : ℕ) (mine theirs : List (Option Extent)) (kinds : List Kind) : Type 0 where
-  each : (number place : ℕ) (e : Entry) → slice_get (posted_entries number kinds) place ≡ Some e → Fits notes mine theirs e
+-- the kinds of a post fit, as they are posted
+abbrev KindsFit : ℕ → List (Option Extent) → List (Option Extent) → List Kind → Type 0
+KindsFit notes mine theirs [] = Unit {0}
+KindsFit notes mine theirs (kind ∷ kinds) = ((n : ℕ) → Fits notes mine theirs (record { number = n; kind = kind; phase = phases.Posted })) × KindsFit notes mine theirs kinds
 
-two-fit : (notes : ℕ) (mine theirs : List (Option Extent)) (a b : Kind) → ((n : ℕ) → Fits notes mine theirs (record { number = n; kind = a; phase = phases.Posted }))
-    → ((n : ℕ) → Fits notes mine theirs (record { number = n; kind = b; phase = phases.Posted })) → KindsFit notes mine theirs (a ∷ b ∷ [])
-two-fit notes mine theirs a b first second = record { each = go }
-  where
-    go : (number place : ℕ) (e : Entry) → slice_get (posted_entries number (a ∷ b ∷ [])) place ≡ Some e → Fits notes mine theirs e
-    go number zero e at =
-        let same : ◌≡◌ {A = Entry} (record { number = number; kind = a; phase = phases.Posted }) e =
-        (let some : ◌≡◌ {A = Option Entry} (Some (record { number = number; kind = a; phase = phases.Posted })) (Some e) = at in cc) in
-        rw (sym same) (first number)
-    go number (suc zero) e at =
-        let same : ◌≡◌ {A = Entry} (record { number = number + 1; kind = b; phase = phases.Posted }) e =
-        (let some : ◌≡◌ {A = Option Entry} (Some (record { number = number + 1; kind = b; phase = phases.Posted })) (Some e) = at in cc) in
-        rw (sym same) (second (number + 1))
-    go number (suc (suc place)) e at = absurd (let no : ⊥ = cc in no)
+posted-fit : (notes : ℕ) (mine theirs : List (Option Extent)) (kinds : List Kind) (number place : ℕ) (e : Entry) → KindsFit notes mine theirs kinds
+    → slice_get (posted_entries number kinds) place ≡ Some e → Fits notes mine theirs e
+posted-fit notes mine theirs [] number place e fit at = absurd (let no : ⊥ = cc in no)
+posted-fit notes mine theirs (kind ∷ kinds) number zero e fit at =
+    let same : ◌≡◌ {A = Entry} (record { number = number; kind = kind; phase = phases.Posted }) e =
+    (let some : ◌≡◌ {A = Option Entry} (Some (record { number = number; kind = kind; phase = phases.Posted })) (Some e) = at in cc) in
+    rw (sym same) (fit.0 number)
+posted-fit notes mine theirs (kind ∷ kinds) number (suc place) e fit at = posted-fit notes mine theirs kinds (number + 1) place e fit.1 at
 
-kinds-fit : (notes me : ℕ) (own : List (Option Extent)) (known tables : List (List (Option Extent))) (seg offset rank rseg roffset size note value : ℕ) (kinds : List Kind) (theirs : List (Option Extent))
+write-fits : (notes me : ℕ) (own : List (Option Extent)) (known tables : List (List (Option Extent))) (seg offset rank rseg roffset size : ℕ) (kinds : List Kind) (theirs : List (Option Extent))
+    → slice_get tables me ≡ Some own → slice_get tables rank ≡ Some theirs → Knows tables known
+    → write_kinds me own known seg offset rank rseg roffset size ≡ Ok kinds → KindsFit notes own theirs kinds
+write-fits notes me own known tables seg offset rank rseg roffset size kinds theirs hm ht knows h =
+    found_then (extent_in own seg) _ _ kinds h (λ mine hmine h1.
+    found_then (known_extent me own known rank rseg) _ _ kinds h1 (λ far hfar h2.
+    check_then (is_transfer_size size) _ _ kinds h2 (λ sized h3.
+    check_then (is_within offset size mine.size) _ _ kinds h3 (λ from h4.
+    check_then (is_within roffset size far.size) _ _ kinds h4 (λ to h5.
+    let is = same_Ok _ _ h5 in
+    rw (sym is) (
+      (λ n. (
+        refl,
+        known-cases me own known rank rseg far hfar (λ same at. in-32 own rseg far at) (λ table at inside. in-32 table rseg far inside),
+        known-lies me own known tables rank rseg roffset size far theirs hm knows hfar to ht,
+        record { extent = mine; there = hmine; generation = refl; within = from },
+      )),
+      tt,
+    ))))))
+
+notify-fits : (notes me : ℕ) (own : List (Option Extent)) (known : List (List (Option Extent))) (rseg rank note value : ℕ) (kinds : List Kind) (theirs : List (Option Extent))
+    → notify_kinds notes me own known rseg rank note value ≡ Ok kinds → KindsFit notes own theirs kinds
+notify-fits notes me own known rseg rank note value kinds theirs h =
+    found_then (known_extent me own known rank rseg) _ _ kinds h (λ far hfar h1.
+    check_then (nat_lt note notes) _ _ kinds h1 (λ noted h2.
+    check_then (not (value == 0)) _ _ kinds h2 (λ valued h3.
+    let is = same_Ok _ _ h3 in
+    rw (sym is) ((λ n. ltb-true note notes noted), tt))))
+
+write_notify-fits : (notes me : ℕ) (own : List (Option Extent)) (known tables : List (List (Option Extent))) (seg offset rank rseg roffset size note value : ℕ) (kinds : List Kind) (theirs : List (Option Extent))
     → slice_get tables me ≡ Some own → slice_get tables rank ≡ Some theirs → Knows tables known
     → write_notify_kinds notes me own known seg offset rank rseg roffset size note value ≡ Ok kinds → KindsFit notes own theirs kinds
-kinds-fit notes me own known tables seg offset rank rseg roffset size note value kinds theirs hm ht knows h =
+write_notify-fits notes me own known tables seg offset rank rseg roffset size note value kinds theirs hm ht knows h =
     found_then (extent_in own seg) _ _ kinds h (λ mine hmine h1.
     found_then (known_extent me own known rank rseg) _ _ kinds h1 (λ far hfar h2.
     check_then (is_transfer_size size) _ _ kinds h2 (λ sized h3.
@@ -168,46 +192,40 @@ kinds-fit notes me own known tables seg offset rank rseg roffset size note value
     check_then (nat_lt note notes) _ _ kinds h5 (λ noted h6.
     check_then (not (value == 0)) _ _ kinds h6 (λ valued h7.
     let is = same_Ok _ _ h7 in
-    rw (sym is) (two-fit notes own theirs _ _
-    (λ n. (
-      refl,
-      known-cases me own known rank rseg far hfar (λ same at. in-32 own rseg far at) (λ table at inside. in-32 table rseg far inside),
-      known-lies me own known tables rank rseg roffset size far theirs hm knows hfar to ht,
-      record { extent = mine; there = hmine; generation = refl; within = from },
-    ))
-    (λ n. ltb-true note notes noted)))))))))
+    rw (sym is) (
+      (λ n. (
+        refl,
+        known-cases me own known rank rseg far hfar (λ same at. in-32 own rseg far at) (λ table at inside. in-32 table rseg far inside),
+        known-lies me own known tables rank rseg roffset size far theirs hm knows hfar to ht,
+        record { extent = mine; there = hmine; generation = refl; within = from },
+      )),
+      ((λ n. ltb-true note notes noted), tt),
+    ))))))))
 
 -- a lane with the entries of a post added
-pub fits-post : (notes : ℕ) (tables : List (List (Option Extent))) (me : ℕ) (posts : Posts) (queue rank : ℕ) (own : List (Option Extent)) (seg offset rseg roffset size note value : ℕ)
-    → slice_get tables me ≡ Some own → Knows tables posts.known → AllFit notes tables me posts.queues
-    → AllFit notes tables me (with_post posts queue rank (write_notify_kinds notes me own posts.known seg offset rank rseg roffset size note value)).queues
-fits-post notes tables me posts queue rank own seg offset rseg roffset size note value hm knows all =
-    go (write_notify_kinds notes me own posts.known seg offset rank rseg roffset size note value) refl
+fits-post : (notes : ℕ) (tables : List (List (Option Extent))) (me : ℕ) (posts : Posts) (queue rank : ℕ) (own : List (Option Extent)) (asked : Result (List Kind) Refusal)
+    → slice_get tables me ≡ Some own → ((kinds : List Kind) (theirs : List (Option Extent)) → asked ≡ Ok kinds → slice_get tables rank ≡ Some theirs → KindsFit notes own theirs kinds)
+    → AllFit notes tables me posts.queues → AllFit notes tables me (with_post posts queue rank asked).queues
+fits-post notes tables me posts queue rank own (Err refusal) hm fit all = all
+fits-post notes tables me posts queue rank own (Ok kinds) hm fit all = with-queue (slice_get posts.queues queue) refl
   where
-    added : (kinds : List Kind) → write_notify_kinds notes me own posts.known seg offset rank rseg roffset size note value ≡ Ok kinds → (q : Queue) → slice_get posts.queues queue ≡ Some q
-        → (o : Option (List Entry)) → slice_get q.lanes rank ≡ o → AllFit notes tables me (changed_at posts.queues queue (with_entries rank (posted_entries posts.next kinds)))
-    added kinds is q at None none = fits-alike notes tables me posts.queues queue (with_entries rank (posted_entries posts.next kinds)) q at (rw none refl) all
-    added kinds is q at (Some lane) some =
+    either : (mine theirs : List (Option Extent)) (lane : List Entry) (e : Entry) → KindsFit notes mine theirs kinds → LaneFits notes mine theirs lane
+        → ((j : ℕ) × (slice_get lane j ≡ Some e)) ⊎ ((j : ℕ) × (slice_get (posted_entries posts.next kinds) j ≡ Some e)) → Fits notes mine theirs e
+    either mine theirs lane e new old (inl was) = old was.0 e was.1
+    either mine theirs lane e new old (inr now) = posted-fit notes mine theirs kinds posts.next now.0 e new now.1
+
+    with-lane : (q : Queue) → slice_get posts.queues queue ≡ Some q → (o : Option (List Entry)) → slice_get q.lanes rank ≡ o
+        → AllFit notes tables me (changed_at posts.queues queue (with_entries rank (posted_entries posts.next kinds)))
+    with-lane q at None none = fits-alike notes tables me posts.queues queue (with_entries rank (posted_entries posts.next kinds)) q at (rw none refl) all
+    with-lane q at (Some lane) some =
         fits-lane notes tables me posts.queues queue (with_entries rank (posted_entries posts.next kinds)) q rank lane (lane ++ posted_entries posts.next kinds) at some (rw some refl)
         (λ mine theirs hmine ht old place e there.
         let same : own ≡ mine = (let both : ◌≡◌ {A = Option (List (Option Extent))} (Some own) (Some mine) = sym hm ∙ hmine in cc) in
-        let new = kinds-fit notes me own posts.known tables seg offset rank rseg roffset size note value kinds theirs hm ht knows is in
-        either mine theirs e (rw (sym same) new) old (append-parts lane (posted_entries posts.next kinds) place e there)) all
-      where
-        either : (mine theirs : List (Option Extent)) (e : Entry) → KindsFit notes mine theirs kinds → LaneFits notes mine theirs lane
-            → ((j : ℕ) × (slice_get lane j ≡ Some e)) ⊎ ((j : ℕ) × (slice_get (posted_entries posts.next kinds) j ≡ Some e)) → Fits notes mine theirs e
-        either mine theirs e new old (inl was) = old was.0 e was.1
-        either mine theirs e new old (inr now) = new.each posts.next now.0 e now.1
+        either mine theirs lane e (rw (sym same) (fit kinds theirs refl ht)) old (append-parts lane (posted_entries posts.next kinds) place e there)) all
 
-    with-queue : (kinds : List Kind) → write_notify_kinds notes me own posts.known seg offset rank rseg roffset size note value ≡ Ok kinds → (o : Option Queue) → slice_get posts.queues queue ≡ o
-        → AllFit notes tables me (changed_at posts.queues queue (with_entries rank (posted_entries posts.next kinds)))
-    with-queue kinds is None none = rw none all
-    with-queue kinds is (Some q) at = added kinds is q at (slice_get q.lanes rank) refl
-
-    go : (asked : Result (List Kind) Refusal) → write_notify_kinds notes me own posts.known seg offset rank rseg roffset size note value ≡ asked
-        → AllFit notes tables me (with_post posts queue rank (write_notify_kinds notes me own posts.known seg offset rank rseg roffset size note value)).queues
-    go (Err refusal) is = rw is all
-    go (Ok kinds) is = rw is (with-queue kinds is (slice_get posts.queues queue) refl)
+    with-queue : (o : Option Queue) → slice_get posts.queues queue ≡ o → AllFit notes tables me (changed_at posts.queues queue (with_entries rank (posted_entries posts.next kinds)))
+    with-queue None none = rw none all
+    with-queue (Some q) at = with-lane q at (slice_get q.lanes rank) refl
 
 -- what a call that is done keeps: the tables of segments, and the fit of the entries
 pub record KeepsFit (notes : ℕ) (tables : List (List (Option Extent))) (me : ℕ) (before after : Posts) : Type 0 where
@@ -223,17 +241,28 @@ with_post-known : (posts : Posts) (queue target : ℕ) (asked : Result (List Kin
 with_post-known posts queue target (Ok kinds) = refl
 with_post-known posts queue target (Err refusal) = refl
 
+post-fits : (notes : ℕ) (tables : List (List (Option Extent))) (me : ℕ) (posts : Posts) (queue rank : ℕ) (asked : Result (List Kind) Refusal) → slice_get tables me ≡ Some posts.own
+    → ((kinds : List Kind) (theirs : List (Option Extent)) → asked ≡ Ok kinds → slice_get tables rank ≡ Some theirs → KindsFit notes posts.own theirs kinds)
+    → AllFit notes tables me posts.queues → KeepsFit notes tables me posts (with_post posts queue rank asked)
+post-fits notes tables me posts queue rank asked hm fit all = record {
+  own = with_post-own posts queue rank asked;
+  known = with_post-known posts queue rank asked;
+  entries = fits-post notes tables me posts queue rank posts.own asked hm fit all;
+}
+
 pub done-fits : (limits : Limits) (tables : List (List (Option Extent))) (me : ℕ) (posts : Posts) (thread : ℕ) (call : Call) → slice_get tables me ≡ Some posts.own → Knows tables posts.known
     → AllFit limits.notes tables me posts.queues → KeepsFit limits.notes tables me posts (posts_done limits me posts thread call)
 done-fits limits tables me posts thread (Store seg offset bytes) hm knows all = record { own = refl; known = refl; entries = all }
 done-fits limits tables me posts thread (Load seg offset size) hm knows all = record { own = refl; known = refl; entries = all }
+done-fits limits tables me posts thread (Write seg offset rank rseg roffset size queue) hm knows all =
+    post-fits limits.notes tables me posts queue rank (write_kinds me posts.own posts.known seg offset rank rseg roffset size) hm
+    (λ kinds theirs asks ht. write-fits limits.notes me posts.own posts.known tables seg offset rank rseg roffset size kinds theirs hm ht knows asks) all
+done-fits limits tables me posts thread (Notify rseg rank note value queue) hm knows all =
+    post-fits limits.notes tables me posts queue rank (notify_kinds limits.notes me posts.own posts.known rseg rank note value) hm
+    (λ kinds theirs asks ht. notify-fits limits.notes me posts.own posts.known rseg rank note value kinds theirs asks) all
 done-fits limits tables me posts thread (WriteNotify seg offset rank rseg roffset size note value queue) hm knows all =
-    let asked = write_notify_kinds limits.notes me posts.own posts.known seg offset rank rseg roffset size note value in
-    record {
-      own = with_post-own posts queue rank asked;
-      known = with_post-known posts queue rank asked;
-      entries = fits-post limits.notes tables me posts queue rank posts.own seg offset rseg roffset size note value hm knows all;
-    }
+    post-fits limits.notes tables me posts queue rank (write_notify_kinds limits.notes me posts.own posts.known seg offset rank rseg roffset size note value) hm
+    (λ kinds theirs asks ht. write_notify-fits limits.notes me posts.own posts.known tables seg offset rank rseg roffset size note value kinds theirs hm ht knows asks) all
 done-fits limits tables me posts thread (Wait queue) hm knows all =
     record { own = refl; known = refl; entries = fits-queue limits.notes tables me posts.queues queue (λ (q : Queue). record q { open_count = 0 }) (λ q. refl) all }
 done-fits limits tables me posts thread (Waitsome seg begin num) hm knows all = record { own = refl; known = refl; entries = all }
@@ -276,7 +305,7 @@ extent-there memory segment s less h = by-item (slice_get memory.segments segmen
         let same : x ≡ s = cc in
         rw (less, slice_get-map (option_map extent_of) memory.segments segment, at) (ap (λ (y : Segment). Some (extent_of y)) same)
 
-pub taken-source : (memory : Memory) (e : Entry) (own target : ByteRange) → is_posted e ≡ true → e.kind ≡ Write own target → HasSource (extents_of memory) own e.phase
+pub taken-source : (memory : Memory) (e : Entry) (own target : ByteRange) → is_posted e ≡ true → e.kind ≡ kinds_of.Write own target → HasSource (extents_of memory) own e.phase
     → HasSource (extents_of memory) own (phases.Carried (taken_bytes memory e.kind))
 taken-source memory e own target posted is source = by-phase e.phase posted source
   where

@@ -9,7 +9,7 @@ use Rattle.gaspi_types.specs.declared.entries.Entry.{Entry}
 use Rattle.gaspi_types.specs.declared.entries.Kind.{Kind}
 use Rattle.gaspi_types.specs.declared.entries.Kind.TheVariants.{Write, Notify}
 use Rattle.gaspi_types.specs.declared.calls.Call.{Call}
-use Rattle.gaspi_types.specs.declared.calls.Call.TheVariants.{Store, Load, WriteNotify, Wait, Waitsome, Reset, End}
+use Rattle.gaspi_types.specs.declared.calls.Call.TheVariants.{Store, Load, Write, Notify, WriteNotify, Wait, Waitsome, Reset, End}
 use Rattle.gaspi_types.specs.declared.replies.Reply.{Reply}
 use Rattle.gaspi_types.specs.Replies.{is_idle}
 use Rattle.gaspi_model.specs.State.{segment_at}
@@ -87,6 +87,8 @@ slots-layout m segment note value =
 done-layout : (m : Memory) (call : Call) → HaveSameLayout m (memory_done m call)
 done-layout m (Store seg offset bytes) = bytes-layout m seg offset bytes
 done-layout m (Load seg offset size) = same-layout m
+done-layout m (Write seg offset rank rseg roffset size queue) = same-layout m
+done-layout m (Notify rseg rank note value queue) = same-layout m
 done-layout m (WriteNotify seg offset rank rseg roffset size note value queue) = same-layout m
 done-layout m (Wait queue) = same-layout m
 done-layout m (Waitsome seg begin num) = same-layout m

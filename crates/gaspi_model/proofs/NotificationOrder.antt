@@ -3,7 +3,7 @@ use Rattle.std.proofs.Common.{◌≡◌, ℕ, zero, suc, ◌+◌, ◌<◌, arith
 use Rattle.std.specs.List.{slice_get, slice_set, prefix_len}
 use Rattle.std.proofs.lemmas.Bool.{eq-eqb, eqb-true, lt-ltb}
 use Rattle.gaspi_types.specs.Lanes.{is_write, is_write_kind, has_earlier_write, may_put, may_put_kind, is_carried, place_of, posted_entries}
-use Rattle.gaspi_types.specs.Posts.{write_notify_kinds}
+use Rattle.gaspi_types.specs.Posts.{write_kinds, notify_kinds, write_notify_kinds}
 use Rattle.gaspi_types.specs.Replies.{is_idle}
 use Rattle.gaspi_types.specs.declared.entries.Entry.{Entry}
 use Rattle.gaspi_types.specs.declared.entries.Kind.{Kind}
@@ -12,7 +12,7 @@ use Rattle.gaspi_types.specs.declared.entries.Phase.{Phase}
 use Rattle.gaspi_types.specs.declared.entries.Phase.TheVariants as phases
 use Rattle.gaspi_types.specs.declared.shapes.Limits.{Limits}
 use Rattle.gaspi_types.specs.declared.calls.Call.{Call}
-use Rattle.gaspi_types.specs.declared.calls.Call.TheVariants.{Store, Load, WriteNotify, Wait, Waitsome, Reset, End}
+use Rattle.gaspi_types.specs.declared.calls.Call.TheVariants.{Store, Load, Write, Notify, WriteNotify, Wait, Waitsome, Reset, End}
 use Rattle.gaspi_types.specs.declared.replies.Refusal.{Refusal}
 use Rattle.gaspi_types.specs.declared.events.Outcome.TheVariants.{Applied, Failed}
 use Rattle.gaspi_types.specs.declared.events.Event.{Event}
@@ -179,6 +179,10 @@ done-keeps : (limits : Limits) (me : ℕ) (posts : Posts) (thread : ℕ) (call :
     → InQueues (posts_done limits me posts thread call).queues queue target m
 done-keeps limits me posts thread (Store seg offset bytes) queue target m h = h
 done-keeps limits me posts thread (Load seg offset size) queue target m h = h
+done-keeps limits me posts thread (Write seg offset rank rseg roffset size posted) queue target m h =
+    post-keeps posts posted rank queue target m (write_kinds me posts.own posts.known seg offset rank rseg roffset size) h
+done-keeps limits me posts thread (Notify rseg rank note value posted) queue target m h =
+    post-keeps posts posted rank queue target m (notify_kinds limits.notes me posts.own posts.known rseg rank note value) h
 done-keeps limits me posts thread (WriteNotify seg offset rank rseg roffset size note value posted) queue target m h =
     post-keeps posts posted rank queue target m (write_notify_kinds limits.notes me posts.own posts.known seg offset rank rseg roffset size note value) h
 done-keeps limits me posts thread (Wait waited) queue target m h =

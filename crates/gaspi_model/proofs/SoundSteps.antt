@@ -5,13 +5,13 @@ use Rattle.std.proofs.lemmas.Bool.{leb-true}
 use Rattle.std.proofs.lemmas.List.{length-set}
 use Rattle.gaspi_types.specs.Lanes.{posted_entries, is_posted}
 use Rattle.gaspi_types.specs.Replies.{is_idle}
-use Rattle.gaspi_types.specs.Posts.{write_notify_kinds}
+use Rattle.gaspi_types.specs.Posts.{write_kinds, notify_kinds, write_notify_kinds}
 use Rattle.gaspi_types.specs.declared.entries.Entry.{Entry}
 use Rattle.gaspi_types.specs.declared.entries.Kind.{Kind}
 use Rattle.gaspi_types.specs.declared.entries.Phase.TheVariants as phases
 use Rattle.gaspi_types.specs.declared.shapes.Limits.{Limits}
 use Rattle.gaspi_types.specs.declared.calls.Call.{Call}
-use Rattle.gaspi_types.specs.declared.calls.Call.TheVariants.{Store, Load, WriteNotify, Wait, Waitsome, Reset, End}
+use Rattle.gaspi_types.specs.declared.calls.Call.TheVariants.{Store, Load, Write, Notify, WriteNotify, Wait, Waitsome, Reset, End}
 use Rattle.gaspi_types.specs.declared.replies.Reply.{Reply}
 use Rattle.gaspi_types.specs.declared.replies.Refusal.{Refusal}
 use Rattle.gaspi_types.specs.declared.events.Outcome.{Outcome}
@@ -32,7 +32,7 @@ use Rattle.gaspi_model.specs.declared.states.State.{State}
 use Rattle.gaspi_model.proofs.Tables.{sum_by-changed, slice_get-set}
 use Rattle.gaspi_model.proofs.Same.{same_reply-same}
 use Rattle.gaspi_model.proofs.Made.{IsFound, IsTake, IsPut, IsCalled, step-called, step-take, step-put}
-use Rattle.gaspi_model.proofs.Accounts.{take-owed, put-owed, kinds-two}
+use Rattle.gaspi_model.proofs.Accounts.{take-owed, put-owed, kinds-write, kinds-notify, kinds-two}
 use Rattle.gaspi_model.proofs.CallAccounts.{HasLanes, with_post-events, call-grows}
 use Rattle.gaspi_model.proofs.Chains.{both}
 use Rattle.gaspi_model.proofs.OpenCounts.{queue-phase, queue-remove, carried-more, carried-failed}
@@ -114,13 +114,9 @@ rise-post posts queue target (Ok kinds) all =
     (rise-more posts.next (posts.next + length kinds) posts.queues (omega arith) all)
 
 -- the next number after a post
-numbers-post : (posts : Posts) (queue target notes me seg offset rank rseg roffset size note value : ℕ) → (own : _) (known : _)
-    → (with_post posts queue target (write_notify_kinds notes me own known seg offset rank rseg roffset size note value)).next ≤ posts.next + 2
-numbers-post posts queue target notes me seg offset rank rseg roffset size note value own known = go (write_notify_kinds notes me own known seg offset rank rseg roffset size note value) refl
-  where
-    go : (asked : Result (List Kind) Refusal) → write_notify_kinds notes me own known seg offset rank rseg roffset size note value ≡ asked → (with_post posts queue target asked).next ≤ posts.next + 2
-    go (Ok kinds) is = let two = kinds-two notes me own known seg offset rank rseg roffset size note value kinds is in omega arith
-    go (Err refusal) is = omega arith
+numbers-post : (posts : Posts) (queue target : ℕ) (asked : Result (List Kind) Refusal) → ((kinds : List Kind) → asked ≡ Ok kinds → length kinds ≤ 2) → (with_post posts queue target asked).next ≤ posts.next + 2
+numbers-post posts queue target (Ok kinds) counts = let few = counts kinds refl in omega arith
+numbers-post posts queue target (Err refusal) counts = omega arith
 
 lanes-post : (ranks : ℕ) (posts : Posts) (queue target : ℕ) (asked : Result (List Kind) Refusal) → HasLanes ranks posts → HasLanes ranks (with_post posts queue target asked)
 lanes-post ranks posts queue target (Err refusal) all = all
@@ -134,17 +130,27 @@ record Keeps (ranks : ℕ) (before after : Posts) : Type 0 where
   numbers : after.next ≤ before.next + 2
   rising : RiseBelow after.next after.queues
 
+post-keeps : (ranks : ℕ) (posts : Posts) (queue target : ℕ) (asked : Result (List Kind) Refusal) → ((kinds : List Kind) → asked ≡ Ok kinds → length kinds ≤ 2)
+    → HasLanes ranks posts → RiseBelow posts.next posts.queues → Keeps ranks posts (with_post posts queue target asked)
+post-keeps ranks posts queue target asked counts all rise = record {
+  lanes = lanes-post ranks posts queue target asked all;
+  events = with_post-events posts queue target asked;
+  numbers = numbers-post posts queue target asked counts;
+  rising = rise-post posts queue target asked rise;
+}
+
 done-keeps : (ranks : ℕ) (limits : Limits) (me : ℕ) (posts : Posts) (thread : ℕ) (call : Call) → HasLanes ranks posts → RiseBelow posts.next posts.queues → Keeps ranks posts (posts_done limits me posts thread call)
 done-keeps ranks limits me posts thread (Store seg offset bytes) all rise = record { lanes = all; events = refl; numbers = omega arith; rising = rise }
 done-keeps ranks limits me posts thread (Load seg offset size) all rise = record { lanes = all; events = refl; numbers = omega arith; rising = rise }
+done-keeps ranks limits me posts thread (Write seg offset rank rseg roffset size queue) all rise =
+    post-keeps ranks posts queue rank (write_kinds me posts.own posts.known seg offset rank rseg roffset size)
+    (λ kinds asks. let one = kinds-write me posts.own posts.known seg offset rank rseg roffset size kinds asks in omega arith) all rise
+done-keeps ranks limits me posts thread (Notify rseg rank note value queue) all rise =
+    post-keeps ranks posts queue rank (notify_kinds limits.notes me posts.own posts.known rseg rank note value)
+    (λ kinds asks. let one = kinds-notify limits.notes me posts.own posts.known rseg rank note value kinds asks in omega arith) all rise
 done-keeps ranks limits me posts thread (WriteNotify seg offset rank rseg roffset size note value queue) all rise =
-    let asked = write_notify_kinds limits.notes me posts.own posts.known seg offset rank rseg roffset size note value in
-    record {
-      lanes = lanes-post ranks posts queue rank asked all;
-      events = with_post-events posts queue rank asked;
-      numbers = numbers-post posts queue rank limits.notes me seg offset rank rseg roffset size note value posts.own posts.known;
-      rising = rise-post posts queue rank asked rise;
-    }
+    post-keeps ranks posts queue rank (write_notify_kinds limits.notes me posts.own posts.known seg offset rank rseg roffset size note value)
+    (λ kinds asks. let two = kinds-two limits.notes me posts.own posts.known seg offset rank rseg roffset size note value kinds asks in omega arith) all rise
 done-keeps ranks limits me posts thread (Wait queue) all rise = record {
   lanes = lanes-changed ranks posts.queues queue (λ (q : Queue). record q { open_count = 0 }) (λ q. refl) all;
   events = refl;

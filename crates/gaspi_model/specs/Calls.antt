@@ -5,14 +5,14 @@ use Rattle.std.specs.Option.{option_map}
 use Rattle.gaspi_types.specs.Checks.{◌>>=◌, check, found, absent}
 use Rattle.gaspi_types.specs.SegmentBytes.{is_transfer_size, is_within, range_of, with_range}
 use Rattle.gaspi_types.specs.Slots.{is_slot_range, first_set}
-use Rattle.gaspi_types.specs.Posts.{extent_in, write_notify_kinds}
+use Rattle.gaspi_types.specs.Posts.{extent_in, write_kinds, notify_kinds, write_notify_kinds}
 use Rattle.gaspi_types.specs.Lanes.{has_posted, posted_entries}
 use Rattle.gaspi_types.specs.Replies.{is_done, is_idle}
 use Rattle.gaspi_types.specs.declared.entries.Kind.{Kind}
 use Rattle.gaspi_types.specs.declared.entries.Entry.{Entry}
 use Rattle.gaspi_types.specs.declared.shapes.Limits.{Limits}
 use Rattle.gaspi_types.specs.declared.calls.Call.{Call}
-use Rattle.gaspi_types.specs.declared.calls.Call.TheVariants.{Store, Load, WriteNotify, Wait, Waitsome, Reset, End}
+use Rattle.gaspi_types.specs.declared.calls.Call.TheVariants.{Store, Load, Write, Notify, WriteNotify, Wait, Waitsome, Reset, End}
 use Rattle.gaspi_types.specs.declared.replies.Refusal.{Refusal}
 use Rattle.gaspi_types.specs.declared.replies.Refusal.TheVariants.{BadRank, NoSegment, BadRange, BadSize, BadQueue, QueueFull, QueueBroken, BadNote, CallerEnded}
 use Rattle.gaspi_types.specs.declared.replies.Reply.{Reply}
@@ -80,13 +80,28 @@ post_finds limits q kinds = do
   room ← check (nat_le (q.open_count + length kinds) limits.depth) (QueueFull q.open_count (length kinds))
   Ok (Some replies.Done)
 
--- (one-sided communication: write_notify)
-abbrev pub write_notify_finds : Limits → ℕ → Posts → ℕ → ℕ → ℕ → ℕ → ℕ → ℕ → ℕ → ℕ → ℕ → Result (Option Reply) Refusal
-write_notify_finds limits me posts seg offset rank rseg roffset size note value queue = do
+-- a call that posts: its target is a rank, its queue is there, and it asks for entries
+abbrev pub asked_finds : Limits → Posts → ℕ → ℕ → Result (List Kind) Refusal → Result (Option Reply) Refusal
+asked_finds limits posts rank queue asked = do
   ranked ← check (nat_lt rank limits.ranks) BadRank
   q ← found (slice_get posts.queues queue) BadQueue
-  kinds ← write_notify_kinds limits.notes me posts.own posts.known seg offset rank rseg roffset size note value
+  kinds ← asked
   post_finds limits q kinds
+
+-- (one-sided communication: write)
+abbrev pub write_finds : Limits → ℕ → Posts → ℕ → ℕ → ℕ → ℕ → ℕ → ℕ → ℕ → Result (Option Reply) Refusal
+write_finds limits me posts seg offset rank rseg roffset size queue =
+    asked_finds limits posts rank queue (write_kinds me posts.own posts.known seg offset rank rseg roffset size)
+
+-- (one-sided communication: notify)
+abbrev pub notify_finds : Limits → ℕ → Posts → ℕ → ℕ → ℕ → ℕ → ℕ → Result (Option Reply) Refusal
+notify_finds limits me posts rseg rank note value queue =
+    asked_finds limits posts rank queue (notify_kinds limits.notes me posts.own posts.known rseg rank note value)
+
+-- (one-sided communication: write_notify)
+abbrev pub write_notify_finds : Limits → ℕ → Posts → ℕ → ℕ → ℕ → ℕ → ℕ → ℕ → ℕ → ℕ → ℕ → Result (Option Reply) Refusal
+write_notify_finds limits me posts seg offset rank rseg roffset size note value queue =
+    asked_finds limits posts rank queue (write_notify_kinds limits.notes me posts.own posts.known seg offset rank rseg roffset size note value)
 
 -- ready where no entry of the queue is posted (wait)
 abbrev pub wait_finds : Posts → ℕ → Result (Option Reply) Refusal
@@ -112,6 +127,8 @@ reset_finds limits posts memory seg note = do
 abbrev pub call_finds : Limits → ℕ → Posts → Memory → Call → Result (Option Reply) Refusal
 call_finds limits me posts memory (Store seg offset bytes) = store_finds posts seg offset bytes
 call_finds limits me posts memory (Load seg offset size) = load_finds posts memory seg offset size
+call_finds limits me posts memory (Write seg offset rank rseg roffset size queue) = write_finds limits me posts seg offset rank rseg roffset size queue
+call_finds limits me posts memory (Notify rseg rank note value queue) = notify_finds limits me posts rseg rank note value queue
 call_finds limits me posts memory (WriteNotify seg offset rank rseg roffset size note value queue) =
     write_notify_finds limits me posts seg offset rank rseg roffset size note value queue
 call_finds limits me posts memory (Wait queue) = wait_finds posts queue
@@ -165,6 +182,10 @@ with_post posts queue target (Ok kinds) = record posts {
 abbrev pub posts_done : Limits → ℕ → Posts → ℕ → Call → Posts
 posts_done limits me posts thread (Store seg offset bytes) = posts
 posts_done limits me posts thread (Load seg offset size) = posts
+posts_done limits me posts thread (Write seg offset rank rseg roffset size queue) =
+    with_post posts queue rank (write_kinds me posts.own posts.known seg offset rank rseg roffset size)
+posts_done limits me posts thread (Notify rseg rank note value queue) =
+    with_post posts queue rank (notify_kinds limits.notes me posts.own posts.known rseg rank note value)
 posts_done limits me posts thread (WriteNotify seg offset rank rseg roffset size note value queue) =
     with_post posts queue rank (write_notify_kinds limits.notes me posts.own posts.known seg offset rank rseg roffset size note value)
 posts_done limits me posts thread (Wait queue) =
@@ -177,6 +198,8 @@ posts_done limits me posts thread End = record posts { threads = slice_set posts
 abbrev pub memory_done : Memory → Call → Memory
 memory_done memory (Store seg offset bytes) = with_bytes memory seg (with_range (bytes_of memory seg) offset bytes)
 memory_done memory (Load seg offset size) = memory
+memory_done memory (Write seg offset rank rseg roffset size queue) = memory
+memory_done memory (Notify rseg rank note value queue) = memory
 memory_done memory (WriteNotify seg offset rank rseg roffset size note value queue) = memory
 memory_done memory (Wait queue) = memory
 memory_done memory (Waitsome seg begin num) = memory
@@ -197,10 +220,15 @@ memory_after memory call reply = if is_idle reply then memory else memory_done m
 
 -- own choice: what the event takes of the rank's room: nothing for the end of a caller that has not ended, itself and
 -- the two transfers of each entry for a post that is done, and else itself
+abbrev pub post_charge : ℕ → Reply → ℕ
+post_charge entries reply = if is_done reply then 1 + 2 * entries else 1
+
 abbrev pub charge : ThreadState → Call → Reply → ℕ
 charge t (Store seg offset bytes) reply = 1
 charge t (Load seg offset size) reply = 1
-charge t (WriteNotify seg offset rank rseg roffset size note value queue) reply = if is_done reply then 1 + 2 * 2 else 1
+charge t (Write seg offset rank rseg roffset size queue) reply = post_charge 1 reply
+charge t (Notify rseg rank note value queue) reply = post_charge 1 reply
+charge t (WriteNotify seg offset rank rseg roffset size note value queue) reply = post_charge 2 reply
 charge t (Wait queue) reply = 1
 charge t (Waitsome seg begin num) reply = 1
 charge t (Reset seg note) reply = 1

@@ -5,7 +5,7 @@ use Rattle.gaspi_types.specs.Replies.{same_reply}
 use Rattle.gaspi_types.specs.World.{World, is_caller}
 use Rattle.gaspi_types.specs.declared.shapes.Limits.{Limits}
 use Rattle.gaspi_types.specs.declared.calls.Call.{Call}
-use Rattle.gaspi_types.specs.declared.calls.Call.TheVariants.{Store, Load, WriteNotify, Wait, Waitsome, Reset, End}
+use Rattle.gaspi_types.specs.declared.calls.Call.TheVariants.{Store, Load, Write, Notify, WriteNotify, Wait, Waitsome, Reset, End}
 use Rattle.gaspi_types.specs.declared.replies.Reply.{Reply}
 use Rattle.gaspi_types.specs.declared.replies.Ready.{Ready}
 use Rattle.gaspi_types.specs.declared.events.Outcome.{Outcome}
@@ -136,6 +136,8 @@ transfer_event s t = if t.put then Put t.origin t.queue t.target t.number (outco
 abbrev pub is_end : Call → Bool
 is_end (Store seg offset bytes) = false
 is_end (Load seg offset size) = false
+is_end (Write seg offset rank rseg roffset size queue) = false
+is_end (Notify rseg rank note value queue) = false
 is_end (WriteNotify seg offset rank rseg roffset size note value queue) = false
 is_end (Wait queue) = false
 is_end (Waitsome seg begin num) = false

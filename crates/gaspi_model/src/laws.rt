@@ -5,7 +5,7 @@ ghost use Rattle.gaspi_types.specs.Need.{need_of};
 ghost use Rattle.gaspi_types.specs.Replies.{is_idle};
 ghost use Rattle.gaspi_types.specs.World.{World, IsWorld};
 ghost use Rattle.gaspi_types.specs.declared.calls.Call.{Call};
-ghost use Rattle.gaspi_types.specs.declared.calls.Call.TheVariants.{WriteNotify};
+ghost use Rattle.gaspi_types.specs.declared.calls.Call.TheVariants.{Write, Notify, WriteNotify};
 ghost use Rattle.gaspi_types.specs.declared.events.Event.{Event};
 ghost use Rattle.gaspi_types.specs.declared.events.Event.TheVariants.{Called, Put};
 ghost use Rattle.gaspi_types.specs.declared.events.Outcome.TheVariants.{Applied};
@@ -66,7 +66,15 @@ pub fn changes()
 /// In a legal history, where a write stands in a lane after some events, and later a notification of that lane with a
 /// greater number is put, the write was put in between. (GASPI: notification order)
 pub fn notification_order()
-    ensures posted { (w : World) (history : List Event) (c : CallerId) (seg offset rank rseg roffset size note value queue : ℕ) (s : State) (posts : Posts)
+    ensures write { (w : World) (history : List Event) (c : CallerId) (seg offset rank rseg roffset size queue : ℕ) (s : State) (posts : Posts)
+        → IsWorld w → reached w history ≡ Ok s → slice_get s.posts c.rank ≡ Some posts
+        → is_legal w (history ++ Called c (Write seg offset rank rseg roffset size queue) replies.Done ∷ []) ≡ true
+        → IsWriteStanding w (history ++ Called c (Write seg offset rank rseg roffset size queue) replies.Done ∷ []) c.rank queue rank posts.next }
+    ensures notify { (w : World) (history : List Event) (c : CallerId) (rseg rank note value queue : ℕ) (s : State) (posts : Posts)
+        → IsWorld w → reached w history ≡ Ok s → slice_get s.posts c.rank ≡ Some posts
+        → is_legal w (history ++ Called c (Notify rseg rank note value queue) replies.Done ∷ []) ≡ true
+        → IsNotificationStanding w (history ++ Called c (Notify rseg rank note value queue) replies.Done ∷ []) c.rank queue rank posts.next }
+    ensures write_notify { (w : World) (history : List Event) (c : CallerId) (seg offset rank rseg roffset size note value queue : ℕ) (s : State) (posts : Posts)
         → IsWorld w → reached w history ≡ Ok s → slice_get s.posts c.rank ≡ Some posts
         → is_legal w (history ++ Called c (WriteNotify seg offset rank rseg roffset size note value queue) replies.Done ∷ []) ≡ true
         → IsWriteStanding w (history ++ Called c (WriteNotify seg offset rank rseg roffset size note value queue) replies.Done ∷ []) c.rank queue rank posts.next

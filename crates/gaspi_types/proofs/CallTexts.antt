@@ -11,7 +11,7 @@ use Rattle.hex.specs.Hex.{is_hex_digit, encode_lower, lower_digits, IsBytes}
 use Rattle.hex.proofs.HexLemmas.{decode_of-encode_lower, decode_of-ok, length-encode_with}
 use Rattle.gaspi_types.specs.Words.{is_blank, IsWord}
 use Rattle.gaspi_types.specs.Hex.{hex_text, no_bytes}
-use Rattle.gaspi_types.specs.CallText.{call_word_of, store_of, load_of, write_notify_of, wait_of, waitsome_of, reset_of, call_of, call_of_text, words_of_call, call_text, IsWritable}
+use Rattle.gaspi_types.specs.CallText.{call_word_of, store_of, load_of, write_of, notify_of, write_notify_of, wait_of, waitsome_of, reset_of, call_of, call_of_text, words_of_call, call_text, IsWritable}
 use Rattle.gaspi_types.specs.declared.calls.Call.{Call}
 use Rattle.gaspi_types.specs.declared.calls.Call.TheVariants as calls
 use Rattle.gaspi_types.proofs.HexWords.{bytes_of-hex_text, hex_text-filled}
@@ -63,6 +63,10 @@ words_of_call-words (calls.Store seg offset bytes) h =
     (fixed_word (codes "store") (lit< tt) refl, (number_word seg h.0, (number_word offset h.1, (hex_word bytes h.2, tt))))
 words_of_call-words (calls.Load seg offset size) h =
     (fixed_word (codes "load") (lit< tt) refl, (number_word seg h.0, (number_word offset h.1, (number_word size h.2, tt))))
+words_of_call-words (calls.Write seg offset rank rseg roffset size queue) h =
+    (fixed_word (codes "write") (lit< tt) refl, (number_word seg h.0, (number_word offset h.1, (number_word rank h.2, (number_word rseg h.3, (number_word roffset h.4, (number_word size h.5, (number_word queue h.6, tt))))))))
+words_of_call-words (calls.Notify rseg rank note value queue) h =
+    (fixed_word (codes "notify") (lit< tt) refl, (number_word rseg h.0, (number_word rank h.1, (number_word note h.2, (number_word value (omega (arith, h.3)), (number_word queue h.4, tt))))))
 words_of_call-words (calls.WriteNotify seg offset rank rseg roffset size note value queue) h =
     (fixed_word (codes "write_notify") (lit< tt) refl, (number_word seg h.0, (number_word offset h.1, (number_word rank h.2, (number_word rseg h.3, (number_word roffset h.4, (number_word size h.5, (number_word note h.6, (number_word value (omega (arith, h.7)), (number_word queue h.8, tt))))))))))
 words_of_call-words (calls.Wait queue) h = (fixed_word (codes "wait") (lit< tt) refl, (number_word queue h, tt))
@@ -74,11 +78,15 @@ words_of_call-words calls.End h = absurd h
 
 -- the words of a call spell it
 call_of-words : (call : Call) → IsWritable call → call_of (words_of_call call) ≡ Some call
-unfolding call_of call_word_of store_of load_of write_notify_of wait_of waitsome_of reset_of
+unfolding call_of call_word_of store_of load_of write_of notify_of write_notify_of wait_of waitsome_of reset_of
 call_of-words (calls.Store seg offset bytes) h =
     rw (number_of-decimal seg h.0, number_of-decimal offset h.1, bytes_of-hex_text bytes h.2) refl
 call_of-words (calls.Load seg offset size) h =
     rw (number_of-decimal seg h.0, number_of-decimal offset h.1, number_of-decimal size h.2) refl
+call_of-words (calls.Write seg offset rank rseg roffset size queue) h =
+    rw (number_of-decimal seg h.0, number_of-decimal offset h.1, number_of-decimal rank h.2, number_of-decimal rseg h.3, number_of-decimal roffset h.4, number_of-decimal size h.5, number_of-decimal queue h.6) refl
+call_of-words (calls.Notify rseg rank note value queue) h =
+    rw (number_of-decimal rseg h.0, number_of-decimal rank h.1, number_of-decimal note h.2, value_of-decimal value h.3, number_of-decimal queue h.4) refl
 call_of-words (calls.WriteNotify seg offset rank rseg roffset size note value queue) h =
     rw (number_of-decimal seg h.0, number_of-decimal offset h.1, number_of-decimal rank h.2, number_of-decimal rseg h.3, number_of-decimal roffset h.4, number_of-decimal size h.5, number_of-decimal note h.6, value_of-decimal value h.7, number_of-decimal queue h.8) refl
 call_of-words (calls.Wait queue) h = rw (number_of-decimal queue h) refl

@@ -11,12 +11,14 @@ use Rattle.gaspi_types.specs.Hex.{bytes_of, hex_text}
 use Rattle.gaspi_types.specs.declared.calls.Call.{Call}
 use Rattle.gaspi_types.specs.declared.calls.Call.TheVariants as calls
 use Rattle.gaspi_types.specs.declared.call_words.CallWord.{CallWord}
-use Rattle.gaspi_types.specs.declared.call_words.CallWord.TheVariants.{Store, Load, WriteNotify, Wait, Waitsome, Reset}
+use Rattle.gaspi_types.specs.declared.call_words.CallWord.TheVariants.{Store, Load, Write, Notify, WriteNotify, Wait, Waitsome, Reset}
 
 -- how a call's word is spelled: as GASPI names the procedure, and `store` and `load` by own choice
 abbrev pub spelling_of : CallWord → List ℕ
 spelling_of Store = codes "store"
 spelling_of Load = codes "load"
+spelling_of Write = codes "write"
+spelling_of Notify = codes "notify"
 spelling_of WriteNotify = codes "write_notify"
 spelling_of Wait = codes "wait"
 spelling_of Waitsome = codes "waitsome"
@@ -24,7 +26,7 @@ spelling_of Reset = codes "reset"
 
 -- the words of calls
 abbrev pub call_words : List CallWord
-call_words = Store ∷ Load ∷ WriteNotify ∷ Wait ∷ Waitsome ∷ Reset ∷ []
+call_words = Store ∷ Load ∷ Write ∷ Notify ∷ WriteNotify ∷ Wait ∷ Waitsome ∷ Reset ∷ []
 
 -- the call's word that is spelled so
 unfoldable pub call_word_of : List ℕ → Option CallWord
@@ -34,6 +36,8 @@ call_word_of word = find (λ call. bytes_eq (spelling_of call) word) call_words
 abbrev pub arguments_of : CallWord → ℕ
 arguments_of Store = 3
 arguments_of Load = 3
+arguments_of Write = 7
+arguments_of Notify = 5
 arguments_of WriteNotify = 9
 arguments_of Wait = 1
 arguments_of Waitsome = 3
@@ -43,6 +47,8 @@ arguments_of Reset = 2
 abbrev pub has_timeout : CallWord → Bool
 has_timeout Store = false
 has_timeout Load = false
+has_timeout Write = false
+has_timeout Notify = false
 has_timeout WriteNotify = false
 has_timeout Wait = true
 has_timeout Waitsome = true
@@ -52,6 +58,8 @@ has_timeout Reset = false
 abbrev pub holds_bytes : CallWord → Bool
 holds_bytes Store = true
 holds_bytes Load = false
+holds_bytes Write = false
+holds_bytes Notify = false
 holds_bytes WriteNotify = false
 holds_bytes Wait = false
 holds_bytes Waitsome = false
@@ -89,6 +97,30 @@ load_of (first ∷ second ∷ third ∷ []) = do
   size ← number_of third
   Some (calls.Load seg offset size)
 load_of other = None
+
+-- SEG OFF RANK RSEG ROFF SIZE QUEUE (GASPI: write)
+unfoldable pub write_of : List (List ℕ) → Option Call
+write_of (first ∷ second ∷ third ∷ fourth ∷ fifth ∷ sixth ∷ seventh ∷ []) = do
+  seg ← number_of first
+  offset ← number_of second
+  rank ← number_of third
+  rseg ← number_of fourth
+  roffset ← number_of fifth
+  size ← number_of sixth
+  queue ← number_of seventh
+  Some (calls.Write seg offset rank rseg roffset size queue)
+write_of other = None
+
+-- RSEG RANK NOTE VALUE QUEUE (GASPI: notify)
+unfoldable pub notify_of : List (List ℕ) → Option Call
+notify_of (first ∷ second ∷ third ∷ fourth ∷ fifth ∷ []) = do
+  rseg ← number_of first
+  rank ← number_of second
+  note ← number_of third
+  value ← value_of fourth
+  queue ← number_of fifth
+  Some (calls.Notify rseg rank note value queue)
+notify_of other = None
 
 -- SEG OFF RANK RSEG ROFF SIZE NOTE VALUE QUEUE (GASPI: write_notify)
 unfoldable pub write_notify_of : List (List ℕ) → Option Call
@@ -133,6 +165,8 @@ reset_of other = None
 abbrev pub call_with : CallWord → List (List ℕ) → Option Call
 call_with Store arguments = store_of arguments
 call_with Load arguments = load_of arguments
+call_with Write arguments = write_of arguments
+call_with Notify arguments = notify_of arguments
 call_with WriteNotify arguments = write_notify_of arguments
 call_with Wait arguments = wait_of arguments
 call_with Waitsome arguments = waitsome_of arguments
@@ -158,6 +192,10 @@ call_of_text text = call_of (words_of text)
 abbrev pub words_of_call : Call → List (List ℕ)
 words_of_call (calls.Store seg offset bytes) = codes "store" ∷ decimal seg ∷ decimal offset ∷ hex_text bytes ∷ []
 words_of_call (calls.Load seg offset size) = codes "load" ∷ decimal seg ∷ decimal offset ∷ decimal size ∷ []
+words_of_call (calls.Write seg offset rank rseg roffset size queue) =
+    codes "write" ∷ decimal seg ∷ decimal offset ∷ decimal rank ∷ decimal rseg ∷ decimal roffset ∷ decimal size ∷ decimal queue ∷ []
+words_of_call (calls.Notify rseg rank note value queue) =
+    codes "notify" ∷ decimal rseg ∷ decimal rank ∷ decimal note ∷ decimal value ∷ decimal queue ∷ []
 words_of_call (calls.WriteNotify seg offset rank rseg roffset size note value queue) =
     codes "write_notify" ∷ decimal seg ∷ decimal offset ∷ decimal rank ∷ decimal rseg ∷ decimal roffset ∷ decimal size
     ∷ decimal note ∷ decimal value ∷ decimal queue ∷ []
@@ -179,6 +217,9 @@ IsNumber n = n < 2 ^ 64
 abbrev pub IsWritable : Call → Type 0
 IsWritable (calls.Store seg offset bytes) = IsNumber seg × IsNumber offset × IsBytes bytes
 IsWritable (calls.Load seg offset size) = IsNumber seg × IsNumber offset × IsNumber size
+IsWritable (calls.Write seg offset rank rseg roffset size queue) =
+    IsNumber seg × IsNumber offset × IsNumber rank × IsNumber rseg × IsNumber roffset × IsNumber size × IsNumber queue
+IsWritable (calls.Notify rseg rank note value queue) = IsNumber rseg × IsNumber rank × IsNumber note × (value < 2 ^ 32) × IsNumber queue
 IsWritable (calls.WriteNotify seg offset rank rseg roffset size note value queue) =
     IsNumber seg × IsNumber offset × IsNumber rank × IsNumber rseg × IsNumber roffset × IsNumber size × IsNumber note
     × (value < 2 ^ 32) × IsNumber queue

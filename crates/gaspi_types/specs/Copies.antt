@@ -1,7 +1,7 @@
 -- What is copied without memory.
 use Rattle.std.specs.Prelude.{Bool, true, ◌&&◌, length, ◌==◌}
 use Rattle.gaspi_types.specs.declared.calls.Call.{Call}
-use Rattle.gaspi_types.specs.declared.calls.Call.TheVariants.{Store, Load, WriteNotify, Wait, Waitsome, Reset, End}
+use Rattle.gaspi_types.specs.declared.calls.Call.TheVariants.{Store, Load, Write, Notify, WriteNotify, Wait, Waitsome, Reset, End}
 use Rattle.gaspi_types.specs.declared.replies.Reply.{Reply}
 use Rattle.gaspi_types.specs.declared.replies.Reply.TheVariants as replies
 use Rattle.gaspi_types.specs.declared.events.Event.{Event}
@@ -11,6 +11,8 @@ use Rattle.gaspi_types.specs.declared.events.Event.TheVariants.{Called, Take, Pu
 abbrev pub is_listless_call : Call → Bool
 is_listless_call (Store seg offset bytes) = length bytes == 0
 is_listless_call (Load seg offset size) = true
+is_listless_call (Write seg offset rank rseg roffset size queue) = true
+is_listless_call (Notify rseg rank note value queue) = true
 is_listless_call (WriteNotify seg offset rank rseg roffset size note value queue) = true
 is_listless_call (Wait queue) = true
 is_listless_call (Waitsome seg begin num) = true

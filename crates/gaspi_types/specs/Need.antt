@@ -1,12 +1,14 @@
 -- How much room a call needs in its rank's count of events.
 use Rattle.std.specs.Prelude.{ℕ, ◌+◌, ◌*◌, Bool, if◌then◌else◌}
 use Rattle.gaspi_types.specs.declared.calls.Call.{Call}
-use Rattle.gaspi_types.specs.declared.calls.Call.TheVariants.{Store, Load, WriteNotify, Wait, Waitsome, Reset, End}
+use Rattle.gaspi_types.specs.declared.calls.Call.TheVariants.{Store, Load, Write, Notify, WriteNotify, Wait, Waitsome, Reset, End}
 
 -- own choice: how many entries the call appends to a lane
 abbrev pub entries_of : Call → ℕ
 entries_of (Store seg offset bytes) = 0
 entries_of (Load seg offset size) = 0
+entries_of (Write seg offset rank rseg roffset size queue) = 1
+entries_of (Notify rseg rank note value queue) = 1
 entries_of (WriteNotify seg offset rank rseg roffset size note value queue) = 2
 entries_of (Wait queue) = 0
 entries_of (Waitsome seg begin num) = 0
@@ -18,6 +20,8 @@ entries_of End = 0
 abbrev pub need_of : Call → Bool → Bool → ℕ
 need_of (Store seg offset bytes) pending ended = 1
 need_of (Load seg offset size) pending ended = 1
+need_of (Write seg offset rank rseg roffset size queue) pending ended = 1 + 2 * 1
+need_of (Notify rseg rank note value queue) pending ended = 1 + 2 * 1
 need_of (WriteNotify seg offset rank rseg roffset size note value queue) pending ended = 1 + 2 * 2
 need_of (Wait queue) pending ended = 1
 need_of (Waitsome seg begin num) pending ended = 1

@@ -1,7 +1,7 @@
 //! Calls read from texts.
 
 ghost use Rattle.std.specs.Prelude.{◌≡◌, map, IfOk, OnErr, true};
-ghost use Rattle.gaspi_types.specs.CallText.{store_of, load_of, write_notify_of, wait_of, waitsome_of, reset_of, call_of, takes_memory, call_of_text};
+ghost use Rattle.gaspi_types.specs.CallText.{store_of, load_of, write_of, notify_of, write_notify_of, wait_of, waitsome_of, reset_of, call_of, takes_memory, call_of_text};
 
 use crate::blanks::words;
 use crate::call_words::CallWord;
@@ -41,6 +41,52 @@ fn read_load(arguments: &[&[u8]]) -> Option<Call>
     let offset = read_number(offset)?;
     let size = read_number(size)?;
     Some(Call::Load { seg, offset, size })
+}
+
+#[tactic(auto, unfolding(crate::specs::CallText::write_of))]
+fn read_write(arguments: &[&[u8]]) -> Option<Call>
+    ensures { result ≡ write_of (map (λ word. word.now) arguments.now) }
+{
+    let [seg, offset, rank, rseg, roffset, size, queue] = arguments else {
+        return None;
+    };
+    let seg = read_number(seg)?;
+    let offset = read_number(offset)?;
+    let rank = read_number(rank)?;
+    let rseg = read_number(rseg)?;
+    let roffset = read_number(roffset)?;
+    let size = read_number(size)?;
+    let queue = read_number(queue)?;
+    Some(Call::Write {
+        seg,
+        offset,
+        rank,
+        rseg,
+        roffset,
+        size,
+        queue,
+    })
+}
+
+#[tactic(auto, unfolding(crate::specs::CallText::notify_of))]
+fn read_notify(arguments: &[&[u8]]) -> Option<Call>
+    ensures { result ≡ notify_of (map (λ word. word.now) arguments.now) }
+{
+    let [rseg, rank, note, value, queue] = arguments else {
+        return None;
+    };
+    let rseg = read_number(rseg)?;
+    let rank = read_number(rank)?;
+    let note = read_number(note)?;
+    let value = read_value(value)?;
+    let queue = read_number(queue)?;
+    Some(Call::Notify {
+        rseg,
+        rank,
+        note,
+        value,
+        queue,
+    })
 }
 
 #[tactic(auto, unfolding(crate::specs::CallText::write_notify_of))]
@@ -121,6 +167,8 @@ pub fn read_call_words(alloc: Global, words: &[&[u8]]) -> Result<Option<Call>, N
     match CallWord::of(word) {
         Some(CallWord::Store) => read_store(alloc, arguments),
         Some(CallWord::Load) => Ok(read_load(arguments)),
+        Some(CallWord::Write) => Ok(read_write(arguments)),
+        Some(CallWord::Notify) => Ok(read_notify(arguments)),
         Some(CallWord::WriteNotify) => Ok(read_write_notify(arguments)),
         Some(CallWord::Wait) => Ok(read_wait(arguments)),
         Some(CallWord::Waitsome) => Ok(read_waitsome(arguments)),

@@ -8,6 +8,8 @@ ghost use Rattle.gaspi_types.specs.CallText.{spelling_of, call_word_of, argument
 pub enum CallWord {
     Store,
     Load,
+    Write,
+    Notify,
     WriteNotify,
     Wait,
     Waitsome,
@@ -22,6 +24,8 @@ impl CallWord {
         match self {
             CallWord::Store => b"store",
             CallWord::Load => b"load",
+            CallWord::Write => b"write",
+            CallWord::Notify => b"notify",
             CallWord::WriteNotify => b"write_notify",
             CallWord::Wait => b"wait",
             CallWord::Waitsome => b"waitsome",
@@ -37,6 +41,8 @@ impl CallWord {
         [
             CallWord::Store,
             CallWord::Load,
+            CallWord::Write,
+            CallWord::Notify,
             CallWord::WriteNotify,
             CallWord::Wait,
             CallWord::Waitsome,
@@ -54,6 +60,8 @@ impl CallWord {
         match self {
             CallWord::Store => 3,
             CallWord::Load => 3,
+            CallWord::Write => 7,
+            CallWord::Notify => 5,
             CallWord::WriteNotify => 9,
             CallWord::Wait => 1,
             CallWord::Waitsome => 3,

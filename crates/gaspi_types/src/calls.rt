@@ -24,6 +24,24 @@ pub enum Call {
         offset: u64,
         size: u64,
     },
+    /// Posts a write into a segment of a rank. (GASPI: write)
+    Write {
+        seg: u64,
+        offset: u64,
+        rank: u64,
+        rseg: u64,
+        roffset: u64,
+        size: u64,
+        queue: u64,
+    },
+    /// Posts a notification of a rank. (GASPI: notify)
+    Notify {
+        rseg: u64,
+        rank: u64,
+        note: u64,
+        value: u32,
+        queue: u64,
+    },
     /// Posts a write into a segment of a rank, and a notification behind it. (GASPI: write_notify)
     WriteNotify {
         seg: u64,
@@ -81,6 +99,36 @@ impl Call {
                 offset: *offset,
                 size: *size,
             }),
+            Call::Write {
+                seg,
+                offset,
+                rank,
+                rseg,
+                roffset,
+                size,
+                queue,
+            } => Ok(Call::Write {
+                seg: *seg,
+                offset: *offset,
+                rank: *rank,
+                rseg: *rseg,
+                roffset: *roffset,
+                size: *size,
+                queue: *queue,
+            }),
+            Call::Notify {
+                rseg,
+                rank,
+                note,
+                value,
+                queue,
+            } => Ok(Call::Notify {
+                rseg: *rseg,
+                rank: *rank,
+                note: *note,
+                value: *value,
+                queue: *queue,
+            }),
             Call::WriteNotify {
                 seg,
                 offset,
@@ -126,6 +174,7 @@ pub fn need(call: &Call, pending: bool, ended: bool) -> u64
     let _ = pending;
     match call {
         Call::End => { if ended { 1 } else { 0 } }
+        Call::Write { .. } | Call::Notify { .. } => 3,
         Call::WriteNotify { .. } => 5,
         Call::Store { .. }
         | Call::Load { .. }

@@ -1,9 +1,15 @@
 use Rattle.gaspi_model.proofs.NotificationOrder.{order}
-use Rattle.gaspi_model.proofs.PostStands.{posted}
+use Rattle.gaspi_model.proofs.PostStands.{posted-write, posted-notify, posted-write_notify}
 use Rattle.gaspi_model.proofs.laws.notification_order.Goals as goal
 
-pub returns-clause-posted : goal.returns-clause-posted
-returns-clause-posted c = posted
+pub returns-clause-write : goal.returns-clause-write
+returns-clause-write c = posted-write
+
+pub returns-clause-notify : goal.returns-clause-notify
+returns-clause-notify c = posted-notify
+
+pub returns-clause-write_notify : goal.returns-clause-write_notify
+returns-clause-write_notify c = posted-write_notify
 
 pub returns-clause-order : goal.returns-clause-order
 returns-clause-order c = order
