@@ -21,3 +21,4 @@ pub mod FittingEntries
 pub mod CoherentSteps
 pub mod CoherentOpening
 pub mod PostStands
+pub mod EmptyLanes

@@ -4,14 +4,14 @@ use Rattle.std.specs.List.{slice_get, slice_set, sum_by, count_by, list_any}
 use Rattle.std.proofs.lemmas.Bool.{ltb-true, leb-true}
 use Rattle.std.proofs.lemmas.List.Sums.{sum_by-cons, sum_by-append, sum_by-remove, count_by-le-length}
 use Rattle.std.proofs.lemmas.Option.{slice_get_within, get_or_from_slice_get}
-use Rattle.gaspi_types.specs.Lanes.{is_posted, is_posted_phase, is_carried, is_carried_phase, carried_count, has_posted, posted_entries}
+use Rattle.gaspi_types.specs.Lanes.{is_posted, is_posted_phase, is_carried, is_carried_phase, is_failed, is_failed_phase, carried_count, has_posted, posted_entries}
 use Rattle.gaspi_types.specs.declared.entries.Entry.{Entry}
 use Rattle.gaspi_types.specs.declared.entries.Kind.{Kind}
 use Rattle.gaspi_types.specs.declared.entries.Phase.{Phase}
 use Rattle.gaspi_types.specs.declared.entries.Phase.TheVariants as phases
 use Rattle.gaspi_model.specs.Calls.{with_entries}
 use Rattle.gaspi_model.specs.Transfers.{with_phase}
-use Rattle.gaspi_model.specs.Sound.{AreRising, lane_from, queue_from, IsSoundQueue}
+use Rattle.gaspi_model.specs.Sound.{AreRising, lane_from, queue_from, lane_failed, queue_failed, failures, IsSoundQueue}
 use Rattle.gaspi_model.specs.declared.states.Queue.{Queue}
 use Rattle.gaspi_model.proofs.Tables.{slice_get-set, sum_by-changed, remove-part, append-parts}
 
@@ -27,6 +27,14 @@ count-remove p xs i x at =
 
 pub count-append : {A : Type 0} (p : A → Bool) (xs ys : List A) → count_by p (xs ++ ys) ≡ count_by p xs + count_by p ys
 count-append p xs ys = sum_by-append (λ (z : _). cond (p z) 1 0) xs ys
+
+pub one-if : (b : Bool) → b ≡ true → cond {A = ℕ} b 1 0 ≡ 1
+one-if true h = refl
+one-if false h = absurd (let no : ⊥ = cc in no)
+
+pub one-if-not : (b : Bool) → b ≡ false → cond {A = ℕ} b 1 0 ≡ 0
+one-if-not true h = absurd (let no : ⊥ = cc in no)
+one-if-not false h = refl
 
 one-or-none : (b : Bool) → cond b 1 0 ≤ 1
 one-or-none true = omega arith
@@ -50,6 +58,23 @@ none-carried : (number : ℕ) (kinds : List Kind) → carried_count (posted_entr
 none-carried number [] = refl
 none-carried number (kind ∷ kinds) = sum_by-cons (λ (e : Entry). cond (is_carried e) 1 0) (record { number = number; kind = kind; phase = phases.Posted }) (posted_entries (number + 1) kinds)
     ∙ (let rest = none-carried (number + 1) kinds in omega arith)
+
+none-failed : (number : ℕ) (kinds : List Kind) → lane_failed (posted_entries number kinds) ≡ 0
+none-failed number [] = refl
+none-failed number (kind ∷ kinds) =
+    sum_by-cons (λ (e : Entry). cond (is_failed e) 1 0) (record { number = number; kind = kind; phase = phases.Posted }) (posted_entries (number + 1) kinds)
+    ∙ (let rest = none-failed (number + 1) kinds in omega arith)
+
+-- what is posted, and what is carried, has not failed
+pub posted-unfailed : (phase : Phase) → is_posted_phase phase ≡ true → is_failed_phase phase ≡ false
+posted-unfailed phases.Posted h = refl
+posted-unfailed (phases.Carried bytes) h = refl
+posted-unfailed phases.Failed h = absurd (let no : ⊥ = cc in no)
+
+pub carried-unfailed : (phase : Phase) → is_carried_phase phase ≡ true → is_failed_phase phase ≡ false
+carried-unfailed phases.Posted h = refl
+carried-unfailed (phases.Carried bytes) h = refl
+carried-unfailed phases.Failed h = absurd (let no : ⊥ = cc in no)
 
 posted-from : (number : ℕ) (kinds : List Kind) (k : ℕ) (e : Entry) → slice_get (posted_entries number kinds) k ≡ Some e → number ≤ e.number
 posted-from number [] k e at = absurd (let no : ⊥ = cc in no)
@@ -86,8 +111,9 @@ sum-none f (x ∷ xs) all =
 -- posted entries stood in the old one.
 pub queue-lane : (depth : ℕ) (q q' : Queue) (target : ℕ) (lane lane' : List Entry) → IsSoundQueue depth q → slice_get q.lanes target ≡ Some lane
     → q'.lanes ≡ slice_set q.lanes target lane' → q'.open_count ≡ q.open_count → carried_count lane' ≤ depth → ((n : ℕ) → lane_from n lane' ≤ lane_from n lane)
-    → ((place : ℕ) (e : Entry) → slice_get lane' place ≡ Some e → is_posted e ≡ true → (k : ℕ) × (slice_get lane k ≡ Some e)) → IsSoundQueue depth q'
-queue-lane depth q q' target lane lane' sound at lanes count carried fewer old = record {
+    → ((place : ℕ) (e : Entry) → slice_get lane' place ≡ Some e → is_posted e ≡ true → (k : ℕ) × (slice_get lane k ≡ Some e))
+    → failures q'.broken + lane_failed lane ≡ failures q.broken + lane_failed lane' → IsSoundQueue depth q'
+queue-lane depth q q' target lane lane' sound at lanes count carried fewer old marks = record {
   carried = λ t l here. carried-of t l (slice_get-set q.lanes target t lane' l (rw lanes at here));
   from_posted = λ t l here place e there posted.
       let less = fewer e.number in
@@ -97,6 +123,11 @@ queue-lane depth q q' target lane lane' sound at lanes count carried fewer old =
       let total : queue_from e.number q' ≡ sum_by (lane_from e.number) (slice_set q.lanes target lane') = rw lanes refl in
       omega arith;
   opened = (let few = sound.opened in omega arith);
+  failed =
+      (let sum : sum_by lane_failed (slice_set q.lanes target lane') + lane_failed lane ≡ sum_by lane_failed q.lanes + lane_failed lane' = sum_by-changed lane_failed q.lanes target lane lane' at in
+      let total : queue_failed q' ≡ sum_by lane_failed (slice_set q.lanes target lane') = rw lanes refl in
+      let before = sound.failed in
+      omega arith);
 }
   where
     carried-of : (t : ℕ) (l : List Entry) → ((t ≡ target) × (l ≡ lane')) ⊎ (slice_get q.lanes t ≡ Some l) → carried_count l ≤ depth
@@ -113,11 +144,13 @@ queue-lane depth q q' target lane lane' sound at lanes count carried fewer old =
 -- an entry in a phase that is not the posted one
 pub queue-phase : (depth : ℕ) (q q' : Queue) (target : ℕ) (lane : List Entry) (place : ℕ) (e : Entry) (phase : Phase) → IsSoundQueue depth q → slice_get q.lanes target ≡ Some lane
     → slice_get lane place ≡ Some e → q'.lanes ≡ slice_set q.lanes target (with_phase lane place e phase) → q'.open_count ≡ q.open_count
-    → is_posted_phase phase ≡ false → carried_count (with_phase lane place e phase) ≤ depth → IsSoundQueue depth q'
-queue-phase depth q q' target lane place e phase sound at here lanes count apart carried =
+    → is_posted_phase phase ≡ false → carried_count (with_phase lane place e phase) ≤ depth
+    → failures q'.broken + cond (is_failed e) 1 0 ≡ failures q.broken + cond (is_failed_phase phase) 1 0 → IsSoundQueue depth q'
+queue-phase depth q q' target lane place e phase sound at here lanes count apart carried marks =
     queue-lane depth q q' target lane (with_phase lane place e phase) sound at lanes count carried
     (λ n. let same = from-phase n lane place e phase here in omega arith)
     (λ k x there posted. old k x posted (slice_get-set lane place k (record e { phase = phase }) x there))
+    (let set = count-set is_failed lane place e (record e { phase = phase }) here in omega arith)
   where
     old : (k : ℕ) (x : Entry) → is_posted x ≡ true → ((k ≡ place) × (x ≡ record e { phase = phase })) ⊎ (slice_get lane k ≡ Some x) → (j : ℕ) × (slice_get lane j ≡ Some x)
     old k x posted (inl is) = absurd (let is_phase : x.phase ≡ phase = ap (λ (y : Entry). y.phase) is.1 in let none : is_posted_phase phase ≡ true = subst (λ (p : Phase). is_posted_phase p ≡ true) is_phase posted in let no : ⊥ = cc in no)
@@ -141,12 +174,17 @@ carried-failed depth lane place e at few =
 
 -- an entry gone
 pub queue-remove : (depth : ℕ) (q q' : Queue) (target : ℕ) (lane : List Entry) (place : ℕ) (e : Entry) → IsSoundQueue depth q → slice_get q.lanes target ≡ Some lane
-    → slice_get lane place ≡ Some e → q'.lanes ≡ slice_set q.lanes target (remove lane place) → q'.open_count ≡ q.open_count → IsSoundQueue depth q'
-queue-remove depth q q' target lane place e sound at here lanes count =
+    → slice_get lane place ≡ Some e → q'.lanes ≡ slice_set q.lanes target (remove lane place) → q'.open_count ≡ q.open_count → q'.broken ≡ q.broken → is_failed e ≡ false
+    → IsSoundQueue depth q'
+queue-remove depth q q' target lane place e sound at here lanes count marks whole =
     queue-lane depth q q' target lane (remove lane place) sound at lanes count
     (let less = count-remove is_carried lane place e here in let few = sound.carried target lane at in omega arith)
     (λ n. from-remove n lane place e here)
     (λ k x there posted. remove-part lane place k x there)
+    (let less : lane_failed (remove lane place) + cond (is_failed e) 1 0 ≡ lane_failed lane = count-remove is_failed lane place e here in
+    let none = one-if-not (is_failed e) whole in
+    let same = ap failures marks in
+    omega arith)
 
 -- a wait that was done: no entry of the queue is posted
 pub queue-waited : (depth : ℕ) (q : Queue) → IsSoundQueue depth q → list_any has_posted q.lanes ≡ false → IsSoundQueue depth (record q { open_count = 0 })
@@ -154,6 +192,7 @@ queue-waited depth q sound none = record {
   carried = sound.carried;
   from_posted = λ t l here place e there posted. absurd (any-lane q.lanes t l place e here there posted none);
   opened = omega arith;
+  failed = sound.failed;
 }
   where
     any-entry : (lane : List Entry) (place : ℕ) (e : Entry) → slice_get lane place ≡ Some e → is_posted e ≡ true → has_posted lane ≡ false → ⊥
@@ -191,13 +230,22 @@ queue-posted depth next q target kinds sound rising fits = go (slice_get q.lanes
     entries = posted_entries next kinds
 
     some : (lane : List Entry) → slice_get q.lanes target ≡ Some lane → (q' : Queue) → q'.lanes ≡ slice_set q.lanes target (lane ++ posted_entries next kinds)
-        → q'.open_count ≡ q.open_count + length (posted_entries next kinds) → IsSoundQueue depth q'
-    some lane at q' lanes count = record {
+        → q'.open_count ≡ q.open_count + length (posted_entries next kinds) → q'.broken ≡ q.broken → IsSoundQueue depth q'
+    some lane at q' lanes count marks = record {
       carried = λ t l here. carried-of t l (slice_get-set q.lanes target t (lane ++ posted_entries next kinds) l (rw lanes at here));
       from_posted = λ t l here place e there posted.
           let most = grows e.number in
           from-of t l place e (slice_get-set q.lanes target t (lane ++ posted_entries next kinds) l (rw lanes at here)) there posted;
       opened = (let more = posted-length next kinds in omega arith);
+      failed =
+          (let sum : sum_by lane_failed (slice_set q.lanes target (lane ++ posted_entries next kinds)) + lane_failed lane ≡ sum_by lane_failed q.lanes + lane_failed (lane ++ posted_entries next kinds) =
+          sum_by-changed lane_failed q.lanes target lane (lane ++ posted_entries next kinds) at in
+          let both : lane_failed (lane ++ posted_entries next kinds) ≡ lane_failed lane + lane_failed (posted_entries next kinds) = count-append is_failed lane (posted_entries next kinds) in
+          let none = none-failed next kinds in
+          let total : queue_failed q' ≡ sum_by lane_failed (slice_set q.lanes target (lane ++ posted_entries next kinds)) = rw lanes refl in
+          let before = sound.failed in
+          let same = ap failures marks in
+          omega arith);
     }
       where
         carried-of : (t : ℕ) (l : List Entry) → ((t ≡ target) × (l ≡ lane ++ posted_entries next kinds)) ⊎ (slice_get q.lanes t ≡ Some l) → carried_count l ≤ depth
@@ -242,7 +290,7 @@ queue-posted depth next q target kinds sound rising fits = go (slice_get q.lanes
             omega arith
 
     go : (o : Option (List Entry)) → slice_get q.lanes target ≡ o → IsSoundQueue depth (with_entries target (posted_entries next kinds) q)
-    go (Some lane) at = some lane at (with_entries target (posted_entries next kinds) q) (rw at refl) refl
+    go (Some lane) at = some lane at (with_entries target (posted_entries next kinds) q) (rw at refl) refl refl
     go None at =
         let same : (with_entries target (posted_entries next kinds) q).lanes ≡ q.lanes = rw at refl in
         let more = posted-length next kinds in
@@ -253,4 +301,5 @@ queue-posted depth next q target kinds sound rising fits = go (slice_get q.lanes
               let total : queue_from e.number (with_entries target (posted_entries next kinds) q) ≡ queue_from e.number q = rw same refl in
               omega arith;
           opened = omega arith;
+          failed = rw same sound.failed;
         }

@@ -14,7 +14,7 @@ use Rattle.gaspi_types.specs.declared.shapes.CallerId.{CallerId}
 use Rattle.gaspi_model.specs.State.{opening, opening_memory, opening_posts, opening_queue, opening_thread, entries_owed, queue_owed, is_running}
 use Rattle.gaspi_model.proofs.Tables.{slice_get-replicate}
 use Rattle.gaspi_model.proofs.CoherentOpening.{opens-coherent}
-use Rattle.gaspi_model.specs.Sound.{IsSoundQueue, IsSoundPosts, IsSound}
+use Rattle.gaspi_model.specs.Sound.{lane_failed, IsSoundQueue, IsSoundPosts, IsSound}
 use Rattle.gaspi_types.specs.declared.entries.Entry.{Entry}
 use Rattle.gaspi_model.specs.declared.states.Queue.{Queue}
 use Rattle.gaspi_model.specs.declared.states.ThreadState.TheVariants.{Absent, Running}
@@ -90,6 +90,7 @@ empty-queue ranks depth = record {
   from_posted = λ target lane at place e here posted.
       absurd (let none : slice_get {X = Entry} [] place ≡ Some e = subst (λ (l : List Entry). slice_get l place ≡ Some e) (slice_get-replicate ranks [] lane target at) here in let no : ⊥ = cc in no);
   opened = omega arith;
+  failed = (let none = sum_by-replicate lane_failed ranks [] in none ∙ omega arith);
 }
 
 opening-sound : (w : World) (rank : ℕ) → IsWorld w → IsSoundPosts w.limits (opening_posts w rank)

@@ -1,9 +1,9 @@
 -- The opening state is sound, and every step keeps a state sound.
-use Rattle.std.proofs.Common.{◌-◌, subst, ◌≡◌, ℕ, ◌+◌, ◌≤◌, Bool, true, false, List, ◌++◌, length, Option, None, Some, Result, Ok, Err, refl, sym, ap, ◌∙◌, arith, if◌then◌else◌, ◌⊎◌, inl, inr, remove}
+use Rattle.std.proofs.Common.{◌-◌, subst, ◌≡◌, ℕ, ◌+◌, ◌≤◌, Bool, true, false, List, ◌++◌, length, Option, None, Some, Result, Ok, Err, refl, sym, ap, ◌∙◌, arith, if◌then◌else◌, ◌⊎◌, inl, inr, remove, is_none}
 use Rattle.std.specs.List.{sum_by, slice_get, slice_set}
 use Rattle.std.proofs.lemmas.Bool.{leb-true}
 use Rattle.std.proofs.lemmas.List.{length-set}
-use Rattle.gaspi_types.specs.Lanes.{posted_entries, is_posted}
+use Rattle.gaspi_types.specs.Lanes.{posted_entries, is_posted, is_carried}
 use Rattle.gaspi_types.specs.Replies.{is_idle}
 use Rattle.gaspi_types.specs.Posts.{write_kinds, notify_kinds, write_notify_kinds}
 use Rattle.gaspi_types.specs.declared.entries.Entry.{Entry}
@@ -23,7 +23,7 @@ use Rattle.gaspi_model.specs.Calls.{changed_at, with_entries, with_post, posts_d
 use Rattle.gaspi_model.specs.Transfers.{Found, with_lane, with_phase, put_with, taken_bytes, Parts}
 use Rattle.gaspi_model.specs.Step.{step}
 use Rattle.gaspi_model.specs.Coherence.{IsCoherent}
-use Rattle.gaspi_model.specs.Sound.{IsSoundPosts, IsSound, AreRising, events_left}
+use Rattle.gaspi_model.specs.Sound.{failures, IsSoundPosts, IsSound, AreRising, events_left}
 use Rattle.gaspi_model.proofs.Rising.{AreRising-more, AreRising-phase, AreRising-remove, AreRising-post}
 use Rattle.gaspi_model.specs.declared.states.Queue.{Queue}
 use Rattle.gaspi_model.specs.declared.states.Posts.{Posts}
@@ -35,7 +35,7 @@ use Rattle.gaspi_model.proofs.Made.{IsFound, IsTake, IsPut, IsCalled, step-calle
 use Rattle.gaspi_model.proofs.Accounts.{take-owed, put-owed, kinds-write, kinds-notify, kinds-two}
 use Rattle.gaspi_model.proofs.CallAccounts.{HasLanes, with_post-events, call-grows}
 use Rattle.gaspi_model.proofs.Chains.{both}
-use Rattle.gaspi_model.proofs.OpenCounts.{queue-phase, queue-remove, carried-more, carried-failed}
+use Rattle.gaspi_model.proofs.OpenCounts.{posted-unfailed, carried-unfailed, queue-phase, queue-remove, carried-more, carried-failed}
 use Rattle.gaspi_model.proofs.CoherentSteps.{steps-coherent}
 use Rattle.gaspi_model.proofs.CallQueues.{queues-changed, called-queues}
 
@@ -210,9 +210,14 @@ take-sound limits posts memory queue target number outcome after at sound h =
           let same : at.queue ≡ q = (let some : ◌≡◌ {A = Option Queue} (Some at.queue) (Some q) = sym h.is.in_posts ∙ here in cc) in
           rw (sym same) (queue-phase limits.depth at.queue (record at.queue { lanes = slice_set at.queue.lanes target lane }) target at.lane at.place at.entry
           (phases.Carried (taken_bytes memory at.entry.kind)) (sound.queues queue at.queue h.is.in_posts) h.is.in_queue h.is.in_lane refl refl refl
-          (carried-more limits.depth at.lane at.place at.entry (phases.Carried (taken_bytes memory at.entry.kind)) h.is.in_lane (both (is_posted at.entry) _ h.permitted).1)));
+          (carried-more limits.depth at.lane at.place at.entry (phases.Carried (taken_bytes memory at.entry.kind)) h.is.in_lane (both (is_posted at.entry) _ h.permitted).1)
+          (rw (posted-unfailed at.entry.phase (both (is_posted at.entry) _ h.permitted).0) refl)));
     } in
     rw h.leaves made
+
+whole-unmarked : (broken : Option ℕ) → is_none broken ≡ true → failures broken ≡ 0
+whole-unmarked None h = refl
+whole-unmarked (Some target) h = absurd (let no : ⊥ = cc in no)
 
 put-sound : (limits : Limits) (posts : Posts) (memory : Memory) (queue target number : ℕ) (outcome : Outcome) (after : Parts) (at : Found)
     → IsSoundPosts limits posts → IsPut posts memory queue target number outcome after at → IsSoundPosts limits after.posts
@@ -231,7 +236,7 @@ put-sound limits posts memory queue target number Applied after at sound h =
           (λ q here.
           let same : at.queue ≡ q = (let some : ◌≡◌ {A = Option Queue} (Some at.queue) (Some q) = sym h.is.in_posts ∙ here in cc) in
           rw (sym same) (queue-remove limits.depth at.queue (record at.queue { lanes = slice_set at.queue.lanes target lane }) target at.lane at.place at.entry
-          (sound.queues queue at.queue h.is.in_posts) h.is.in_queue h.is.in_lane refl refl));
+          (sound.queues queue at.queue h.is.in_posts) h.is.in_queue h.is.in_lane refl refl refl (carried-unfailed at.entry.phase (both (is_carried at.entry) _ h.permitted).0)));
     } in
     rw h.leaves made
 put-sound limits posts memory queue target number Failed after at sound h =
@@ -252,7 +257,8 @@ put-sound limits posts memory queue target number Failed after at sound h =
           let same : at.queue ≡ q = (let some : ◌≡◌ {A = Option Queue} (Some at.queue) (Some q) = sym h.is.in_posts ∙ here in cc) in
           let s0 = sound.queues queue at.queue h.is.in_posts in
           rw (sym same) (queue-phase limits.depth at.queue (change at.queue) target at.lane at.place at.entry phases.Failed s0 h.is.in_queue h.is.in_lane refl refl refl
-          (carried-failed limits.depth at.lane at.place at.entry h.is.in_lane (s0.carried target at.lane h.is.in_queue))));
+          (carried-failed limits.depth at.lane at.place at.entry h.is.in_lane (s0.carried target at.lane h.is.in_queue))
+          (rw (carried-unfailed at.entry.phase (both (is_carried at.entry) _ h.permitted).0, whole-unmarked at.queue.broken h.whole) refl)));
     } in
     rw h.leaves made
 

@@ -7,3 +7,4 @@ pub mod Sound
 pub mod Shards
 pub mod Changes
 pub mod Order
+pub mod Settled

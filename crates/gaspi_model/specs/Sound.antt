@@ -1,6 +1,6 @@
 -- What holds in every state of a legal history, and is used by whoever runs the machine.
-use Rattle.std.specs.Prelude.{◌≡◌, ℕ, ◌+◌, ◌-◌, ◌*◌, ◌<◌, ◌≤◌, true, nat_le, sum_by, count_by, List, [], ◌∷◌, length, slice_get, Some}
-use Rattle.gaspi_types.specs.Lanes.{is_posted, carried_count}
+use Rattle.std.specs.Prelude.{◌≡◌, ℕ, ◌+◌, ◌-◌, ◌*◌, ◌<◌, ◌≤◌, true, nat_le, sum_by, count_by, List, [], ◌∷◌, length, slice_get, Option, None, Some}
+use Rattle.gaspi_types.specs.Lanes.{is_posted, is_failed, carried_count}
 use Rattle.gaspi_types.specs.declared.entries.Entry.{Entry}
 use Rattle.gaspi_types.specs.World.{are_limits}
 use Rattle.gaspi_types.specs.declared.shapes.Limits.{Limits}
@@ -27,13 +27,26 @@ lane_from n lane = count_by (λ e. nat_le n e.number) lane
 abbrev pub queue_from : ℕ → Queue → ℕ
 queue_from n q = sum_by (lane_from n) q.lanes
 
--- A queue: at most DEPTH entries of a lane have taken their bytes; and the entries of the queue from each posted one on,
+-- how many entries of a queue have failed, and how many there are where it has that mark: one where it is broken
+abbrev pub lane_failed : List Entry → ℕ
+lane_failed lane = count_by is_failed lane
+
+abbrev pub queue_failed : Queue → ℕ
+queue_failed q = sum_by lane_failed q.lanes
+
+abbrev pub failures : Option ℕ → ℕ
+failures None = 0
+failures (Some target) = 1
+
+-- A queue: at most DEPTH entries of a lane have taken their bytes; one entry has failed where the queue is broken, and
+-- none where it is not; and the entries of the queue from each posted one on,
 -- so from the least, are in any phase at most the open count, which is at most DEPTH.
 pub record IsSoundQueue (depth : ℕ) (q : Queue) : Type 0 where
   pub carried : (target : ℕ) (lane : List Entry) → slice_get q.lanes target ≡ Some lane → carried_count lane ≤ depth
   pub from_posted : (target : ℕ) (lane : List Entry) → slice_get q.lanes target ≡ Some lane → (place : ℕ) (e : Entry) → slice_get lane place ≡ Some e
       → is_posted e ≡ true → queue_from e.number q ≤ q.open_count
   pub opened : q.open_count ≤ depth
+  pub failed : queue_failed q ≡ failures q.broken
 
 -- The posts of a rank: each queue has a lane to each rank, and is sound; what is recorded and owed has room; no event
 -- gave more than 256 numbers to entries; and the numbers of each lane rise, and are below the next one.

@@ -18,6 +18,7 @@ ghost use Rattle.gaspi_model.specs.Calls.{recorded_reply};
 ghost use Rattle.gaspi_model.specs.Changes.{IsOnlyCounted, IsPutDone};
 ghost use Rattle.gaspi_model.specs.Order.{IsNotificationStanding, IsWriteStanding};
 ghost use Rattle.gaspi_model.specs.Shards.{AgreeOn, ComeToSame, HaveSamePart, is_shard, owner_of, shards};
+ghost use Rattle.gaspi_model.specs.Settled.{AreLanesEmpty};
 ghost use Rattle.gaspi_model.specs.State.{opening};
 ghost use Rattle.gaspi_model.specs.Step.{step, reached, is_legal, ends_caller, answer_in, is_active, room_taken, transfer_event};
 ghost use Rattle.gaspi_model.specs.Sound.{IsSound, events_left};
@@ -98,4 +99,10 @@ pub fn locality()
     ensures determined { (s s' : State) (e : Event) → AgreeOn (shards s e) s s' → ComeToSame (shards s e) (step s e) (step s' e) }
     ensures owner { (s : State) (e : Event) → is_shard (shards s e) (owner_of e) ≡ true }
     ensures shards { (s s' : State) (e : Event) → HaveSamePart s s' (owner_of e) → shards s e ≡ shards s' e }
+{}
+
+/// Where no transfer may come next, every lane of a queue that is not broken is empty: nothing stands still for want of
+/// room.
+pub fn settling()
+    ensures { (s : State) → IsSound s → transfers s.limits s.posts ≡ [] → AreLanesEmpty s }
 {}

@@ -4,5 +4,5 @@
 mod laws;
 mod states;
 
-pub use laws::{changes, enabled, locality, notification_order, prefixes, soundness};
+pub use laws::{changes, enabled, locality, notification_order, prefixes, settling, soundness};
 pub use states::{Memory, Posts, Queue, Segment, State, StepFault, ThreadState, Why};

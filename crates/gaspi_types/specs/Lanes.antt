@@ -24,6 +24,14 @@ is_carried_phase Failed = false
 abbrev pub is_carried : Entry → Bool
 is_carried e = is_carried_phase e.phase
 
+abbrev pub is_failed_phase : Phase → Bool
+is_failed_phase Posted = false
+is_failed_phase (Carried bytes) = false
+is_failed_phase Failed = true
+
+abbrev pub is_failed : Entry → Bool
+is_failed e = is_failed_phase e.phase
+
 abbrev pub is_write_kind : Kind → Bool
 is_write_kind (Write own target) = true
 is_write_kind (Notify target value) = false
