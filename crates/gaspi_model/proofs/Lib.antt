@@ -22,3 +22,4 @@ pub mod CoherentSteps
 pub mod CoherentOpening
 pub mod PostStands
 pub mod EmptyLanes
+pub mod CallerEnds

@@ -3,9 +3,10 @@
 ghost use Rattle.std.specs.Prelude.{◌≡◌, ◌≢◌, ℕ, ◌+◌, ◌<◌, ◌≤◌, ◌∷◌, ◌++◌, [], List, Ok, Some, IsOk, true, false, slice_get};
 ghost use Rattle.gaspi_types.specs.Need.{need_of};
 ghost use Rattle.gaspi_types.specs.Replies.{is_idle};
-ghost use Rattle.gaspi_types.specs.World.{World, IsWorld};
+ghost use Rattle.std.specs.List.{list_any};
+ghost use Rattle.gaspi_types.specs.World.{World, IsWorld, is_caller};
 ghost use Rattle.gaspi_types.specs.declared.calls.Call.{Call};
-ghost use Rattle.gaspi_types.specs.declared.calls.Call.TheVariants.{Write, Notify, WriteNotify};
+ghost use Rattle.gaspi_types.specs.declared.calls.Call.TheVariants.{Write, Notify, WriteNotify, End};
 ghost use Rattle.gaspi_types.specs.declared.events.Event.{Event};
 ghost use Rattle.gaspi_types.specs.declared.events.Event.TheVariants.{Called, Put};
 ghost use Rattle.gaspi_types.specs.declared.events.Outcome.TheVariants.{Applied};
@@ -20,7 +21,7 @@ ghost use Rattle.gaspi_model.specs.Order.{IsNotificationStanding, IsWriteStandin
 ghost use Rattle.gaspi_model.specs.Shards.{AgreeOn, ComeToSame, HaveSamePart, is_shard, owner_of, shards};
 ghost use Rattle.gaspi_model.specs.Settled.{AreLanesEmpty};
 ghost use Rattle.gaspi_model.specs.State.{opening};
-ghost use Rattle.gaspi_model.specs.Step.{step, reached, is_legal, ends_caller, answer_in, is_active, room_taken, transfer_event};
+ghost use Rattle.gaspi_model.specs.Step.{step, reached, own_calls, is_legal, ends_caller, answer_in, is_active, room_taken, transfer_event};
 ghost use Rattle.gaspi_model.specs.Sound.{IsSound, events_left};
 ghost use Rattle.gaspi_model.specs.Transfers.{transfers};
 ghost use Rattle.gaspi_model.specs.declared.states.Posts.{Posts};
@@ -105,4 +106,12 @@ pub fn locality()
 /// room.
 pub fn settling()
     ensures { (s : State) → IsSound s → transfers s.limits s.posts ≡ [] → AreLanesEmpty s }
+{}
+
+/// A caller that is active after a history is one of the world's, and has not recorded its end: so one that has is
+/// active no more.
+pub fn endings()
+    ensures { (w : World) (history : List Event) (s : State) (rank thread : ℕ) → reached w history ≡ Ok s → is_active s rank thread ≡ true
+        → (list_any (is_caller rank thread) w.callers ≡ true)
+        × ((k : ℕ) (reply : Reply) → slice_get (own_calls rank thread history) k ≡ Some (End, reply) → ⊥) }
 {}
