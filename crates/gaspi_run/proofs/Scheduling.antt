@@ -1,19 +1,35 @@
 -- The loop of the schedule.
-use Rattle.std.proofs.Common.{◌≡◌, ℕ, suc, ◌<◌, true, List, [], ◌∷◌, length, Option, None, Some, refl, sym, ap, ◌∙◌, subst, arith}
-use Rattle.std.specs.List.{slice_get}
-use Rattle.gaspi_types.specs.World.{World, IsWorld}
+use Rattle.std.proofs.Common.{◌≡◌, ℕ, suc, ◌<◌, ◌≤◌, Bool, true, false, ◌&&◌, ◌==◌, List, [], ◌∷◌, length, map, cond, count_by, Option, None, Some, Ok, ◌⊎◌, inl, inr, refl, sym, ap, ◌∙◌, subst, arith}
+use Rattle.std.specs.Prelude.{MatchBool}
+use Rattle.std.specs.List.{slice_get, list_any}
+use Rattle.std.proofs.lemmas.Bool.{eqb-true}
+use Rattle.std.proofs.lemmas.List.Sums.{sum_by-cons}
+use Rattle.gaspi_types.specs.World.{World, IsWorld, is_caller}
+use Rattle.gaspi_types.specs.declared.shapes.CallerId.{CallerId}
+use Rattle.gaspi_types.specs.declared.calls.Call.{Call}
+use Rattle.gaspi_types.specs.declared.calls.Call.TheVariants.{End}
+use Rattle.gaspi_types.specs.declared.replies.Reply.{Reply}
+use Rattle.gaspi_types.specs.declared.replies.Reply.TheVariants as replies
+use Rattle.gaspi_types.specs.declared.events.Event.{Event}
 use Rattle.gaspi_model.specs.State.{opening}
 use Rattle.gaspi_model.specs.Sound.{IsSound}
-use Rattle.gaspi_model.specs.Step.{is_active, is_declared, is_there, is_legal}
+use Rattle.gaspi_model.specs.Settled.{AreLanesEmpty}
+use Rattle.gaspi_model.specs.Transfers.{transfers}
+use Rattle.gaspi_model.specs.Step.{reached, own_calls, is_active, is_declared, is_there, is_legal}
 use Rattle.gaspi_model.specs.State.{thread_at, is_running}
 use Rattle.gaspi_model.specs.declared.states.Posts.{Posts}
 use Rattle.gaspi_model.specs.declared.states.ThreadState.{ThreadState}
 use Rattle.gaspi_model.specs.declared.states.ThreadState.TheVariants.{Absent, Running, Ended}
 use Rattle.gaspi_model.specs.declared.states.State.{State}
 use Rattle.rank_script.specs.PlainScripts.{ArePlain}
+use Rattle.rank_script.specs.Runs.{is_stuck, end_pair, IsRun}
 use Rattle.rank_script.specs.WorldText.{AreScriptsOf}
 use Rattle.rank_script.specs.declared.scripts.Script.{Script}
-use Rattle.gaspi_run.specs.Schedule.{started, turn, turns, candidates, AreDeclared, IsScheduled, HaveEnded}
+use Rattle.rank_script.specs.declared.scripts.ScriptLine.{ScriptLine}
+use Rattle.rank_script.specs.declared.scripts.RunOutcome.{RunOutcome}
+use Rattle.rank_script.specs.declared.scripts.RunOutcome.TheVariants as outcomes
+use Rattle.gaspi_run.specs.Schedule.{started, turn, turns, candidates, AreDeclared, IsScheduled, HasSettled, HaveEnded}
+use Rattle.gaspi_run.specs.declared.turns.Finished.{Finished}
 use Rattle.gaspi_run.specs.declared.turns.Waiting.{Waiting}
 use Rattle.gaspi_run.specs.declared.turns.Turns.{Turns}
 use Rattle.gaspi_run.proofs.Work.{work, turn-less, Counts, TransfersAreSteps}
@@ -22,7 +38,7 @@ use Rattle.gaspi_run.proofs.Running.{IsRunning}
 use Rattle.gaspi_run.proofs.RunningTurns.{ActiveStays, Onward}
 use Rattle.gaspi_run.proofs.RunningEnds.{EndsRun, StopsRun}
 use Rattle.gaspi_run.proofs.RunningAll.{Laws, CallsAreSteps, running-turns}
-use Rattle.gaspi_run.proofs.Started.{good-started, running-started}
+use Rattle.gaspi_run.proofs.Started.{good-started, running-started, count-map}
 
 -- the schedule has come to where some number of turns leads
 pub record HasTurned (w : World) (scripts : List Script) (seed limit : ℕ) (t : Turns) : Type 0 where
@@ -129,3 +145,98 @@ over-ended w scripts seed limit t k h over =
     no-count : (ws : List Waiting) (rank thread : ℕ) → length ws ≡ 0 → Rattle.gaspi_run.proofs.Running.waiting_count rank thread ws ≡ 0
     no-count [] rank thread none = refl
     no-count (y ∷ ws) rank thread none = absurd (omega arith)
+
+-- At the end every caller has ended, and nothing is on its way.
+
+-- what the machine's laws say of ends
+pub record EndLaws : Type 0 where
+  pub empties : (s : State) → IsSound s → transfers s.limits s.posts ≡ [] → AreLanesEmpty s
+  pub endings : (w : World) (history : List Event) (s : State) (rank thread : ℕ) → reached w history ≡ Ok s → is_active s rank thread ≡ true
+      → (list_any (is_caller rank thread) w.callers ≡ true) × ((k : ℕ) (reply : Reply) → slice_get (own_calls rank thread history) k ≡ Some (End, reply) → ⊥)
+
+-- a run has the end among its pairs
+run-ends : (lines : List ScriptLine) (pairs : List (Call × Reply)) (outcome : RunOutcome) → IsRun lines pairs outcome → (k : ℕ) × (slice_get pairs k ≡ Some (End, replies.Done))
+run-ends [] pairs outcome h = (0, ap (λ (ps : List (Call × Reply)). slice_get ps 0) h.0)
+run-ends (line ∷ lines) [] outcome h = absurd h
+run-ends (line ∷ lines) (pair ∷ pairs) outcome (inl h) = (0, ap (λ (ps : List (Call × Reply)). slice_get ps 0) h.0)
+run-ends (line ∷ lines) (pair ∷ pairs) outcome (inr h) = go (is_stuck line pair.1) h.1 (λ r. run-ends lines pairs outcome r)
+  where
+    go : (b : Bool) → MatchBool b ((pairs ≡ end_pair) × (outcome ≡ outcomes.Stuck line.number)) (IsRun lines pairs outcome)
+        → (IsRun lines pairs outcome → (k : ℕ) × (slice_get pairs k ≡ Some (End, replies.Done))) → (k : ℕ) × (slice_get (pair ∷ pairs) k ≡ Some (End, replies.Done))
+    go true m later = (1, ap (λ (ps : List (Call × Reply)). slice_get ps 0) m.0)
+    go false m later = let rest = later m in (suc rest.0, rest.1)
+
+-- what is counted is there
+counted-there : {A : Type 0} (p : A → Bool) (xs : List A) → 1 ≤ count_by p xs → (k : ℕ) × (x : A) × (slice_get xs k ≡ Some x) × (p x ≡ true)
+counted-there p [] some = absurd (omega arith)
+counted-there {A} p (x ∷ xs) some = go (p x) refl (λ h. counted-there p xs h)
+  where
+    go : (b : Bool) → p x ≡ b → (1 ≤ count_by p xs → (k : ℕ) × (y : A) × (slice_get xs k ≡ Some y) × (p y ≡ true)) → (k : ℕ) × (y : A) × (slice_get (x ∷ xs) k ≡ Some y) × (p y ≡ true)
+    go true is later = (0, x, refl, is)
+    go false is later =
+        let none : cond {A = ℕ} (p x) 1 0 ≡ 0 = ap (λ (b : Bool). cond {A = ℕ} b 1 0) is in
+        let sum = sum_by-cons (λ (y : A). cond (p y) 1 0) x xs in
+        let rest = later (omega arith) in
+        (suc rest.0, rest.1, rest.2, rest.3)
+
+-- what is there is counted
+any-counted : {A : Type 0} (p : A → Bool) (xs : List A) → list_any p xs ≡ true → 1 ≤ count_by p xs
+any-counted p [] h = absurd (let no : ⊥ = cc in no)
+any-counted {A} p (x ∷ xs) h = go (p x) refl (λ r. any-counted p xs r)
+  where
+    go : (b : Bool) → p x ≡ b → (list_any p xs ≡ true → 1 ≤ count_by p xs) → 1 ≤ count_by p (x ∷ xs)
+    go true is later =
+        let one : cond {A = ℕ} (p x) 1 0 ≡ 1 = ap (λ (b : Bool). cond {A = ℕ} b 1 0) is in
+        let sum = sum_by-cons (λ (y : A). cond (p y) 1 0) x xs in
+        omega arith
+    go false is later =
+        let rest = later (rw is at h) in
+        let sum = sum_by-cons (λ (y : A). cond (p y) 1 0) x xs in
+        omega arith
+
+both-true : (a b : Bool) → (a && b) ≡ true → (a ≡ true) × (b ≡ true)
+both-true true b h = (refl, h)
+both-true false b h = absurd (let no : ⊥ = cc in no)
+
+none-active : (w : World) (scripts : List Script) (journal : List Event) (finished : List Finished) (s : State) (rank thread : ℕ) → EndLaws → AreScriptsOf w scripts → reached w journal ≡ Ok s
+    → HaveEnded w scripts journal finished → is_active s rank thread ≡ false
+none-active w scripts journal finished s rank thread l are leads ended = go (is_active s rank thread) refl
+  where
+    go : (b : Bool) → is_active s rank thread ≡ b → is_active s rank thread ≡ false
+    go false is = is
+    go true is =
+        let law = l.endings w journal s rank thread leads is in
+        let callers = any-counted (is_caller rank thread) w.callers law.0 in
+        let mapped : count_by (is_caller rank thread) (map (λ (x : Script). x.caller) scripts) ≡ count_by (is_caller rank thread) w.callers = ap (λ (cs : List CallerId). count_by (is_caller rank thread) cs) are in
+        let same = count-map (is_caller rank thread) (λ (x : Script). x.caller) scripts in
+        let once = ended.once rank thread in
+        let there = counted-there (λ (f : Finished). is_caller rank thread f.caller) finished (omega arith) in
+        let f = there.1 in
+        let mine = both-true (f.caller.rank == rank) (f.caller.thread == thread) there.3 in
+        let run = (ended.each there.0 f there.2).run in
+        let end = run-ends (ended.each there.0 f there.2).script.lines (own_calls f.caller.rank f.caller.thread journal) f.outcome run in
+        let here : slice_get (own_calls rank thread journal) end.0 ≡ Some (End, replies.Done) =
+            subst (λ (n : ℕ). slice_get (own_calls rank n journal) end.0 ≡ Some (End, replies.Done)) (eqb-true f.caller.thread thread mine.1)
+            (subst (λ (n : ℕ). slice_get (own_calls n f.caller.thread journal) end.0 ≡ Some (End, replies.Done)) (eqb-true f.caller.rank rank mine.0) end.1) in
+        absurd (law.1 end.0 replies.Done here)
+
+no-items : {A : Type 0} (xs : List A) → length xs ≡ 0 → xs ≡ []
+no-items [] h = refl
+no-items (x ∷ xs) h = absurd (omega arith)
+
+pub over-settled : (w : World) (scripts : List Script) (seed limit : ℕ) (t : Turns) → Known w scripts → EndLaws → HasTurned w scripts seed limit t → candidates t ≡ 0 → HasSettled w t.journal
+over-settled w scripts seed limit t k l h over =
+    let good = turned-good w scripts seed limit t k h in
+    record {
+      state = t.state;
+      leads = good.legal;
+      settled = record {
+        callers = λ rank thread. none-active w scripts t.journal t.finished t.state rank thread l k.are good.legal (over-ended w scripts seed limit t k h over);
+        lanes = l.empties t.state good.sound (no-items (transfers t.state.limits t.state.posts) (omega arith));
+      };
+    }
+
+pub end_laws : ((s : State) → IsSound s → transfers s.limits s.posts ≡ [] → AreLanesEmpty s)
+    → ((w : World) (history : List Event) (s : State) (rank thread : ℕ) → reached w history ≡ Ok s → is_active s rank thread ≡ true
+    → (list_any (is_caller rank thread) w.callers ≡ true) × ((k : ℕ) (reply : Reply) → slice_get (own_calls rank thread history) k ≡ Some (End, reply) → ⊥)) → EndLaws
+end_laws empties endings = record { empties = empties; endings = endings }

@@ -121,7 +121,7 @@ other-start scripts r t a b apart = go (find (is_script_of (record { rank = a; t
 
 -- Scripts of a world's callers.
 
-count-map : {A B : Type 0} (p : B → Bool) (f : A → B) (xs : List A) → count_by p (map f xs) ≡ count_by (λ x. p (f x)) xs
+pub count-map : {A B : Type 0} (p : B → Bool) (f : A → B) (xs : List A) → count_by p (map f xs) ≡ count_by (λ x. p (f x)) xs
 count-map p f [] = refl
 count-map {A} {B} p f (x ∷ xs) =
     sum_by-cons (λ (y : B). cond (p y) 1 0) (f x) (map f xs) ∙ ap (λ (n : ℕ). cond (p (f x)) 1 0 + n) (count-map p f xs)

@@ -13,7 +13,7 @@ use Rattle.rank_script.specs.WorldText.{TextFault, world_text}
 use Rattle.rank_script.specs.declared.scripts.Script.{Script}
 use Rattle.rank_script.specs.declared.scripts.RunOutcome.{RunOutcome}
 use Rattle.rank_script.specs.declared.scripts.RunOutcome.TheVariants as outcomes
-use Rattle.gaspi_run.specs.Schedule.{IsScheduled, HaveEnded}
+use Rattle.gaspi_run.specs.Schedule.{IsScheduled, HasSettled, HaveEnded}
 use Rattle.gaspi_run.specs.Transcripts.{transcripts}
 use Rattle.gaspi_run.specs.declared.turns.Finished.{Finished}
 use Rattle.gaspi_run.specs.declared.commands.Answer.{Answer}
@@ -60,7 +60,8 @@ run_status finished = if is_any_stuck finished then 3 else (if is_any_limit fini
 
 -- What `step --brief` does with its input: the schedule has seed 0 and the limit 1,000,000. The text that it writes is
 -- what the callers were told, its status tells how they ended, and its journal is a legal history in which each caller's
--- calls are a run of its script.
+-- calls are a run of its script, and after which every caller has ended and all that was posted has arrived, broken
+-- queues aside.
 pub record IsBrief (input : List ℕ) (journal : List Event) (status : ℕ) (text : List ℕ) : Type 0 where
   pub world : World
   pub scripts : List Script
@@ -68,6 +69,7 @@ pub record IsBrief (input : List ℕ) (journal : List Event) (status : ℕ) (tex
   pub read : world_text input ≡ Ok (record { world = Some world; scripts = scripts })
   pub scheduled : IsScheduled world scripts 0 1000000 journal finished
   pub legal : is_legal world journal ≡ true
+  pub settled : HasSettled world journal
   pub ended : HaveEnded world scripts journal finished
   pub status_is : status ≡ run_status finished
   pub text_is : text ≡ transcripts world scripts journal

@@ -18,6 +18,7 @@ use Rattle.gaspi_types.specs.declared.events.Event.TheVariants.{Called}
 use Rattle.gaspi_model.specs.State.{opening}
 use Rattle.gaspi_model.specs.Step.{step, answer_in, room_taken, transfer_event, own_calls, reached, is_declared}
 use Rattle.gaspi_model.specs.Transfers.{transfers}
+use Rattle.gaspi_model.specs.Settled.{IsSettled}
 use Rattle.gaspi_model.specs.declared.states.State.{State}
 use Rattle.gaspi_model.specs.declared.states.Why.{Why}
 use Rattle.rank_script.specs.Runs.{Progress, Going, Over, going_on, advanced, stopped, IsRun, end_pair}
@@ -143,6 +144,12 @@ pub record IsScheduled (w : World) (scripts : List Script) (seed limit : ℕ) (j
   pub over : candidates (turns limit count (started w scripts seed)) ≡ 0
   pub journal_is : journal ≡ (turns limit count (started w scripts seed)).journal
   pub finished_is : finished ≡ (turns limit count (started w scripts seed)).finished
+
+-- the state after a history is settled
+pub record HasSettled (w : World) (journal : List Event) : Type 0 where
+  pub state : State
+  pub leads : reached w journal ≡ Ok state
+  pub settled : IsSettled state
 
 -- the callers that wait are declared
 abbrev pub AreDeclared : Turns → Type 0

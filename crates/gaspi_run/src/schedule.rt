@@ -3,11 +3,11 @@
 ghost use Rattle.std.specs.Prelude.{◌≡◌, ℕ, ◌<◌, ◌≤◌, ◌++◌, OnOk, IfOk, true};
 ghost use Rattle.gaspi_model.specs.Step.{is_legal};
 ghost use Rattle.rank_script.specs.WorldText.{AreScriptsOf};
-ghost use Rattle.gaspi_run.specs.Schedule.{starts, rank_starts, thread_starts, started, IsScheduled, HaveEnded};
+ghost use Rattle.gaspi_run.specs.Schedule.{starts, rank_starts, thread_starts, started, IsScheduled, HasSettled, HaveEnded};
 
 use crate::moves::turn;
 use crate::turns::{Finished, Turns, Waiting};
-use gaspi_model::{enabled, soundness};
+use gaspi_model::{enabled, endings, settling, soundness};
 use gaspi_types::{CallerId, Event, NoMemory, RankId, Rows, Shape, ThreadId};
 use plain_machine::Machine;
 use rank_script::{Cursor, Scripts, runs};
@@ -88,10 +88,13 @@ pub fn schedule(
     requires scripts { AreScriptsOf shape.now scripts.now }
     ensures scheduled { IfOk result (λ ran. IsScheduled shape.now scripts.now seed limit ran.journal ran.finished) }
     ensures legal { IfOk result (λ ran. is_legal shape.now ran.journal ≡ true) }
+    ensures settled { IfOk result (λ ran. HasSettled shape.now ran.journal) }
     ensures runs { IfOk result (λ ran. HaveEnded shape.now scripts.now ran.journal ran.finished) }
 {
     soundness();
     enabled();
+    settling();
+    endings();
     runs();
     // Say that the shape is a world, and that no script makes an end by itself.
     let _limits = shape.limits();

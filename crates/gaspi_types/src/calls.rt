@@ -9,7 +9,7 @@ use crate::memory::NoMemory;
 use std::alloc::Global;
 
 /// A call as its caller wrote it, without its timeout: ids, ranks, offsets and sizes are any numbers, and a call
-/// whose numbers are outside their limits is refused when it is made.
+/// whose numbers are outside their limits is refused when it is made. Offsets and sizes are in bytes.
 #[derive(Debug, PartialEq, Eq, Drop)]
 pub enum Call {
     /// Writes bytes into an own segment. (own choice)
@@ -165,9 +165,9 @@ impl Call {
     }
 }
 
-/// How many events of its caller's rank a call needs room for: none for the end of a caller that has not ended,
-/// one and two for each entry for a post, two for a collective that is not pending for the caller, and one for
-/// every other call.
+/// How many events of its caller's rank a call needs room for: none for the end of a caller that has not ended, one
+/// and two for each entry for a post, and one for every other call. Whether a collective is pending for the caller
+/// makes no difference to the calls that are there.
 pub fn need(call: &Call, pending: bool, ended: bool) -> u64
     ensures { result ≡ need_of call.now pending ended }
 {

@@ -15,11 +15,11 @@ pub enum Refusal {
     BadRank,
     /// 2: the caller's own segment is not there.
     NoSegment,
-    /// 4: the target's segment is not known to the caller.
+    /// 4: the target's segment is not known to the caller: so far, it is not declared.
     Unregistered,
-    /// 5: offset and length, added up, are over the segment's size.
+    /// 5: offset and length in bytes, added up, are over the segment's size.
     BadRange { size: u32 },
-    /// 6: the length is 0 or over its limit.
+    /// 6: the length is 0, or over 65,536 bytes.
     BadSize,
     /// 7: the queue is not below the number of queues.
     BadQueue,
@@ -38,11 +38,17 @@ pub enum Refusal {
 /// What a call answers.
 #[derive(Debug, PartialEq, Eq, Drop)]
 pub enum Reply {
+    /// The call has done what it is for, and answers nothing else.
     Done,
+    /// A number: the value of a notification slot. (GASPI: notify_reset)
     Value(u64),
+    /// A number that names something: a notification slot. (GASPI: notify_waitsome)
     Id(u32),
+    /// The bytes of a range.
     Bytes(Bytes),
+    /// The call was not ready at its last look. (GASPI: timeouts)
     Timeout,
+    /// The call has changed nothing, for that cause.
     Refused(Refusal),
 }
 

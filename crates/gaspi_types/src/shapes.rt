@@ -1,6 +1,6 @@
 //! The shape of a world: its limits, its declared segments and its callers.
 
-ghost use Rattle.std.specs.Prelude.{◌≡◌, ◌+◌, ◌<◌, ◌≤◌, IsTrue, IfOk, IfErr, OnOk, OnErr, MatchResult, Ok, Err, true};
+ghost use Rattle.std.specs.Prelude.{◌≡◌, ◌+◌, ◌<◌, ◌≤◌, IsTrue, IfOk, IfErr, OnOk, OnErr, MatchResult, Ok, Err, IsOk, [], true};
 ghost use Rattle.std.specs.Prelude.{count_by, ◌==◌};
 ghost use Rattle.std.specs.List.{list_any};
 ghost use Rattle.gaspi_types.specs.Ranges.{is_between};
@@ -43,7 +43,7 @@ pub struct CallerId {
 pub struct Declared {
     pub rank: RankId,
     pub segment: SegId,
-    /// Its bytes, 1 to 1,048,576.
+    /// Its size in bytes, 1 to 1,048,576.
     pub size: u32,
 }
 
@@ -200,8 +200,21 @@ impl Shape {
         self.callers.as_slice()
     }
 
-    /// Declares a segment. A number outside its limits comes before a segment that is there. A refused call
-    /// changes nothing.
+    /// An equal shape. It takes no memory where nothing is declared.
+    pub fn copy(&self, alloc: Global) -> Result<Shape, NoMemory>
+        ensures ok { IfOk result (λ shape. shape ≡ self.now) }
+        ensures listless { self.now.segments ≡ [] → self.now.callers ≡ [] → IsOk result }
+    {
+        Ok(Shape {
+            limits: self.limits,
+            segments: Rows::copied_from(alloc, self.segments.as_slice())?,
+            callers: Rows::copied_from(alloc, self.callers.as_slice())?,
+        })
+    }
+
+    /// Declares a segment of a rank below RANKS, with a number from 0 to 31 and a size of 1 to 1,048,576 bytes.
+    /// `Limit` where one of them is outside its limits, else `Twice` where the segment is there. A refused call
+    /// changes nothing. (GASPI: segments)
     pub fn add_segment(&mut self, rank: u64, seg: u64, size: u64) -> Result<(), ShapeFault>
         ensures { Declares result self.old self.new (segment_added self.old rank seg size) }
     {
@@ -223,8 +236,9 @@ impl Shape {
         Ok(())
     }
 
-    /// Declares a caller. A number outside its limits comes before a caller that is there, and that before too
-    /// many threads. A refused call changes nothing.
+    /// Declares a caller: a thread from 0 to 3 of a rank below RANKS. `Limit` where one of them is outside its limits,
+    /// else `Twice` where the caller is there, else `Threads` where its rank would have more callers than EVENTS,
+    /// since each of them records its end. A refused call changes nothing.
     pub fn add_caller(&mut self, rank: u64, thread: u64) -> Result<(), ShapeFault>
         ensures { Declares result self.old self.new (caller_added self.old rank thread) }
     {

@@ -22,6 +22,11 @@ fn texts_have_words(rt: HostRuntime) -> Result<(), Fail> {
         )?
     );
     assert!(rt; has_words(alloc, b"a\r", &[b"a\r"])?);
+    let mut text: Bytes = Rows::new(alloc);
+    write_number(&mut text, 305)?;
+    write_bytes(&mut text, &[])?;
+    write_bytes(&mut text, &[10, 255])?;
+    assert_eq!(rt; text.as_slice(), b"305-0aff".as_slice());
     Ok(())
 }
 
@@ -83,6 +88,22 @@ fn calls_are_read(rt: HostRuntime) -> Result<(), Fail> {
         value: 8,
         queue: 9,
     };
+    let write = Call::Write {
+        seg: 1,
+        offset: 2,
+        rank: 3,
+        rseg: 4,
+        roffset: 5,
+        size: 6,
+        queue: 7,
+    };
+    let notify = Call::Notify {
+        rseg: 1,
+        rank: 2,
+        note: 3,
+        value: 4294967295,
+        queue: 5,
+    };
     let waitsome = Call::Waitsome {
         seg: 3,
         begin: 1,
@@ -91,6 +112,17 @@ fn calls_are_read(rt: HostRuntime) -> Result<(), Fail> {
     let reset = Call::Reset { seg: 3, note: 2 };
     assert_eq!(rt; read_call(alloc, b"store 0 8 aBCd")?, Some(store));
     assert_eq!(rt; read_call(alloc, b"load 1 2 3")?, Some(load));
+    let words: &[&[u8]] = &[b"reset", b"3", b"2"];
+    assert_eq!(rt;
+        read_call_words(alloc, words)?,
+        Some(Call::Reset { seg: 3, note: 2 })
+    );
+    assert_eq!(rt; read_call(alloc, b"write 1 2 3 4 5 6 7")?, Some(write));
+    assert_eq!(rt;
+        read_call(alloc, b"notify 1 2 3 4294967295 5")?,
+        Some(notify)
+    );
+    assert_eq!(rt; read_call(alloc, b"notify 1 2 3 4294967296 5")?, None);
     assert_eq!(rt;
         read_call(alloc, b" write_notify 1 2 3 4 5 6 7 8 9")?,
         Some(write_notify)
@@ -191,6 +223,14 @@ fn lists_keep_their_items(rt: HostRuntime) -> Result<(), Fail> {
     assert_eq!(rt; *rows.at(1), 9);
     rows.truncate(3);
     assert_eq!(rt; rows, Rows::copied_from(alloc, &[4, 9, 6])?);
+    assert_eq!(rt; rows.get(2), Some(&6));
+    assert_eq!(rt; rows.get(3), None);
+    rows.extend(Rows::copied_from(alloc, &[1, 2])?)?;
+    rows.overwrite(2, &[7, 8]);
+    assert_eq!(rt; rows.as_slice(), [4, 9, 7, 8, 2].as_slice());
+    assert_eq!(rt; rows.remove(2), 7);
+    assert_eq!(rt; rows.remove(2), 8);
+    *rows.at_mut(2) = 6;
     let items = rows.into_vec();
     assert_eq!(rt; Rows::from_vec(items).as_slice(), [4, 9, 6].as_slice());
     Ok(())
@@ -220,6 +260,13 @@ fn shapes_are_declared(rt: HostRuntime) -> Result<(), Fail> {
     assert_eq!(rt; NoteId::new(5, &shape), None);
     assert_eq!(rt; SegId::new(31, &shape), Some(SegId::of(31)));
     assert_eq!(rt; ThreadId::new(4, &shape), None);
+    assert_eq!(rt; SegId::of(31).index() + NoteId::of(4).index(), 35);
+    assert_eq!(rt; RankId::of(3).number() + QueueId::of(7).number(), 10);
+    assert_eq!(rt; (shape.ranks(), shape.queues(), shape.depth()), (2, 3, 4));
+    assert_eq!(rt; (shape.notes(), shape.inbox(), shape.events()), (5, 6, 2));
+    let copy = shape.copy(rt.alloc())?;
+    assert_eq!(rt; copy.limits(), shape.limits());
+    assert!(rt; copy.segments() == shape.segments() && copy.callers() == shape.callers());
     Ok(())
 }
 

@@ -1,8 +1,8 @@
 use Rattle.std.proofs.Common.{◌≡◌, ◌<◌, true, sym, subst}
 use Rattle.gaspi_model.specs.Step.{is_legal}
-use Rattle.gaspi_run.specs.Schedule.{HaveEnded}
+use Rattle.gaspi_run.specs.Schedule.{HasSettled, HaveEnded}
 use Rattle.gaspi_run.specs.declared.turns.Turns.{Turns}
-use Rattle.gaspi_run.proofs.Scheduling.{known, laws, turned-declared, turned-less, turned-more, over-legal, over-ended}
+use Rattle.gaspi_run.proofs.Scheduling.{known, laws, turned-declared, turned-less, turned-more, over-legal, over-ended, over-settled, end_laws}
 use Rattle.gaspi_run.proofs.Work.{work}
 use Rattle.gaspi_run.proofs.schedule.schedule.Goals as goal
 
@@ -42,4 +42,14 @@ returns-clause-runs c =
     (over-ended c.args.shape.now c.args.scripts.now c.args.seed c.args.limit c.loop-turns.turns
     (known _ _ (laws c.soundness.ensures.steps c.soundness.ensures.limits c.soundness.ensures.active c.enabled.ensures.call c.runs.ensures.onward c.runs.ensures.ended c.runs.ensures.stopped)
     c.soundness.ensures.counts c.enabled.ensures.transfer c.soundness.ensures.opens c.limits-limits.ensures.world c.requires.scripts c.len-count.ensures.plain)
+    c.loop-turns.invariant over.0)
+
+pub returns-clause-settled : goal.returns-clause-settled
+returns-clause-settled c =
+    let over = c.in_ok-turn.ensures.over (cc) in
+    subst (λ (t : Turns). HasSettled c.args.shape.now t.journal) (sym over.1)
+    (over-settled c.args.shape.now c.args.scripts.now c.args.seed c.args.limit c.loop-turns.turns
+    (known _ _ (laws c.soundness.ensures.steps c.soundness.ensures.limits c.soundness.ensures.active c.enabled.ensures.call c.runs.ensures.onward c.runs.ensures.ended c.runs.ensures.stopped)
+    c.soundness.ensures.counts c.enabled.ensures.transfer c.soundness.ensures.opens c.limits-limits.ensures.world c.requires.scripts c.len-count.ensures.plain)
+    (end_laws c.settling.ensures c.endings.ensures)
     c.loop-turns.invariant over.0)
