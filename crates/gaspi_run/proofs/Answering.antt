@@ -1,43 +1,64 @@
 -- The answer to an input with a fault.
-use Rattle.std.proofs.Common.{◌≡◌, ℕ, ◌<◌, ◌⊎◌, inl, inr, List, [], Option, Err, length, refl, subst}
+use Rattle.std.proofs.Common.{◌≡◌, ℕ, ◌<◌, ◌≤◌, ◌⊎◌, inl, inr, List, [], replicate, Option, None, Some, Err, length, refl, arith}
 use Rattle.std.specs.Option.{ForSome}
 use Rattle.std.proofs.lemmas.Bool.{lt-ltb}
+use Rattle.std.proofs.lemmas.List.{length-replicate}
 use Rattle.gaspi_io.specs.Faults.{HasCause}
 use Rattle.gaspi_io.specs.Sink.{with_more, AddsFront}
 use Rattle.rank_script.specs.WorldText.{TextFault, world_text}
 use Rattle.gaspi_run.specs.Command.{fault_text, Steps}
 use Rattle.gaspi_run.specs.declared.commands.Answer.{Answer}
 
+-- what is known of an input with a fault: its bytes, where the source tells them
+pub record KnowsFault (before after : Option (List ℕ)) (fault : TextFault) : Type 0 where
+  input : List ℕ
+  all : ForSome before (λ told. input ≡ told)
+  end : length input ≤ 268435456 → ForSome before (λ told. after ≡ Some [])
+  is : world_text input ≡ Err fault
+
 -- a text that is too long
 long-text : (text : List ℕ) → 268435456 < length text → world_text text ≡ Err (record { number = 1; line = 0 })
 long-text text long = rw (lt-ltb 268435456 (length text) long) refl
 
-pub long-fault : (before : Option (List ℕ)) → ForSome before (λ told. 268435456 < length told) → ForSome before (λ told. world_text told ≡ Err (record { number = 1; line = 0 }))
-long-fault before long told is = long-text told (long told is)
+pub long-fault : (before after : Option (List ℕ)) → ForSome before (λ told. 268435456 < length told) → KnowsFault before after (record { number = 1; line = 0 })
+long-fault (Some told) after long = record {
+  input = told;
+  all = λ x is. (let same : told ≡ x = cc in same);
+  end = λ short. absurd (let over = long told refl in omega arith);
+  is = long-text told (long told refl);
+}
+long-fault None after long =
+    let many : length (replicate {X = ℕ} 268435457 0) ≡ 268435457 = length-replicate {A = ℕ} 268435457 0 in
+    record {
+      input = replicate 268435457 0;
+      all = λ x is. absurd (let no : ⊥ = cc in no);
+      end = λ short x is. absurd (let no : ⊥ = cc in no);
+      is = long-text (replicate 268435457 0) (omega arith);
+    }
 
-pub read-fault : (before : Option (List ℕ)) (input : List ℕ) (fault : TextFault) → ForSome before (λ told. input ≡ told) → world_text input ≡ Err fault → ForSome before (λ told. world_text told ≡ Err fault)
-read-fault before input fault all faulty told is = subst (λ (text : List ℕ). world_text text ≡ Err fault) (all told is) faulty
+pub read-fault : (before after : Option (List ℕ)) (input : List ℕ) (fault : TextFault) → ForSome before (λ told. input ≡ told) → ForSome before (λ told. after ≡ Some [])
+    → world_text input ≡ Err fault → KnowsFault before after fault
+read-fault before after input fault all end faulty = record { input = input; all = all; end = λ short. end; is = faulty }
 
-pub fault-answer : (before after held held' : Option (List ℕ)) (faults faults' sink_faults sink_faults' : ℕ) (answer : Answer) (fault : TextFault)
-    → ForSome before (λ told. world_text told ≡ Err fault)
+pub fault-answer : (before after held held' : Option (List ℕ)) (faults faults' sink_faults sink_faults' : ℕ) (answer : Answer) (fault : TextFault) → KnowsFault before after fault
     → ((answer.status ≡ 2) × (held' ≡ with_more held (fault_text fault)))
     ⊎ (((answer.status ≡ 6) × AddsFront (fault_text fault) held held' × HasCause sink_faults sink_faults') ⊎ ((answer.status ≡ 7) × (held' ≡ held)))
     → answer.journal ≡ [] → Steps before after faults faults' held held' sink_faults sink_faults' answer
-fault-answer before after held held' faults faults' sink_faults sink_faults' answer fault is (inl told) empty = inr (inl (record {
+fault-answer before after held held' faults faults' sink_faults sink_faults' answer fault k (inl told) empty = inr (inl (record {
   text = fault_text fault;
-  fault = record { fault = fault; is = is; text_is = refl };
+  fault = record { input = k.input; fault = fault; all = k.all; end = k.end; is = k.is; text_is = refl };
   written = told.1;
   status = told.0;
   empty = empty;
 }))
-fault-answer before after held held' faults faults' sink_faults sink_faults' answer fault is (inr (inl failed)) empty = inr (inr (inr (inl (record {
+fault-answer before after held held' faults faults' sink_faults sink_faults' answer fault k (inr (inl failed)) empty = inr (inr (inr (inl (record {
   text = fault_text fault;
-  of = inr (record { fault = fault; is = is; text_is = refl }, empty);
+  of = inr (record { input = k.input; fault = fault; all = k.all; end = k.end; is = k.is; text_is = refl }, empty);
   front = failed.1;
   cause = failed.2;
   status = failed.0;
 }))))
-fault-answer before after held held' faults faults' sink_faults sink_faults' answer fault is (inr (inr lacks)) empty = inr (inr (inr (inr (record {
+fault-answer before after held held' faults faults' sink_faults sink_faults' answer fault k (inr (inr lacks)) empty = inr (inr (inr (inr (record {
   kept = lacks.1;
   status = lacks.0;
 }))))

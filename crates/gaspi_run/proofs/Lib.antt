@@ -7,7 +7,7 @@ pub mod RunningEnds
 pub mod RunningAll
 pub mod NumberRanges
 pub mod Started
-pub mod Scheduling
+pub mod ScheduleLoop
 mod Calling
 mod Transcribing
 mod CommandWords

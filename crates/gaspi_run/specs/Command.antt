@@ -1,5 +1,5 @@
 -- What the program does with its words and its input. (own choice)
-use Rattle.std.specs.Prelude.{◌≡◌, ◌⊎◌, ℕ, Bool, true, false, List, [], ◌∷◌, ◌++◌, Option, Some, Ok, Err, codes, if◌then◌else◌}
+use Rattle.std.specs.Prelude.{◌≡◌, ◌⊎◌, ◌≤◌, ℕ, length, Bool, true, false, List, [], ◌∷◌, ◌++◌, Option, Some, Ok, Err, codes, if◌then◌else◌}
 use Rattle.std.specs.Option.{ForSome}
 use Rattle.std.specs.Str.{bytes_eq}
 use Rattle.std.specs.List.{list_any}
@@ -84,10 +84,13 @@ pub record TellsRun (before after : Option (List ℕ)) (journal : List Event) (s
   pub end : ForSome before (λ told. after ≡ Some [])
   pub brief : IsBrief input journal status text
 
--- the input has a fault, and the text names the first
-pub record TellsFault (before : Option (List ℕ)) (text : List ℕ) : Type 0 where
+-- the input has a fault, and the text names the first; the whole input was read, where it was not too long
+pub record TellsFault (before after : Option (List ℕ)) (text : List ℕ) : Type 0 where
+  pub input : List ℕ
   pub fault : TextFault
-  pub is : ForSome before (λ told. world_text told ≡ Err fault)
+  pub all : ForSome before (λ told. input ≡ told)
+  pub end : length input ≤ 268435456 → ForSome before (λ told. after ≡ Some [])
+  pub is : world_text input ≡ Err fault
   pub text_is : text ≡ fault_text fault
 
 -- What an answer says. Each case has its statuses.
@@ -99,9 +102,9 @@ pub record HasRun (before after held held' : Option (List ℕ)) (answer : Answer
   pub written : held' ≡ with_more held text
 
 -- a fault was told: status 2
-pub record IsFaulty (before held held' : Option (List ℕ)) (answer : Answer) : Type 0 where
+pub record IsFaulty (before after held held' : Option (List ℕ)) (answer : Answer) : Type 0 where
   pub text : List ℕ
-  pub fault : TellsFault before text
+  pub fault : TellsFault before after text
   pub written : held' ≡ with_more held text
   pub status : answer.status ≡ 2
   pub empty : answer.journal ≡ []
@@ -116,7 +119,7 @@ pub record CouldNotRead (faults faults' : ℕ) (held held' : Option (List ℕ)) 
 -- the text of a run or of a fault could not be written whole: status 6; what was written is a front part of it
 pub record CouldNotWrite (before after held held' : Option (List ℕ)) (faults faults' : ℕ) (answer : Answer) : Type 0 where
   pub text : List ℕ
-  pub of : ((would_be : ℕ) × TellsRun before after answer.journal would_be text) ⊎ (TellsFault before text × (answer.journal ≡ []))
+  pub of : ((would_be : ℕ) × TellsRun before after answer.journal would_be text) ⊎ (TellsFault before after text × (answer.journal ≡ []))
   pub front : AddsFront text held held'
   pub cause : HasCause faults faults'
   pub status : answer.status ≡ 6
@@ -129,7 +132,7 @@ pub record LacksMemory (held held' : Option (List ℕ)) (answer : Answer) : Type
 -- the answer of `step --brief`
 abbrev pub Steps : Option (List ℕ) → Option (List ℕ) → ℕ → ℕ → Option (List ℕ) → Option (List ℕ) → ℕ → ℕ → Answer → Type 0
 Steps before after faults faults' held held' sink_faults sink_faults' answer =
-    HasRun before after held held' answer ⊎ (IsFaulty before held held' answer ⊎ (CouldNotRead faults faults' held held' answer
+    HasRun before after held held' answer ⊎ (IsFaulty before after held held' answer ⊎ (CouldNotRead faults faults' held held' answer
     ⊎ (CouldNotWrite before after held held' sink_faults sink_faults' answer ⊎ LacksMemory held held' answer)))
 
 -- the answer to words that are refused: status 1, or 6 where that could not be written

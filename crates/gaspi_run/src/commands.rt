@@ -9,7 +9,7 @@ ghost use Rattle.rank_script.specs.WorldText.{world_text, TextFault};
 ghost use Rattle.rank_script.specs.declared.scripts.ScriptFault.TheVariants as script_faults;
 ghost use Rattle.gaspi_run.specs.Command.{are_step_words, refused_text, fault_text, is_any_stuck, is_any_limit, run_status, IsBrief, Refuses, Steps};
 
-use crate::schedule::{Journal, schedule};
+use crate::scheduling::{Journal, schedule};
 use crate::transcripts::write_transcripts;
 use crate::turns::Finished;
 use gaspi_io::{Failed, ReadStop, Sink, Source, read_all, write_all};
@@ -95,7 +95,7 @@ fn run_text(alloc: Global, input: &[u8]) -> Result<Brief, ScriptFault>
     let ran = schedule(alloc, &shape, &scripts, SEED, LIMIT)?;
     let mut text = Bytes::new(alloc);
     write_transcripts(&mut text, &shape, &scripts, &ran.journal)?;
-    let status = run_status(ran.finished.as_slice());
+    let status = run_status(ran.outcomes.as_slice());
     Ok(Brief {
         journal: ran.journal,
         status,
@@ -186,9 +186,9 @@ fn are_step_words(words: &[&str]) -> bool
     }
 }
 
-/// The program: does what the words after its name ask for with its input, and writes its output.
-pub fn gaspirun<R: Threads + Wait + Sync, S: Source, K: Sink>(
-    _rt: &R,
+/// A command that runs no threads: does what the words after the program's name ask for with its input, and writes its
+/// output. Words that ask for no such command are refused, and then nothing is read.
+pub fn command<S: Source, K: Sink>(
     alloc: Global,
     words: &[&str],
     source: &mut S,
@@ -205,4 +205,22 @@ pub fn gaspirun<R: Threads + Wait + Sync, S: Source, K: Sink>(
     }
     let status = status_of(sink, b"gaspirun: words refused\n", 1);
     bare(alloc, status)
+}
+
+/// The program: does what the words after its name ask for with its input, and writes its output. No command of today
+/// runs threads or waits, so all is left to `command`.
+pub fn gaspirun<R: Threads + Wait + Sync, S: Source, K: Sink>(
+    _rt: &R,
+    alloc: Global,
+    words: &[&str],
+    source: &mut S,
+    sink: &mut K,
+) -> Answer
+    ensures refused { are_step_words (map (λ word. word.now) words.now) ≡ false
+        → Refuses (K.held sink.old) (K.held sink.new) (K.faults sink.old) (K.faults sink.new) result × (source.new ≡ source.old) }
+    ensures step { are_step_words (map (λ word. word.now) words.now) ≡ true
+        → Steps (S.left source.old) (S.left source.new) (S.faults source.old) (S.faults source.new)
+        (K.held sink.old) (K.held sink.new) (K.faults sink.old) (K.faults sink.new) result }
+{
+    command(alloc, words, source, sink)
 }

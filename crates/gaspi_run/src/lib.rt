@@ -4,11 +4,11 @@
 mod commands;
 mod moves;
 mod own_calls;
-mod schedule;
+mod scheduling;
 mod transcripts;
 mod turns;
 
-pub use commands::{Answer, gaspirun, step_brief};
-pub use schedule::{Journal, Ran};
+pub use commands::{Answer, command, gaspirun, step_brief};
+pub use scheduling::{Journal, Ran, schedule};
 pub use transcripts::write_transcripts;
-pub use turns::{Finished, Turns, Waiting};
+pub use turns::Finished;

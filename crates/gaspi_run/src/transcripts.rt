@@ -1,13 +1,13 @@
 //! Transcripts: what each caller was told, line by line, and how its run ended.
 
-ghost use Rattle.std.specs.Prelude.{◌≡◌, ◌<◌, ◌++◌, List, OnOk};
+ghost use Rattle.std.specs.Prelude.{◌≡◌, ◌<◌, ◌++◌, List, OnOk, OnErr};
 ghost use Rattle.gaspi_types.specs.declared.events.Event.{Event};
 ghost use Rattle.gaspi_model.specs.Step.{is_end};
 ghost use Rattle.gaspi_run.specs.OwnCalls.{pairs_of, HasCallers, IsCallTable};
 ghost use Rattle.gaspi_run.specs.Transcripts.{caller_text, call_line, ended_line, stuck_line, limit_line, transcript, thread_transcript, rank_transcripts, transcripts};
 
 use crate::own_calls::{CallTable, OwnCall, own_calls};
-use crate::schedule::Journal;
+use crate::scheduling::Journal;
 use gaspi_types::{
     Bytes, Call, CallerId, NoMemory, RankId, Reply, Shape, ThreadId, write_number, write_reply,
 };
@@ -134,8 +134,8 @@ fn write_rank(
     Ok(())
 }
 
-/// Adds the transcripts of all callers, by rank and thread. Without memory a part of them was added.
-pub fn write_transcripts(
+/// Adds the transcripts of all callers, by rank and thread.
+fn append_transcripts(
     text: &mut Bytes,
     shape: &Shape,
     scripts: &Scripts,
@@ -149,4 +149,20 @@ pub fn write_transcripts(
         write_rank(text, rank, scripts, &table)?;
     }
     Ok(())
+}
+
+/// Adds the transcripts of all callers of a world, by rank and thread: what each was told, line by line, and how its run
+/// ended. Without memory nothing changes.
+pub fn write_transcripts(
+    text: &mut Bytes,
+    shape: &Shape,
+    scripts: &Scripts,
+    journal: &Journal,
+) -> Result<(), NoMemory>
+    ensures ok { OnOk result (text.new ≡ text.old ++ transcripts shape.now scripts.now journal.now) }
+    ensures err { OnErr result (text.new ≡ text.old) }
+{
+    let mut told = Bytes::new(text.allocator());
+    append_transcripts(&mut told, shape, scripts, journal)?;
+    text.extend(told)
 }

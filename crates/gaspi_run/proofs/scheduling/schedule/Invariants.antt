@@ -1,6 +1,6 @@
-use Rattle.gaspi_run.proofs.Scheduling.{HasTurned}
+use Rattle.gaspi_run.proofs.ScheduleLoop.{HasTurned}
 use Rattle.gaspi_run.proofs.Work.{work}
-use Rattle.gaspi_run.proofs.schedule.schedule.Given as goal
+use Rattle.gaspi_run.proofs.scheduling.schedule.Given as goal
 
 abbrev pub invariant-loop-turns : goal.invariant-loop-turns
 invariant-loop-turns l = HasTurned l.fn.shape l.fn.scripts l.fn.seed l.fn.limit l.turns

@@ -216,8 +216,8 @@ none-active w scripts journal finished s rank thread l are leads ended = go (is_
         let run = (ended.each there.0 f there.2).run in
         let end = run-ends (ended.each there.0 f there.2).script.lines (own_calls f.caller.rank f.caller.thread journal) f.outcome run in
         let here : slice_get (own_calls rank thread journal) end.0 ≡ Some (End, replies.Done) =
-            subst (λ (n : ℕ). slice_get (own_calls rank n journal) end.0 ≡ Some (End, replies.Done)) (eqb-true f.caller.thread thread mine.1)
-            (subst (λ (n : ℕ). slice_get (own_calls n f.caller.thread journal) end.0 ≡ Some (End, replies.Done)) (eqb-true f.caller.rank rank mine.0) end.1) in
+        subst (λ (n : ℕ). slice_get (own_calls rank n journal) end.0 ≡ Some (End, replies.Done)) (eqb-true f.caller.thread thread mine.1)
+        (subst (λ (n : ℕ). slice_get (own_calls n f.caller.thread journal) end.0 ≡ Some (End, replies.Done)) (eqb-true f.caller.rank rank mine.0) end.1) in
         absurd (law.1 end.0 replies.Done here)
 
 no-items : {A : Type 0} (xs : List A) → length xs ≡ 0 → xs ≡ []

@@ -2,9 +2,9 @@ use Rattle.std.proofs.Common.{◌≡◌, ◌<◌, true, sym, subst}
 use Rattle.gaspi_model.specs.Step.{is_legal}
 use Rattle.gaspi_run.specs.Schedule.{HasSettled, HaveEnded}
 use Rattle.gaspi_run.specs.declared.turns.Turns.{Turns}
-use Rattle.gaspi_run.proofs.Scheduling.{known, laws, turned-declared, turned-less, turned-more, over-legal, over-ended, over-settled, end_laws}
+use Rattle.gaspi_run.proofs.ScheduleLoop.{known, laws, turned-declared, turned-less, turned-more, over-legal, over-ended, over-settled, end_laws}
 use Rattle.gaspi_run.proofs.Work.{work}
-use Rattle.gaspi_run.proofs.schedule.schedule.Goals as goal
+use Rattle.gaspi_run.proofs.scheduling.schedule.Goals as goal
 
 pub turn-requires : goal.turn-requires
 turn-requires c =

@@ -16,11 +16,11 @@ use std::alloc::Global;
 /// A history: its events, in order.
 pub type Journal = Rows<Event>;
 
-/// What a schedule gave: the events, and how each caller ended.
+/// What a schedule gave: the events, and how each caller ended, in the order of their ends.
 #[derive(Debug, Drop)]
 pub struct Ran {
     pub journal: Journal,
-    pub finished: Rows<Finished>,
+    pub outcomes: Rows<Finished>,
 }
 
 /// A caller at its start, added to those before where it has a script.
@@ -76,7 +76,8 @@ fn starts<'a>(
     Ok(waiting)
 }
 
-/// The scheduled history of a world's scripts, and how each caller ended. A call that blocks has `limit` looks.
+/// The scheduled history of a world's scripts, and how each caller ended. A call that blocks has `limit` looks, at least
+/// one; the scripts are those of this shape's callers. Only want of memory is an error.
 pub fn schedule(
     alloc: Global,
     shape: &Shape,
@@ -86,10 +87,10 @@ pub fn schedule(
 ) -> Result<Ran, NoMemory>
     requires limit { 1 ≤ limit }
     requires scripts { AreScriptsOf shape.now scripts.now }
-    ensures scheduled { IfOk result (λ ran. IsScheduled shape.now scripts.now seed limit ran.journal ran.finished) }
+    ensures scheduled { IfOk result (λ ran. IsScheduled shape.now scripts.now seed limit ran.journal ran.outcomes) }
     ensures legal { IfOk result (λ ran. is_legal shape.now ran.journal ≡ true) }
     ensures settled { IfOk result (λ ran. HasSettled shape.now ran.journal) }
-    ensures runs { IfOk result (λ ran. HaveEnded shape.now scripts.now ran.journal ran.finished) }
+    ensures runs { IfOk result (λ ran. HaveEnded shape.now scripts.now ran.journal ran.outcomes) }
 {
     soundness();
     enabled();
@@ -114,5 +115,8 @@ pub fn schedule(
         finished,
         journal,
     } = turns;
-    Ok(Ran { journal, finished })
+    Ok(Ran {
+        journal,
+        outcomes: finished,
+    })
 }

@@ -1,7 +1,7 @@
 use Rattle.std.proofs.Common.{[]}
 use Rattle.gaspi_run.specs.Schedule.{rank_starts}
 use Rattle.gaspi_run.proofs.NumberRanges.{range-more}
-use Rattle.gaspi_run.proofs.schedule.starts.Goals as goal
+use Rattle.gaspi_run.proofs.scheduling.starts.Goals as goal
 
 pub loop-rank-preserved : goal.loop-rank-preserved
 loop-rank-preserved c = range-more (rank_starts c.args.scripts.now) c.loop-rank.rank [] _ _ c.in_ok-add_starts.ensures c.loop-rank.invariant
