@@ -1,11 +1,11 @@
 -- The room of a call that may be recorded: a post's numbers fit, and what its rank has taken grows by its charge.
-use Rattle.std.proofs.Common.{◌≡◌, ℕ, ◌+◌, ◌*◌, ◌^◌, ◌<◌, Bool, true, false, cond, not, ◌==◌, nat_le, nat_lt, List, [], ◌∷◌, ◌++◌, Option, None, Some, Result, Ok, Err, length, get_or, count_by, sum_by, slice_get, slice_set, refl, sym, ap, arith}
+use Rattle.std.proofs.Common.{◌≡◌, ℕ, ◌+◌, ◌*◌, ◌^◌, ◌<◌, ◌≤◌, Bool, true, false, cond, not, ◌==◌, nat_le, nat_lt, List, [], ◌∷◌, ◌++◌, Option, None, Some, Result, Ok, Err, length, get_or, count_by, sum_by, slice_get, slice_set, refl, sym, ap, arith}
 use Rattle.std.proofs.lemmas.Bool.Decides.{nat_tests}
 use Rattle.std.proofs.lemmas.List.Sums.{sum_by-append}
 use Rattle.std.proofs.lemmas.Option.{slice_get-get_or}
 use Rattle.gaspi_types.specs.Checks.{check, found, absent}
 use Rattle.gaspi_types.specs.Lanes.{lane_owed, entry_owed, posted_entries}
-use Rattle.gaspi_types.specs.Posts.{write_notify_kinds, extent_in, known_extent}
+use Rattle.gaspi_types.specs.Posts.{write_kinds, notify_kinds, write_notify_kinds, extent_in, known_extent}
 use Rattle.gaspi_types.specs.SegmentBytes.{is_transfer_size, is_within}
 use Rattle.gaspi_types.specs.declared.entries.Extent.{Extent}
 use Rattle.gaspi_types.specs.Replies.{same_reply, is_idle, is_done}
@@ -14,21 +14,21 @@ use Rattle.gaspi_types.specs.declared.entries.Entry.{Entry}
 use Rattle.gaspi_types.specs.declared.entries.Kind.{Kind}
 use Rattle.gaspi_types.specs.declared.shapes.Limits.{Limits}
 use Rattle.gaspi_types.specs.declared.calls.Call.{Call}
-use Rattle.gaspi_types.specs.declared.calls.Call.TheVariants.{Store, Load, WriteNotify, Wait, Waitsome, Reset, End}
+use Rattle.gaspi_types.specs.declared.calls.Call.TheVariants.{Store, Load, Write, Notify, WriteNotify, Wait, Waitsome, Reset, End}
 use Rattle.gaspi_types.specs.declared.replies.Refusal.{Refusal}
 use Rattle.gaspi_types.specs.declared.replies.Reply.{Reply}
 use Rattle.gaspi_types.specs.declared.replies.Reply.TheVariants as replies
 use Rattle.gaspi_types.specs.declared.replies.Ready.TheVariants as ready
 use Rattle.gaspi_types.specs.declared.replies.Refusal.TheVariants.{CallerEnded}
 use Rattle.gaspi_model.specs.State.{thread_at, is_running, owed, queue_owed}
-use Rattle.gaspi_model.specs.Calls.{call_finds, write_notify_finds, answer, ready_of, recorded_reply, posts_done, posts_after, with_entries, with_post, changed_at, charge}
+use Rattle.gaspi_model.specs.Calls.{call_finds, asked_finds, answer, ready_of, recorded_reply, posts_done, posts_after, with_entries, with_post, changed_at, post_charge, charge}
 use Rattle.gaspi_model.specs.Sound.{IsSoundPosts}
 use Rattle.gaspi_model.specs.declared.states.Queue.{Queue}
 use Rattle.gaspi_model.specs.declared.states.Posts.{Posts}
 use Rattle.gaspi_model.specs.declared.states.Memory.{Memory}
 use Rattle.gaspi_model.specs.declared.states.ThreadState.{ThreadState}
 use Rattle.gaspi_model.specs.declared.states.ThreadState.TheVariants as threads
-use Rattle.plain_machine.specs.Room.{HasPostRoom}
+use Rattle.plain_machine.specs.Room.{IsRoom, HasPostRoom}
 use Rattle.plain_machine.proofs.Chains.{passed, found_there, check_holds, changed_there}
 use Rattle.plain_machine.proofs.Owed.{sum_by-put, lane_owed-posted}
 
@@ -90,13 +90,12 @@ pub record IsPost (limits : Limits) (posts : Posts) (rank queue : ℕ) (finds : 
   pub made : finds ≡ Ok kinds
   pub room : nat_le (q.open_count + length kinds) limits.depth ≡ true
 
-pub post_by : (limits : Limits) (me : ℕ) (posts : Posts) (seg offset rank rseg roffset size note value queue : ℕ) (reply : Reply)
-    → write_notify_finds limits me posts seg offset rank rseg roffset size note value queue ≡ Ok (Some reply)
-    → IsPost limits posts rank queue (write_notify_kinds limits.notes me posts.own posts.known seg offset rank rseg roffset size note value) reply
-post_by limits me posts seg offset rank rseg roffset size note value queue reply is =
+pub post_by : (limits : Limits) (posts : Posts) (rank queue : ℕ) (asked : Result (List Kind) Refusal) (reply : Reply)
+    → asked_finds limits posts rank queue asked ≡ Ok (Some reply) → IsPost limits posts rank queue asked reply
+post_by limits posts rank queue asked reply is =
     passed (check (nat_lt rank limits.ranks) _) _ _ is (λ u ranked more.
     passed (found (slice_get posts.queues queue) _) _ _ more (λ q there more.
-    passed (write_notify_kinds limits.notes me posts.own posts.known seg offset rank rseg roffset size note value) _ _ more (λ kinds made more.
+    passed asked _ _ more (λ kinds made more.
     passed (absent q.broken _) _ _ more (λ v whole more.
     passed (check (nat_le (q.open_count + length kinds) limits.depth) _) _ _ more (λ w room more.
     record { replied = done_reply reply more; ranked = check_holds _ _ _ ranked; q = q; there = found_there _ _ _ there; kinds = kinds; made = made; room = check_holds _ _ _ room })))))
@@ -104,9 +103,34 @@ post_by limits me posts seg offset rank rseg roffset size note value queue reply
     done_reply : (reply : Reply) → ◌≡◌ {A = Result (Option Reply) Refusal} (Ok (Some replies.Done)) (Ok (Some reply)) → is_done reply ≡ true
     done_reply reply is = let same : replies.Done ≡ reply = cc in sym (ap is_done same)
 
+-- how many entries what is asked for has, where it has them
+abbrev pub HasLength : Result (List Kind) Refusal → ℕ → Type 0
+HasLength asked entries = (kinds : List Kind) → asked ≡ Ok kinds → length kinds ≡ entries
+
+same_length : (those kinds : List Kind) → ◌≡◌ {A = Result (List Kind) Refusal} (Ok those) (Ok kinds) → length kinds ≡ length those
+same_length those kinds is = let same : those ≡ kinds = cc in sym (ap length same)
+
+-- a write
+pub one_write : (me : ℕ) (own : List (Option Extent)) (known : List (List (Option Extent))) (seg offset rank rseg roffset size : ℕ)
+    → HasLength (write_kinds me own known seg offset rank rseg roffset size) 1
+one_write me own known seg offset rank rseg roffset size kinds is =
+    passed (found (extent_in own seg) _) _ _ is (λ mine a more.
+    passed (found (known_extent me own known rank rseg) _) _ _ more (λ theirs a more.
+    passed (check (is_transfer_size size) _) _ _ more (λ u a more.
+    passed (check (is_within offset size mine.size) _) _ _ more (λ u a more.
+    passed (check (is_within roffset size theirs.size) _) _ _ more (λ u a more. same_length (_ ∷ []) kinds more)))))
+
+-- a notification
+pub one_notify : (notes me : ℕ) (own : List (Option Extent)) (known : List (List (Option Extent))) (rseg rank note value : ℕ)
+    → HasLength (notify_kinds notes me own known rseg rank note value) 1
+one_notify notes me own known rseg rank note value kinds is =
+    passed (found (known_extent me own known rank rseg) _) _ _ is (λ theirs a more.
+    passed (check (nat_lt note notes) _) _ _ more (λ u a more.
+    passed (check (not (value == 0)) _) _ _ more (λ u a more. same_length (_ ∷ []) kinds more)))
+
 -- a write and its notification
-pub two_kinds : (notes me : ℕ) (own : List (Option Extent)) (known : List (List (Option Extent))) (seg offset rank rseg roffset size note value : ℕ) (kinds : List Kind)
-    → write_notify_kinds notes me own known seg offset rank rseg roffset size note value ≡ Ok kinds → length kinds ≡ 2
+pub two_kinds : (notes me : ℕ) (own : List (Option Extent)) (known : List (List (Option Extent))) (seg offset rank rseg roffset size note value : ℕ)
+    → HasLength (write_notify_kinds notes me own known seg offset rank rseg roffset size note value) 2
 two_kinds notes me own known seg offset rank rseg roffset size note value kinds is =
     passed (found (extent_in own seg) _) _ _ is (λ mine a more.
     passed (found (known_extent me own known rank rseg) _) _ _ more (λ theirs a more.
@@ -114,30 +138,37 @@ two_kinds notes me own known seg offset rank rseg roffset size note value kinds 
     passed (check (is_within offset size mine.size) _) _ _ more (λ u a more.
     passed (check (is_within roffset size theirs.size) _) _ _ more (λ u a more.
     passed (check (nat_lt note notes) _) _ _ more (λ u a more.
-    passed (check (not (value == 0)) _) _ _ more (λ u a more. kinds_two _ _ kinds more)))))))
+    passed (check (not (value == 0)) _) _ _ more (λ u a more. same_length (_ ∷ _ ∷ []) kinds more)))))))
+
+-- the numbers and the open count of an accepted post fit
+post_room : (limits : Limits) (posts : Posts) (rank queue : ℕ) (asked : Result (List Kind) Refusal) (reply : Reply) (entries : ℕ) → entries ≤ 2
+    → are_limits limits ≡ true → IsSoundPosts limits posts → IsPost limits posts rank queue asked reply → HasLength asked entries → IsRoom posts entries queue
+post_room limits posts rank queue asked reply entries few limited sound p long =
+    let a = sound.room in
+    let b = sound.numbers in
+    record {
+      numbers = grind (arith, nat_tests);
+      counts = λ q there. room_counts p.q q (length p.kinds) p.there there (long p.kinds p.made) p.room;
+    }
   where
-    kinds_two : (a b : Kind) (kinds : List Kind) → ◌≡◌ {A = Result (List Kind) Refusal} (Ok (a ∷ b ∷ [])) (Ok kinds) → length kinds ≡ 2
-    kinds_two a b kinds is = let same : a ∷ b ∷ [] ≡ kinds = cc in sym (ap length same)
+    room_counts : (p q : Queue) (count : ℕ)
+        → slice_get posts.queues queue ≡ Some p → slice_get posts.queues queue ≡ Some q → count ≡ entries → nat_le (p.open_count + count) limits.depth ≡ true → q.open_count + entries < 2 ^ 32
+    room_counts p q count a b is room = let same : p ≡ q = cc in let counts = ap (λ (x : Queue). x.open_count) same in grind (arith, nat_tests)
 
 -- the numbers and the open count of a post that may be recorded fit
 pub room_by : (limits : Limits) (me : ℕ) (posts : Posts) (memory : Memory) (thread : ℕ) (call : Call) (reply : Reply)
     → are_limits limits ≡ true → IsSoundPosts limits posts → IsFound limits me posts memory thread call reply → HasPostRoom posts call
 room_by limits me posts memory thread (Store seg offset bytes) reply limited sound f = tt
 room_by limits me posts memory thread (Load seg offset size) reply limited sound f = tt
+room_by limits me posts memory thread (Write seg offset rank rseg roffset size queue) reply limited sound f =
+    post_room limits posts rank queue (write_kinds me posts.own posts.known seg offset rank rseg roffset size) f.reply_found 1 (omega arith) limited sound
+    (post_by limits posts rank queue (write_kinds me posts.own posts.known seg offset rank rseg roffset size) f.reply_found f.finds) (one_write me posts.own posts.known seg offset rank rseg roffset size)
+room_by limits me posts memory thread (Notify rseg rank note value queue) reply limited sound f =
+    post_room limits posts rank queue (notify_kinds limits.notes me posts.own posts.known rseg rank note value) f.reply_found 1 (omega arith) limited sound
+    (post_by limits posts rank queue (notify_kinds limits.notes me posts.own posts.known rseg rank note value) f.reply_found f.finds) (one_notify limits.notes me posts.own posts.known rseg rank note value)
 room_by limits me posts memory thread (WriteNotify seg offset rank rseg roffset size note value queue) reply limited sound f =
-    let p = post_by limits me posts seg offset rank rseg roffset size note value queue f.reply_found f.finds in
-    let two = two_kinds limits.notes me posts.own posts.known seg offset rank rseg roffset size note value p.kinds p.made in
-    record {
-      numbers = room_numbers limits posts limited sound;
-      counts = λ q there. room_counts limits posts p.q q (length p.kinds) queue limited p.there there two p.room;
-    }
-  where
-    room_numbers : (limits : Limits) (posts : Posts) → are_limits limits ≡ true → IsSoundPosts limits posts → posts.next + 2 < 2 ^ 32
-    room_numbers limits posts limited sound = let a = sound.room in let b = sound.numbers in grind (arith, nat_tests)
-
-    room_counts : (limits : Limits) (posts : Posts) (p q : Queue) (two queue : ℕ) → are_limits limits ≡ true
-        → slice_get posts.queues queue ≡ Some p → slice_get posts.queues queue ≡ Some q → two ≡ 2 → nat_le (p.open_count + two) limits.depth ≡ true → q.open_count + 2 < 2 ^ 32
-    room_counts limits posts p q two queue limited a b is room = let same : p ≡ q = cc in let counts = ap (λ (x : Queue). x.open_count) same in grind (arith, nat_tests)
+    post_room limits posts rank queue (write_notify_kinds limits.notes me posts.own posts.known seg offset rank rseg roffset size note value) f.reply_found 2 (omega arith) limited sound
+    (post_by limits posts rank queue (write_notify_kinds limits.notes me posts.own posts.known seg offset rank rseg roffset size note value) f.reply_found f.finds) (two_kinds limits.notes me posts.own posts.known seg offset rank rseg roffset size note value)
 room_by limits me posts memory thread (Wait queue) reply limited sound f = tt
 room_by limits me posts memory thread (Waitsome seg begin num) reply limited sound f = tt
 room_by limits me posts memory thread (Reset seg note) reply limited sound f = tt
@@ -157,8 +188,9 @@ idle_charge : (limits : Limits) (me : ℕ) (posts : Posts) (memory : Memory) (th
     → is_idle reply ≡ true → charge (thread_at posts thread) call reply ≡ 1
 idle_charge limits me posts memory thread (Store seg offset bytes) reply same idle = refl
 idle_charge limits me posts memory thread (Load seg offset size) reply same idle = refl
-idle_charge limits me posts memory thread (WriteNotify seg offset rank rseg roffset size note value queue) reply same idle =
-    rw (idle_not_done reply idle) refl
+idle_charge limits me posts memory thread (Write seg offset rank rseg roffset size queue) reply same idle = rw (idle_not_done reply idle) refl
+idle_charge limits me posts memory thread (Notify rseg rank note value queue) reply same idle = rw (idle_not_done reply idle) refl
+idle_charge limits me posts memory thread (WriteNotify seg offset rank rseg roffset size note value queue) reply same idle = rw (idle_not_done reply idle) refl
 idle_charge limits me posts memory thread (Wait queue) reply same idle = refl
 idle_charge limits me posts memory thread (Waitsome seg begin num) reply same idle = refl
 idle_charge limits me posts memory thread (Reset seg note) reply same idle = refl
@@ -220,19 +252,32 @@ owed-end posts thread runs = by_item (slice_get posts.threads thread) refl runs
     by_item None there runs = let gone = rw there at runs in cc
     by_item (Some t) there runs = by_state t there (rw there at runs)
 
+-- what a rank has taken grows by the charge of an accepted post
+post_taken : (limits : Limits) (posts : Posts) (rank queue : ℕ) (asked : Result (List Kind) Refusal) (reply reply_found : Reply) (entries : ℕ)
+    → IsSoundPosts limits posts → IsPost limits posts rank queue asked reply_found → is_done reply ≡ is_done reply_found → HasLength asked entries
+    → 1 + owed (with_post posts queue rank asked) ≡ owed posts + post_charge entries reply
+post_taken limits posts rank queue asked reply reply_found entries sound p done long =
+    let count = long p.kinds p.made in
+    let lanes = sound.lanes queue p.q p.there in
+    let within : rank < length p.q.lanes = grind (arith, nat_tests, p.ranked) in
+    let more = owed-post posts queue rank p.q p.kinds p.there within in
+    rw (p.made, done, p.replied) (omega (arith, more, count))
+
 -- what a rank has taken grows by the charge of a call that is not idle
 busy_taken : (limits : Limits) (me : ℕ) (posts : Posts) (memory : Memory) (thread : ℕ) (call : Call) (reply : Reply)
     → IsSoundPosts limits posts → IsFound limits me posts memory thread call reply
     → 1 + owed (posts_done limits me posts thread call) ≡ owed posts + charge (thread_at posts thread) call reply
 busy_taken limits me posts memory thread (Store seg offset bytes) reply sound f = omega arith
 busy_taken limits me posts memory thread (Load seg offset size) reply sound f = omega arith
+busy_taken limits me posts memory thread (Write seg offset rank rseg roffset size queue) reply sound f =
+    post_taken limits posts rank queue (write_kinds me posts.own posts.known seg offset rank rseg roffset size) reply f.reply_found 1 sound
+    (post_by limits posts rank queue (write_kinds me posts.own posts.known seg offset rank rseg roffset size) f.reply_found f.finds) f.done (one_write me posts.own posts.known seg offset rank rseg roffset size)
+busy_taken limits me posts memory thread (Notify rseg rank note value queue) reply sound f =
+    post_taken limits posts rank queue (notify_kinds limits.notes me posts.own posts.known rseg rank note value) reply f.reply_found 1 sound
+    (post_by limits posts rank queue (notify_kinds limits.notes me posts.own posts.known rseg rank note value) f.reply_found f.finds) f.done (one_notify limits.notes me posts.own posts.known rseg rank note value)
 busy_taken limits me posts memory thread (WriteNotify seg offset rank rseg roffset size note value queue) reply sound f =
-    let p = post_by limits me posts seg offset rank rseg roffset size note value queue f.reply_found f.finds in
-    let two = two_kinds limits.notes me posts.own posts.known seg offset rank rseg roffset size note value p.kinds p.made in
-    let lanes = sound.lanes queue p.q p.there in
-    let within : rank < length p.q.lanes = grind (arith, nat_tests, p.ranked) in
-    let more = owed-post posts queue rank p.q p.kinds p.there within in
-    rw (p.made, f.done, p.replied) (omega (arith, more, two))
+    post_taken limits posts rank queue (write_notify_kinds limits.notes me posts.own posts.known seg offset rank rseg roffset size note value) reply f.reply_found 2 sound
+    (post_by limits posts rank queue (write_notify_kinds limits.notes me posts.own posts.known seg offset rank rseg roffset size note value) f.reply_found f.finds) f.done (two_kinds limits.notes me posts.own posts.known seg offset rank rseg roffset size note value)
 busy_taken limits me posts memory thread (Wait queue) reply sound f =
     let same = owed-changed posts.queues queue (λ (q : Queue). record q { open_count = 0 }) (λ q. refl) in omega (arith, same)
 busy_taken limits me posts memory thread (Waitsome seg begin num) reply sound f = omega arith
@@ -246,15 +291,16 @@ pub taken_by : (limits : Limits) (me : ℕ) (posts : Posts) (memory : Memory) (t
     ≡ posts.events + owed posts + charge (thread_at posts thread) call reply
 taken_by limits me posts memory thread call reply sound same = by_idle (is_idle reply) refl
   where
+    post_events : (queue rank : ℕ) (asked : Result (List Kind) Refusal) → (with_post posts queue rank asked).events ≡ posts.events
+    post_events queue rank (Ok kinds) = refl
+    post_events queue rank (Err refusal) = refl
+
     done_events : (call : Call) → (posts_done limits me posts thread call).events ≡ posts.events
     done_events (Store seg offset bytes) = refl
     done_events (Load seg offset size) = refl
-    done_events (WriteNotify seg offset rank rseg roffset size note value queue) =
-        post_events (write_notify_kinds limits.notes me posts.own posts.known seg offset rank rseg roffset size note value)
-      where
-        post_events : (finds : Result (List Kind) Refusal) → (with_post posts queue rank finds).events ≡ posts.events
-        post_events (Ok kinds) = refl
-        post_events (Err refusal) = refl
+    done_events (Write seg offset rank rseg roffset size queue) = post_events queue rank (write_kinds me posts.own posts.known seg offset rank rseg roffset size)
+    done_events (Notify rseg rank note value queue) = post_events queue rank (notify_kinds limits.notes me posts.own posts.known rseg rank note value)
+    done_events (WriteNotify seg offset rank rseg roffset size note value queue) = post_events queue rank (write_notify_kinds limits.notes me posts.own posts.known seg offset rank rseg roffset size note value)
     done_events (Wait queue) = refl
     done_events (Waitsome seg begin num) = refl
     done_events (Reset seg note) = refl

@@ -2,12 +2,12 @@
 use Rattle.std.proofs.Common.{◌≡◌, ℕ, zero, suc, ◌+◌, Bool, true, false, nat_le, List, [], ◌∷◌, Option, None, Some, Result, Ok, Err, ◌⊎◌, inl, inr, length, slice_get, slice_set, refl, sym, ap, ◌∙◌}
 use Rattle.std.proofs.lemmas.List.{length-set}
 use Rattle.gaspi_types.specs.Checks.{check, found}
-use Rattle.gaspi_types.specs.Posts.{write_notify_kinds}
+use Rattle.gaspi_types.specs.Posts.{write_kinds, notify_kinds, write_notify_kinds}
 use Rattle.gaspi_types.specs.Replies.{same_reply, is_idle}
 use Rattle.gaspi_types.specs.declared.entries.Kind.{Kind}
 use Rattle.gaspi_types.specs.declared.shapes.Limits.{Limits}
 use Rattle.gaspi_types.specs.declared.calls.Call.{Call}
-use Rattle.gaspi_types.specs.declared.calls.Call.TheVariants.{Store, Load, WriteNotify, Wait, Waitsome, Reset, End}
+use Rattle.gaspi_types.specs.declared.calls.Call.TheVariants.{Store, Load, Write, Notify, WriteNotify, Wait, Waitsome, Reset, End}
 use Rattle.gaspi_types.specs.declared.replies.Refusal.{Refusal}
 use Rattle.gaspi_types.specs.declared.replies.Reply.{Reply}
 use Rattle.gaspi_types.specs.declared.events.Event.{Event}
@@ -40,15 +40,19 @@ length-changed_at {X} table place change = by_item (slice_get table place) refl
     by_item None there = rw there refl
     by_item (Some x) there = rw (changed_there table place change x there) (length-set table place (change x))
 
+queues-post : (posts : Posts) (queue rank : ℕ) (asked : Result (List Kind) Refusal) → length (with_post posts queue rank asked).queues ≡ length posts.queues
+queues-post posts queue rank (Ok kinds) = length-changed_at posts.queues queue _
+queues-post posts queue rank (Err refusal) = refl
+
 queues-done : (limits : Limits) (me : ℕ) (posts : Posts) (thread : ℕ) (call : Call) → length (posts_done limits me posts thread call).queues ≡ length posts.queues
 queues-done limits me posts thread (Store seg offset bytes) = refl
 queues-done limits me posts thread (Load seg offset size) = refl
+queues-done limits me posts thread (Write seg offset rank rseg roffset size queue) =
+    queues-post posts queue rank (write_kinds me posts.own posts.known seg offset rank rseg roffset size)
+queues-done limits me posts thread (Notify rseg rank note value queue) =
+    queues-post posts queue rank (notify_kinds limits.notes me posts.own posts.known rseg rank note value)
 queues-done limits me posts thread (WriteNotify seg offset rank rseg roffset size note value queue) =
-    of_post (write_notify_kinds limits.notes me posts.own posts.known seg offset rank rseg roffset size note value)
-  where
-    of_post : (finds : Result (List Kind) Refusal) → length (with_post posts queue rank finds).queues ≡ length posts.queues
-    of_post (Ok kinds) = length-changed_at posts.queues queue _
-    of_post (Err refusal) = refl
+    queues-post posts queue rank (write_notify_kinds limits.notes me posts.own posts.known seg offset rank rseg roffset size note value)
 queues-done limits me posts thread (Wait queue) = length-changed_at posts.queues queue _
 queues-done limits me posts thread (Waitsome seg begin num) = refl
 queues-done limits me posts thread (Reset seg note) = refl

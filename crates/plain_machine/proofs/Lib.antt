@@ -1,3 +1,4 @@
+pub mod Both
 pub mod CallRoom
 pub mod Chains
 pub mod Fitting

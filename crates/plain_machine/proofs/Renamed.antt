@@ -6,11 +6,11 @@ use Rattle.std.proofs.lemmas.Bool.Decides.{nat_tests}
 use Rattle.std.proofs.lemmas.Option.{slice_get_within}
 use Rattle.gaspi_types.specs.Checks.{check, found}
 use Rattle.gaspi_types.specs.Lanes.{may_take, may_put, posted_entries}
-use Rattle.gaspi_types.specs.Posts.{write_notify_kinds}
+use Rattle.gaspi_types.specs.Posts.{write_kinds, notify_kinds, write_notify_kinds}
 use Rattle.gaspi_types.specs.Replies.{same_reply, is_idle}
 use Rattle.gaspi_types.specs.World.{are_limits}
 use Rattle.gaspi_types.specs.declared.calls.Call.{Call}
-use Rattle.gaspi_types.specs.declared.calls.Call.TheVariants.{Store, Load, WriteNotify, Wait, Waitsome, Reset, End}
+use Rattle.gaspi_types.specs.declared.calls.Call.TheVariants.{Store, Load, Write, Notify, WriteNotify, Wait, Waitsome, Reset, End}
 use Rattle.gaspi_types.specs.declared.entries.Entry.{Entry}
 use Rattle.gaspi_types.specs.declared.entries.Kind.{Kind}
 use Rattle.gaspi_types.specs.declared.entries.Phase.TheVariants as phases
@@ -37,11 +37,11 @@ use Rattle.gaspi_model.specs.declared.states.StepFault.TheVariants as faults
 use Rattle.gaspi_model.specs.declared.states.Why.{Why}
 use Rattle.gaspi_model.specs.declared.states.Why.TheVariants as whys
 use Rattle.plain_machine.specs.Machine.{IsFitting}
-use Rattle.plain_machine.specs.Standing.{lane_id, lane_named, queue_named, rank_named, standing_lanes, lane_entries, is_before, call_lane, event_lane, is_put}
+use Rattle.plain_machine.specs.Standing.{lane_id, lane_named, queue_named, rank_named, standing_lanes, lane_entries, is_before, post_lane, call_lane, event_lane, is_put}
 use Rattle.plain_machine.specs.declared.standing.LaneId.{LaneId}
 use Rattle.plain_machine.proofs.Chains.{passed, found_there, check_holds, changed_there}
 use Rattle.plain_machine.proofs.Kept.{IsAt, found_at}
-use Rattle.plain_machine.proofs.CallRoom.{found_by, post_by, two_kinds, IsPost}
+use Rattle.plain_machine.proofs.CallRoom.{found_by, post_by, HasLength, one_write, one_notify, two_kinds, IsPost}
 use Rattle.plain_machine.proofs.Items.{length-posted_entries}
 use Rattle.plain_machine.proofs.Parted.{IsParted, parted_by, kept_by, named_by, unnamed_by}
 
@@ -151,10 +151,10 @@ put_names ps o posts memory queue target number outcome after o_there is =
         rw (← same) (of_outcome at outcome there)
 
 -- a post that is done gives its lane a name
-post_names : (ps : List Posts) (o : ℕ) (limits : Limits) (posts : Posts) (queue target : ℕ) (finds : Result (List Kind) Refusal) (reply : Reply) → slice_get ps o ≡ Some posts
-    → IsSoundPosts limits posts → IsPost limits posts target queue finds reply → ((kinds : List Kind) → finds ≡ Ok kinds → length kinds ≡ 2)
+post_names : (ps : List Posts) (o : ℕ) (limits : Limits) (posts : Posts) (queue target : ℕ) (finds : Result (List Kind) Refusal) (reply : Reply) (n : ℕ) → slice_get ps o ≡ Some posts
+    → IsSoundPosts limits posts → IsPost limits posts target queue finds reply → HasLength finds (suc n)
     → IsParted (lane_id o queue target) (standing_lanes ps) (standing_lanes (slice_set ps o (counted (with_post posts queue target finds)))) (lane_named o queue (target, lane_entries ps (lane_id o queue target))) (lane_id o queue target ∷ [])
-post_names ps o limits posts queue target finds reply o_there sound p two = by_lane (slice_get p.q.lanes target) refl
+post_names ps o limits posts queue target finds reply n o_there sound p count = by_lane (slice_get p.q.lanes target) refl
   where
     more : List Entry
     more = posted_entries posts.next p.kinds
@@ -174,9 +174,9 @@ post_names ps o limits posts queue target finds reply o_there sound p two = by_l
           queues = changed_there posts.queues queue _ p.q p.there;
           lanes = changed_there p.q.lanes target _ lane there;
         }) in
-        let long = length-posted_entries posts.next p.kinds ∙ two p.kinds p.made in
+        let long = length-posted_entries posts.next p.kinds ∙ count p.kinds p.made in
         let parts = parted ps o queue target posts (counted (with_post posts queue target finds)) lane (lane ++ more) o_there r in
-        rw (entries_old ps o queue target posts _ lane (lane ++ more) o_there r) (rw (named_more o queue target lane more 1 long) at parts)
+        rw (entries_old ps o queue target posts _ lane (lane ++ more) o_there r) (rw (named_more o queue target lane more n long) at parts)
 
 -- posts with the same names
 same_in : {X : Type 0} (h : ℕ × X → List LaneId) (n i : ℕ) (xs : List X) (x y : X) → slice_get xs i ≡ Some x → ((j : ℕ) → h (j, y) ≡ h (j, x))
@@ -195,21 +195,32 @@ same_changed {X} h n i xs change same = by_item (slice_get xs i) refl
     by_item None there = rw there refl
     by_item (Some x) there = rw (changed_there xs i change x there) (same_in h n i xs x (change x) there (λ j. same j x))
 
+-- an accepted post has a lane
+post_has_lane : (limits : Limits) (me : ℕ) (posts : Posts) (rank queue : ℕ) (asked : Result (List Kind) Refusal) (reply : Reply) → are_limits limits ≡ true → length posts.queues ≤ 8
+    → IsPost limits posts rank queue asked reply → post_lane me rank queue ≡ None → ⊥
+post_has_lane limits me posts rank queue asked reply limited few p lane =
+    let within = slice_get_within posts.queues queue p.q p.there in
+    let rank_in : rank < 16 = grind (arith, nat_tests, p.ranked) in
+    let a = lt-ltb rank 16 rank_in in
+    let b = lt-ltb queue 8 (omega (arith, within, few)) in
+    let is : post_lane me rank queue ≡ Some (lane_id me queue rank) = rw a rw b refl in
+    cc
+
 -- a call that posts to no lane keeps the names of its rank
 quiet_call : (limits : Limits) (me : ℕ) (posts : Posts) (memory : Memory) (thread : ℕ) (call : Call) (reply : Reply) (j : ℕ) → are_limits limits ≡ true → length posts.queues ≤ 8
     → same_reply reply (recorded_reply (answer limits me posts memory thread call)) ≡ true → is_idle reply ≡ false → call_lane me call ≡ None
     → rank_named (j, posts_done limits me posts thread call) ≡ rank_named (j, posts)
 quiet_call limits me posts memory thread (Store seg offset bytes) reply j limited few same busy lane = refl
 quiet_call limits me posts memory thread (Load seg offset size) reply j limited few same busy lane = refl
+quiet_call limits me posts memory thread (Write seg offset rank rseg roffset size queue) reply j limited few same busy lane =
+    let f = found_by limits me posts memory thread (Write seg offset rank rseg roffset size queue) reply same busy in
+    absurd (post_has_lane limits me posts rank queue (write_kinds me posts.own posts.known seg offset rank rseg roffset size) f.reply_found limited few (post_by limits posts rank queue (write_kinds me posts.own posts.known seg offset rank rseg roffset size) f.reply_found f.finds) lane)
+quiet_call limits me posts memory thread (Notify rseg rank note value queue) reply j limited few same busy lane =
+    let f = found_by limits me posts memory thread (Notify rseg rank note value queue) reply same busy in
+    absurd (post_has_lane limits me posts rank queue (notify_kinds limits.notes me posts.own posts.known rseg rank note value) f.reply_found limited few (post_by limits posts rank queue (notify_kinds limits.notes me posts.own posts.known rseg rank note value) f.reply_found f.finds) lane)
 quiet_call limits me posts memory thread (WriteNotify seg offset rank rseg roffset size note value queue) reply j limited few same busy lane =
     let f = found_by limits me posts memory thread (WriteNotify seg offset rank rseg roffset size note value queue) reply same busy in
-    let p = post_by limits me posts seg offset rank rseg roffset size note value queue f.reply_found f.finds in
-    let within = slice_get_within posts.queues queue p.q p.there in
-    let rank_in : rank < 16 = grind (arith, nat_tests, p.ranked) in
-    let a = lt-ltb rank 16 rank_in in
-    let b = lt-ltb queue 8 (omega (arith, within, few)) in
-    let is : call_lane me (WriteNotify seg offset rank rseg roffset size note value queue) ≡ Some (lane_id me queue rank) = rw a rw b refl in
-    cc
+    absurd (post_has_lane limits me posts rank queue (write_notify_kinds limits.notes me posts.own posts.known seg offset rank rseg roffset size note value) f.reply_found limited few (post_by limits posts rank queue (write_notify_kinds limits.notes me posts.own posts.known seg offset rank rseg roffset size note value) f.reply_found f.finds) lane)
 quiet_call limits me posts memory thread (Wait queue) reply j limited few same busy lane =
     same_changed (queue_named j) 0 queue posts.queues (λ (q : Queue). record q { open_count = 0 }) (λ k q. refl)
 quiet_call limits me posts memory thread (Waitsome seg begin num) reply j limited few same busy lane = refl
@@ -273,21 +284,33 @@ posting s t (Put origin queue target number outcome) id sound lane puts is = abs
 posting s t (Called c call reply) id sound lane puts is =
     let l = some_lane (is_idle reply) (call_lane c.rank call) id lane in of_call call l.0 l.1 (call_posts s t c call reply is)
   where
+    of_post : (rank queue : ℕ) (asked : Result (List Kind) Refusal) (found : Reply) (n : ℕ) (p p' : Posts) → slice_get s.posts c.rank ≡ Some p → slice_set s.posts c.rank p' ≡ t.posts
+        → post_lane c.rank rank queue ≡ Some id → IsPost s.limits p rank queue asked found → HasLength asked (suc n) → counted (with_post p queue rank asked) ≡ p'
+        → IsParted id (standing_lanes s.posts) (standing_lanes t.posts) (lane_named id.origin id.queue (id.target, lane_entries s.posts id)) (id ∷ [])
+    of_post rank queue asked found n p p' there new lane post long after =
+        rw (← lane_of_post (nat_lt rank 16 && nat_lt queue 8) (lane_id c.rank queue rank) id lane, ← new, ← after)
+        (post_names s.posts c.rank s.limits p queue rank asked found n there (sound.posts c.rank p there) post long)
+
     of_call : (call : Call) → is_idle reply ≡ false → call_lane c.rank call ≡ Some id
         → IsPosted s t c.rank (λ p p'. (memory : Memory) × IsCalled s.limits c.rank p memory c.thread call reply p')
         → IsParted id (standing_lanes s.posts) (standing_lanes t.posts) (lane_named id.origin id.queue (id.target, lane_entries s.posts id)) (id ∷ [])
     of_call (Store seg offset bytes) busy lane done = absurd (let no : ⊥ = cc in no)
     of_call (Load seg offset size) busy lane done = absurd (let no : ⊥ = cc in no)
+    of_call (Write seg offset rank rseg roffset size queue) busy lane done =
+        let f = found_by s.limits c.rank done.p done.by.0 c.thread (Write seg offset rank rseg roffset size queue) reply done.by.1.replied busy in
+        of_post rank queue (write_kinds c.rank done.p.own done.p.known seg offset rank rseg roffset size) f.reply_found 0 done.p done.p' done.there done.is lane
+        (post_by s.limits done.p rank queue (write_kinds c.rank done.p.own done.p.known seg offset rank rseg roffset size) f.reply_found f.finds) (one_write c.rank done.p.own done.p.known seg offset rank rseg roffset size)
+        (rw busy at done.by.1.after_is)
+    of_call (Notify rseg rank note value queue) busy lane done =
+        let f = found_by s.limits c.rank done.p done.by.0 c.thread (Notify rseg rank note value queue) reply done.by.1.replied busy in
+        of_post rank queue (notify_kinds s.limits.notes c.rank done.p.own done.p.known rseg rank note value) f.reply_found 0 done.p done.p' done.there done.is lane
+        (post_by s.limits done.p rank queue (notify_kinds s.limits.notes c.rank done.p.own done.p.known rseg rank note value) f.reply_found f.finds) (one_notify s.limits.notes c.rank done.p.own done.p.known rseg rank note value)
+        (rw busy at done.by.1.after_is)
     of_call (WriteNotify seg offset rank rseg roffset size note value queue) busy lane done =
-        let memory = done.by.0 in
-        let made = done.by.1 in
-        let f = found_by s.limits c.rank done.p memory c.thread (WriteNotify seg offset rank rseg roffset size note value queue) reply made.replied busy in
-        let p = post_by s.limits c.rank done.p seg offset rank rseg roffset size note value queue f.reply_found f.finds in
-        let finds : Result (List Kind) Refusal = write_notify_kinds s.limits.notes c.rank done.p.own done.p.known seg offset rank rseg roffset size note value in
-        let after : counted (with_post done.p queue rank finds) ≡ done.p' = rw busy at made.after_is in
-        let parts = post_names s.posts c.rank s.limits done.p queue rank finds f.reply_found done.there (sound.posts c.rank done.p done.there) p
-        (λ kinds is. two_kinds s.limits.notes c.rank done.p.own done.p.known seg offset rank rseg roffset size note value kinds is) in
-        rw (← lane_of_post (nat_lt rank 16 && nat_lt queue 8) (lane_id c.rank queue rank) id lane, ← done.is, ← after) parts
+        let f = found_by s.limits c.rank done.p done.by.0 c.thread (WriteNotify seg offset rank rseg roffset size note value queue) reply done.by.1.replied busy in
+        of_post rank queue (write_notify_kinds s.limits.notes c.rank done.p.own done.p.known seg offset rank rseg roffset size note value) f.reply_found 1 done.p done.p' done.there done.is lane
+        (post_by s.limits done.p rank queue (write_notify_kinds s.limits.notes c.rank done.p.own done.p.known seg offset rank rseg roffset size note value) f.reply_found f.finds) (two_kinds s.limits.notes c.rank done.p.own done.p.known seg offset rank rseg roffset size note value)
+        (rw busy at done.by.1.after_is)
     of_call (Wait queue) busy lane done = absurd (let no : ⊥ = cc in no)
     of_call (Waitsome seg begin num) busy lane done = absurd (let no : ⊥ = cc in no)
     of_call (Reset seg note) busy lane done = absurd (let no : ⊥ = cc in no)

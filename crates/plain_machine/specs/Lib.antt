@@ -2,5 +2,6 @@ pub mod Entries
 pub mod Fields
 pub mod Machine
 pub mod Memory
+pub mod Posting
 pub mod Room
 pub mod Standing

@@ -2,7 +2,7 @@
 use Rattle.std.specs.Prelude.{◌≡◌, ℕ, Bool, true, false, ◌||◌, List, Option, Some, Result, Ok, Err}
 use Rattle.std.specs.Borrow.{Bor}
 use Rattle.gaspi_types.specs.declared.calls.Call.{Call}
-use Rattle.gaspi_types.specs.declared.calls.Call.TheVariants.{Store, Load, WriteNotify, Wait, Waitsome, Reset, End}
+use Rattle.gaspi_types.specs.declared.calls.Call.TheVariants.{Store, Load, Write, Notify, WriteNotify, Wait, Waitsome, Reset, End}
 use Rattle.gaspi_types.specs.declared.replies.Refusal.{Refusal}
 use Rattle.gaspi_types.specs.declared.replies.Reply.{Reply}
 use Rattle.gaspi_types.specs.declared.replies.Reply.TheVariants as replies
@@ -13,6 +13,8 @@ use Rattle.gaspi_types.specs.declared.events.Event.TheVariants.{Called, Take, Pu
 abbrev pub is_load : Call → Bool
 is_load (Store seg offset bytes) = false
 is_load (Load seg offset size) = true
+is_load (Write seg offset rank rseg roffset size queue) = false
+is_load (Notify rseg rank note value queue) = false
 is_load (WriteNotify seg offset rank rseg roffset size note value queue) = false
 is_load (Wait queue) = false
 is_load (Waitsome seg begin num) = false
@@ -23,6 +25,8 @@ is_load End = false
 abbrev pub is_post : Call → Bool
 is_post (Store seg offset bytes) = false
 is_post (Load seg offset size) = false
+is_post (Write seg offset rank rseg roffset size queue) = true
+is_post (Notify rseg rank note value queue) = true
 is_post (WriteNotify seg offset rank rseg roffset size note value queue) = true
 is_post (Wait queue) = false
 is_post (Waitsome seg begin num) = false

@@ -4,7 +4,7 @@ use Rattle.std.specs.List.{flat_map, enumerate_from}
 use Rattle.gaspi_types.specs.Lanes.{carried_count, has_earlier_write}
 use Rattle.gaspi_types.specs.Replies.{is_idle}
 use Rattle.gaspi_types.specs.declared.calls.Call.{Call}
-use Rattle.gaspi_types.specs.declared.calls.Call.TheVariants.{Store, Load, WriteNotify, Wait, Waitsome, Reset, End}
+use Rattle.gaspi_types.specs.declared.calls.Call.TheVariants.{Store, Load, Write, Notify, WriteNotify, Wait, Waitsome, Reset, End}
 use Rattle.gaspi_types.specs.declared.entries.Entry.{Entry}
 use Rattle.gaspi_types.specs.declared.events.Event.{Event}
 use Rattle.gaspi_types.specs.declared.events.Event.TheVariants.{Called, Take, Put}
@@ -83,12 +83,17 @@ entries_transfers limits id entries = lane_transfers id.origin id.queue limits (
 abbrev pub open_transfers : Limits → List Posts → LaneId → List Transfer
 open_transfers limits posts id = entries_transfers limits id (open_entries posts id)
 
+-- the lane of a target and a queue, where both are in their ranges
+abbrev pub post_lane : ℕ → ℕ → ℕ → Option LaneId
+post_lane rank target queue = if nat_lt target 16 && nat_lt queue 8 then Some (lane_id rank queue target) else None
+
 -- the lane to which a call posts
 abbrev pub call_lane : ℕ → Call → Option LaneId
 call_lane rank (Store seg offset bytes) = None
 call_lane rank (Load seg offset size) = None
-call_lane rank (WriteNotify seg offset target rseg roffset size note value queue) =
-    if nat_lt target 16 && nat_lt queue 8 then Some (lane_id rank queue target) else None
+call_lane rank (Write seg offset target rseg roffset size queue) = post_lane rank target queue
+call_lane rank (Notify rseg target note value queue) = post_lane rank target queue
+call_lane rank (WriteNotify seg offset target rseg roffset size note value queue) = post_lane rank target queue
 call_lane rank (Wait queue) = None
 call_lane rank (Waitsome seg begin num) = None
 call_lane rank (Reset seg note) = None

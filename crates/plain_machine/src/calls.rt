@@ -3,11 +3,14 @@
 ghost use Rattle.std.specs.Prelude.{◌≡◌, ◌≤◌, ◌<◌, length, IfOk, IsOk, OnSome, false};
 ghost use Rattle.std.specs.List.{list_any};
 ghost use Rattle.gaspi_types.specs.Lanes.{has_posted};
-ghost use Rattle.gaspi_types.specs.Posts.{extent_in, known_extent, write_notify_kinds};
+ghost use Rattle.gaspi_types.specs.Posts.{extent_in, known_extent, write_kinds, notify_kinds, write_notify_kinds};
 ghost use Rattle.gaspi_model.specs.State.{thread_at, is_running};
-ghost use Rattle.gaspi_model.specs.Calls.{store_finds, load_finds, post_finds, write_notify_finds, wait_finds, waitsome_finds, reset_finds, call_finds, answer, ready_of, recorded_reply};
+ghost use Rattle.gaspi_model.specs.Calls.{store_finds, load_finds, post_finds, asked_finds, write_finds, notify_finds, write_notify_finds, wait_finds, waitsome_finds, reset_finds, call_finds, answer, ready_of, recorded_reply};
+ghost use Rattle.gaspi_model.specs.declared.states.Memory.{Memory};
 ghost use Rattle.plain_machine.specs.Memory.{is_load, Loads};
+ghost use Rattle.plain_machine.specs.Posting.{post_call};
 
+use crate::asked::{Notification, NotifiedWrite, PlainWrite, Post};
 use crate::lanes::has_posted;
 use crate::memories::{
     bytes_of, first_set, is_slot_range, is_transfer_size, is_within, range_of, slots_of,
@@ -21,20 +24,6 @@ use std::alloc::Global;
 
 /// A table of segments, by their numbers.
 pub type Extents = Rows<Option<Extent>>;
-
-/// A write and the notification behind it, as its caller wrote them. (GASPI: write_notify)
-#[derive(Clone, Copy)]
-pub struct NotifiedWrite {
-    pub seg: u64,
-    pub offset: u64,
-    pub rank: u64,
-    pub rseg: u64,
-    pub roffset: u64,
-    pub size: u64,
-    pub note: u64,
-    pub value: u32,
-    pub queue: u64,
-}
 
 /// What stands in a table of segments at a number, which is below 32.
 pub fn extent_in(table: &Extents, segment: u64) -> Option<Extent>
@@ -70,15 +59,14 @@ pub fn known_extent(
     }
 }
 
-/// The entries of a write and the notification behind it, or the first refusal up to the notification value.
-pub fn write_notify_kinds(
-    notes: u32,
+/// The entry of a write, or its first refusal. (GASPI: write)
+pub fn write_kinds(
     me: RankId,
     own: &Extents,
     known: &Rows<Extents>,
-    w: &NotifiedWrite,
-) -> Result<[Kind; 2], Refusal>
-    ensures { result ≡ write_notify_kinds notes me own.now known.now w.now.seg w.now.offset w.now.rank w.now.rseg w.now.roffset w.now.size w.now.note w.now.value }
+    w: &PlainWrite,
+) -> Result<[Kind; 1], Refusal>
+    ensures { result ≡ write_kinds me own.now known.now w.now.seg w.now.offset w.now.rank w.now.rseg w.now.roffset w.now.size }
 {
     let mine = extent_in(own, w.seg).ok_or(Refusal::NoSegment)?;
     let theirs = known_extent(me, own, known, w.rank, w.rseg).ok_or(Refusal::Unregistered)?;
@@ -91,14 +79,8 @@ pub fn write_notify_kinds(
     if !is_within(w.roffset, w.size, u64::from(theirs.size)) {
         return Err(Refusal::BadRange { size: theirs.size });
     }
-    if w.note >= u64::from(notes) {
-        return Err(Refusal::BadNote);
-    }
-    if w.value == 0 {
-        return Err(Refusal::ZeroValue);
-    }
     let size = w.size as u32;
-    let write = Kind::Write {
+    Ok([Kind::Write {
         own: ByteRange {
             segment: w.seg as u32,
             generation: mine.generation,
@@ -111,15 +93,49 @@ pub fn write_notify_kinds(
             offset: w.roffset as u32,
             size,
         },
-    };
-    let notify = Kind::Notify {
+    }])
+}
+
+/// The entry of a notification, or its first refusal. (GASPI: notify)
+pub fn notify_kinds(
+    notes: u32,
+    me: RankId,
+    own: &Extents,
+    known: &Rows<Extents>,
+    n: &Notification,
+) -> Result<[Kind; 1], Refusal>
+    ensures { result ≡ notify_kinds notes me own.now known.now n.now.rseg n.now.rank n.now.note n.now.value }
+{
+    let theirs = known_extent(me, own, known, n.rank, n.rseg).ok_or(Refusal::Unregistered)?;
+    if n.note >= u64::from(notes) {
+        return Err(Refusal::BadNote);
+    }
+    if n.value == 0 {
+        return Err(Refusal::ZeroValue);
+    }
+    Ok([Kind::Notify {
         target: NoteSlot {
-            segment: w.rseg as u32,
+            segment: n.rseg as u32,
             generation: theirs.generation,
-            note: w.note as u32,
+            note: n.note as u32,
         },
-        value: w.value,
-    };
+        value: n.value,
+    }])
+}
+
+/// The entries of a write and the notification behind it, or the first refusal up to the notification value.
+#[tactic(auto, using(crate::proofs::Both::both_kinds))]
+pub fn write_notify_kinds(
+    notes: u32,
+    me: RankId,
+    own: &Extents,
+    known: &Rows<Extents>,
+    w: &NotifiedWrite,
+) -> Result<[Kind; 2], Refusal>
+    ensures { result ≡ write_notify_kinds notes me own.now known.now w.now.seg w.now.offset w.now.rank w.now.rseg w.now.roffset w.now.size w.now.note w.now.value }
+{
+    let [write] = write_kinds(me, own, known, &w.write())?;
+    let [notify] = notify_kinds(notes, me, own, known, &w.notification())?;
     Ok([write, notify])
 }
 
@@ -196,6 +212,50 @@ pub fn post_finds(limits: &Limits, q: &Queue, kinds: &[Kind]) -> Result<Option<R
     Ok(Some(Reply::Done))
 }
 
+/// Checks a call that posts: its rank, its queue, what it asks for, and the queue's room. (GASPI: one-sided communication)
+fn asked_finds<const N: usize>(
+    limits: &Limits,
+    posts: &Posts,
+    rank: u64,
+    queue: u64,
+    asked: Result<[Kind; N], Refusal>,
+) -> Result<Option<Reply>, Refusal>
+    requires { N ≤ 256 }
+    ensures { result ≡ asked_finds limits.now posts.now rank queue asked.entry }
+{
+    if rank >= u64::from(limits.ranks) {
+        return Err(Refusal::BadRank);
+    }
+    let q = posts.queues.get(queue as usize).ok_or(Refusal::BadQueue)?;
+    post_finds(limits, q, &asked?)
+}
+
+/// Checks a write. (GASPI: write)
+pub fn write_finds(
+    limits: &Limits,
+    me: RankId,
+    posts: &Posts,
+    w: &PlainWrite,
+) -> Result<Option<Reply>, Refusal>
+    ensures { result ≡ write_finds limits.now me posts.now w.now.seg w.now.offset w.now.rank w.now.rseg w.now.roffset w.now.size w.now.queue }
+{
+    let asked = write_kinds(me, &posts.own, &posts.known, w);
+    asked_finds(limits, posts, w.rank, w.queue, asked)
+}
+
+/// Checks a notification. (GASPI: notify)
+pub fn notify_finds(
+    limits: &Limits,
+    me: RankId,
+    posts: &Posts,
+    n: &Notification,
+) -> Result<Option<Reply>, Refusal>
+    ensures { result ≡ notify_finds limits.now me posts.now n.now.rseg n.now.rank n.now.note n.now.value n.now.queue }
+{
+    let asked = notify_kinds(limits.notes, me, &posts.own, &posts.known, n);
+    asked_finds(limits, posts, n.rank, n.queue, asked)
+}
+
 /// Checks a write with its notification. (GASPI: write_notify)
 pub fn write_notify_finds(
     limits: &Limits,
@@ -205,12 +265,8 @@ pub fn write_notify_finds(
 ) -> Result<Option<Reply>, Refusal>
     ensures { result ≡ write_notify_finds limits.now me posts.now w.now.seg w.now.offset w.now.rank w.now.rseg w.now.roffset w.now.size w.now.note w.now.value w.now.queue }
 {
-    if w.rank >= u64::from(limits.ranks) {
-        return Err(Refusal::BadRank);
-    }
-    let q = posts.queues.get(w.queue as usize).ok_or(Refusal::BadQueue)?;
-    let kinds = write_notify_kinds(limits.notes, me, &posts.own, &posts.known, w)?;
-    post_finds(limits, q, &kinds)
+    let asked = write_notify_kinds(limits.notes, me, &posts.own, &posts.known, w);
+    asked_finds(limits, posts, w.rank, w.queue, asked)
 }
 
 /// Whether an entry of a queue is posted.
@@ -274,6 +330,22 @@ pub fn reset_finds(
     Ok(Some(Reply::Value(u64::from(value))))
 }
 
+/// What a call that posts finds.
+fn posting_finds(
+    limits: &Limits,
+    me: RankId,
+    posts: &Posts,
+    post: &Post,
+) -> Result<Option<Reply>, Refusal>
+    ensures { (memory : Memory) → result ≡ call_finds limits.now me posts.now memory (post_call post.now) }
+{
+    match post {
+        Post::Write(w) => write_finds(limits, me, posts, w),
+        Post::Notify(n) => notify_finds(limits, me, posts, n),
+        Post::WriteNotify(w) => write_notify_finds(limits, me, posts, w),
+    }
+}
+
 /// What a call finds: its refusal, or a reply, or that it is not ready. Only a load takes memory.
 pub fn call_finds(
     alloc: Global,
@@ -294,29 +366,8 @@ pub fn call_finds(
             bytes.as_slice(),
         )),
         Call::Load { seg, offset, size } => load_finds(alloc, posts, memory, *seg, *offset, *size),
-        Call::WriteNotify {
-            seg,
-            offset,
-            rank,
-            rseg,
-            roffset,
-            size,
-            note,
-            value,
-            queue,
-        } => {
-            let w = NotifiedWrite {
-                seg: *seg,
-                offset: *offset,
-                rank: *rank,
-                rseg: *rseg,
-                roffset: *roffset,
-                size: *size,
-                note: *note,
-                value: *value,
-                queue: *queue,
-            };
-            Ok(write_notify_finds(limits, me, posts, &w))
+        Call::Write { .. } | Call::Notify { .. } | Call::WriteNotify { .. } => {
+            Ok(posting_finds(limits, me, posts, &Post::of(call)))
         }
         Call::Wait { queue } => Ok(wait_finds(posts, *queue)),
         Call::Waitsome { seg, begin, num } => {

@@ -1,6 +1,7 @@
 //! The reference machine of the runtime: one state, and each event a step of it.
 #![tactic(auto)]
 
+mod asked;
 mod called;
 mod calls;
 mod lanes;

@@ -5,13 +5,15 @@ ghost use Rattle.gaspi_model.specs.Calls.{changed_at, with_entries, with_post, p
 ghost use Rattle.gaspi_model.specs.declared.states.Queue.{Queue};
 ghost use Rattle.gaspi_model.specs.declared.states.ThreadState.TheVariants.{Ended};
 ghost use Rattle.plain_machine.specs.Memory.{is_post};
+ghost use Rattle.plain_machine.specs.Posting.{post_call};
 ghost use Rattle.plain_machine.specs.Room.{HasPostRoom};
 
-use crate::calls::{NotifiedWrite, write_notify_kinds};
+use crate::asked::Post;
+use crate::calls::{notify_kinds, write_kinds, write_notify_kinds};
 use crate::lanes::posted_entries;
 use crate::memories::{set_slot, store_bytes};
 use gaspi_model::{Memory, Posts, Queue, ThreadState};
-use gaspi_types::{Call, Entry, Kind, Limits, NoMemory, RankId, Rows, ThreadId};
+use gaspi_types::{Call, Entry, Kind, Limits, NoMemory, RankId, Refusal, Rows, ThreadId};
 use std::alloc::Global;
 
 /// Adds entries to a lane of a queue. Without memory nothing changes.
@@ -53,22 +55,50 @@ fn post(
     Ok(())
 }
 
-/// Makes the post of a write and its notification, where it has entries. Without memory nothing changes.
-fn write_notify(
+/// Makes a post of the entries that a call asks for, where it has them. Without memory nothing changes.
+fn post_asked<const N: usize>(
+    alloc: Global,
+    posts: &mut Posts,
+    queue: u64,
+    target: u64,
+    asked: Result<[Kind; N], Refusal>,
+) -> Result<(), NoMemory>
+    requires numbers { posts.old.next + N < 2 ^ 32 }
+    requires counts { (q : Queue) → slice_get posts.old.queues queue ≡ Some q → q.open_count + N < 2 ^ 32 }
+    ensures ok { OnOk result (posts.new ≡ with_post posts.old queue target asked.entry) }
+    ensures err { OnErr result (posts.new ≡ posts.old) }
+{
+    match asked {
+        Ok(kinds) => post(alloc, posts, queue, target, &kinds),
+        Err(_) => Ok(()),
+    }
+}
+
+/// Makes the post of a call. Without memory nothing changes.
+fn post_done(
     alloc: Global,
     limits: &Limits,
     me: RankId,
     posts: &mut Posts,
-    w: &NotifiedWrite,
+    call: &Post,
 ) -> Result<(), NoMemory>
-    requires numbers { posts.old.next + 2 < 2 ^ 32 }
-    requires counts { (q : Queue) → slice_get posts.old.queues w.now.queue ≡ Some q → q.open_count + 2 < 2 ^ 32 }
-    ensures ok { OnOk result (posts.new ≡ posts_done limits.now me posts.old 0 (Call.WriteNotify w.now.seg w.now.offset w.now.rank w.now.rseg w.now.roffset w.now.size w.now.note w.now.value w.now.queue)) }
+    requires { HasPostRoom posts.old (post_call call.now) }
+    ensures ok { OnOk result (posts.new ≡ posts_done limits.now me posts.old 0 (post_call call.now)) }
     ensures err { OnErr result (posts.new ≡ posts.old) }
 {
-    match write_notify_kinds(limits.notes, me, &posts.own, &posts.known, w) {
-        Ok(kinds) => post(alloc, posts, w.queue, w.rank, &kinds),
-        Err(_) => Ok(()),
+    match call {
+        Post::Write(w) => {
+            let asked = write_kinds(me, &posts.own, &posts.known, w);
+            post_asked(alloc, posts, w.queue, w.rank, asked)
+        }
+        Post::Notify(n) => {
+            let asked = notify_kinds(limits.notes, me, &posts.own, &posts.known, n);
+            post_asked(alloc, posts, n.queue, n.rank, asked)
+        }
+        Post::WriteNotify(w) => {
+            let asked = write_notify_kinds(limits.notes, me, &posts.own, &posts.known, w);
+            post_asked(alloc, posts, w.queue, w.rank, asked)
+        }
     }
 }
 
@@ -112,29 +142,8 @@ pub fn call_done(
 {
     match call {
         Call::Store { seg, offset, bytes } => store_bytes(memory, *seg, *offset, bytes.as_slice()),
-        Call::WriteNotify {
-            seg,
-            offset,
-            rank,
-            rseg,
-            roffset,
-            size,
-            note,
-            value,
-            queue,
-        } => {
-            let w = NotifiedWrite {
-                seg: *seg,
-                offset: *offset,
-                rank: *rank,
-                rseg: *rseg,
-                roffset: *roffset,
-                size: *size,
-                note: *note,
-                value: *value,
-                queue: *queue,
-            };
-            return write_notify(alloc, limits, me, posts, &w);
+        Call::Write { .. } | Call::Notify { .. } | Call::WriteNotify { .. } => {
+            return post_done(alloc, limits, me, posts, &Post::of(call));
         }
         Call::Wait { queue } => close_queue(posts, *queue),
         Call::Reset { seg, note } => set_slot(memory, *seg, *note, 0),

@@ -1,9 +1,9 @@
 //! Replies compared with those that a history records, and the room that an event takes.
 
-ghost use Rattle.std.specs.Prelude.{◌≡◌, nat_eq};
+ghost use Rattle.std.specs.Prelude.{◌≡◌, ◌≤◌, nat_eq};
 ghost use Rattle.std.specs.Cmp.Lexicographic.{pointwise};
 ghost use Rattle.gaspi_types.specs.Replies.{refusal_number, refusal_fields, same_refusal, same_reply, is_done, is_idle};
-ghost use Rattle.gaspi_model.specs.Calls.{charge};
+ghost use Rattle.gaspi_model.specs.Calls.{post_charge, charge};
 ghost use Rattle.plain_machine.specs.Fields.{listed};
 
 use crate::calls::is_running;
@@ -96,12 +96,25 @@ pub fn is_idle(reply: &Reply) -> bool
     matches!(reply, Reply::Timeout | Reply::Refused(_))
 }
 
+/// What a post takes of its rank's room: itself, and where it is done the two transfers of each of its entries.
+fn post_charge(entries: u32, reply: &Reply) -> u32
+    requires { entries ≤ 2 }
+    ensures { result ≡ post_charge entries reply.now }
+{
+    if matches!(reply, Reply::Done) {
+        1 + 2 * entries
+    } else {
+        1
+    }
+}
+
 /// What an event takes of its rank's room.
 pub fn charge(state: ThreadState, call: &Call, reply: &Reply) -> u32
     ensures { result ≡ charge state call.now reply.now }
 {
     match call {
-        Call::WriteNotify { .. } => { if matches!(reply, Reply::Done) { 5 } else { 1 } }
+        Call::Write { .. } | Call::Notify { .. } => post_charge(1, reply),
+        Call::WriteNotify { .. } => post_charge(2, reply),
         Call::End => { if is_running(state) { 0 } else { 1 } }
         Call::Store { .. }
         | Call::Load { .. }

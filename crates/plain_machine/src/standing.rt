@@ -3,7 +3,7 @@
 ghost use Rattle.std.specs.Prelude.{◌≡◌, ◌≢◌, ◌<◌, ◌≤◌, [], length, true, false, vec_len, vec_capacity};
 ghost use Rattle.std.specs.List.{insert, remove, prefix_len};
 ghost use Rattle.std.specs.Option.{option_copied};
-ghost use Rattle.plain_machine.specs.Standing.{is_before, lane_queue, queue_entries, lane_entries, open_entries, call_lane, event_lane, is_put};
+ghost use Rattle.plain_machine.specs.Standing.{is_before, lane_queue, queue_entries, lane_entries, open_entries, post_lane, call_lane, event_lane, is_put};
 
 use crate::replies::is_idle;
 use gaspi_model::{Posts, Queue};
@@ -82,23 +82,42 @@ pub fn open_entries<'a>(posts: &'a Rows<Posts>, id: &LaneId) -> &'a [Entry]
     }
 }
 
+/// The lane of a target and a queue, where both are in their ranges.
+fn post_lane(rank: RankId, target: u64, queue: u64) -> Option<LaneId>
+    ensures { result ≡ post_lane rank target queue }
+{
+    if target >= 16 || queue >= 8 {
+        return None;
+    }
+    Some(LaneId {
+        origin: rank,
+        queue: QueueId::of(queue as u32),
+        target: RankId::of(target as u32),
+    })
+}
+
 /// The lane to which a call of a rank posts.
 fn call_lane(rank: RankId, call: &Call) -> Option<LaneId>
     ensures { result ≡ call_lane rank call.now }
 {
     match call {
-        Call::WriteNotify {
+        Call::Write {
             rank: target,
             queue,
             ..
-        } if *target < 16 && *queue < 8 => Some(LaneId {
-            origin: rank,
-            queue: QueueId::of(*queue as u32),
-            target: RankId::of(*target as u32),
-        }),
+        }
+        | Call::Notify {
+            rank: target,
+            queue,
+            ..
+        }
+        | Call::WriteNotify {
+            rank: target,
+            queue,
+            ..
+        } => post_lane(rank, *target, *queue),
         Call::Store { .. }
         | Call::Load { .. }
-        | Call::WriteNotify { .. }
         | Call::Wait { .. }
         | Call::Waitsome { .. }
         | Call::Reset { .. }

@@ -3,8 +3,8 @@ ghost use Rattle.std.specs.Prelude.{◌≡◌, ◌<◌};
 use crate::Machine;
 use gaspi_model::{StepFault, Why};
 use gaspi_types::{
-    Bytes, Call, CallerId, Event, Outcome, QueueId, RankId, Ready, Reply, Rows, Shape, ThreadId,
-    Transfer,
+    Bytes, Call, CallerId, Event, Outcome, QueueId, RankId, Ready, Refusal, Reply, Rows, Shape,
+    ThreadId, Transfer,
 };
 use std::alloc::Global;
 use std::process::Abort;
@@ -45,6 +45,28 @@ fn write_notify() -> Call {
         size: 2,
         note: 3,
         value: 7,
+        queue: 0,
+    }
+}
+
+fn write() -> Call {
+    Call::Write {
+        seg: 0,
+        offset: 0,
+        rank: 1,
+        rseg: 0,
+        roffset: 4,
+        size: 2,
+        queue: 0,
+    }
+}
+
+fn notify(note: u64, value: u32) -> Call {
+    Call::Notify {
+        rseg: 0,
+        rank: 1,
+        note,
+        value,
         queue: 0,
     }
 }
@@ -180,6 +202,35 @@ fn a_notified_write(rt: HostRuntime) -> Result<(), Fail> {
         &machine,
         &load,
         Ready::Reply(Reply::Bytes(bytes(alloc)?)),
+    )
+}
+
+#[test]
+fn a_write_and_a_notification(rt: HostRuntime) -> Result<(), Fail> {
+    let alloc = rt.alloc();
+    let mut machine = two_ranks(alloc)?;
+    let bad_note = Reply::Refused(Refusal::BadNote);
+    let zero_value = Reply::Refused(Refusal::ZeroValue);
+    needs(&rt, &machine, &write(), 3);
+    needs(&rt, &machine, &notify(3, 7), 3);
+    calls(&rt, alloc, &mut machine, 0, notify(8, 0), bad_note);
+    calls(&rt, alloc, &mut machine, 0, notify(3, 0), zero_value);
+    calls(&rt, alloc, &mut machine, 0, write(), Reply::Done);
+    assert_eq!(rt; machine.transfer_count(), 1);
+    moves(&rt, alloc, &mut machine, 0, false);
+    moves(&rt, alloc, &mut machine, 0, true);
+    assert_eq!(rt; machine.transfer_count(), 0);
+    calls(&rt, alloc, &mut machine, 0, notify(3, 7), Reply::Done);
+    has_room(&rt, &machine, 991);
+    moves(&rt, alloc, &mut machine, 1, false);
+    lists(&rt, alloc, &machine, &[transfer(1, true)])?;
+    moves(&rt, alloc, &mut machine, 1, true);
+    answers(
+        &rt,
+        alloc,
+        &machine,
+        &Call::Reset { seg: 0, note: 3 },
+        Ready::Reply(Reply::Value(7)),
     )
 }
 
