@@ -1,5 +1,5 @@
 -- The answer to an input with a fault.
-use Rattle.std.proofs.Common.{◌≡◌, ℕ, ◌<◌, ◌≤◌, ◌⊎◌, inl, inr, List, [], replicate, Option, None, Some, Err, length, refl, arith}
+use Rattle.std.proofs.Common.{◌≡◌, ℕ, ◌+◌, ◌<◌, ◌≤◌, ◌⊎◌, inl, inr, List, [], replicate, Option, None, Some, Err, length, refl, arith}
 use Rattle.std.specs.Option.{ForSome}
 use Rattle.std.proofs.lemmas.Bool.{lt-ltb}
 use Rattle.std.proofs.lemmas.List.{length-replicate}
@@ -20,6 +20,10 @@ pub record KnowsFault (before after : Option (List ℕ)) (fault : TextFault) : T
 long-text : (text : List ℕ) → 268435456 < length text → world_text text ≡ Err (record { number = 1; line = 0 })
 long-text text long = rw (lt-ltb 268435456 (length text) long) refl
 
+-- there is a longer text than of any length
+some-longer : (n : ℕ) → (text : List ℕ) × (n < length text)
+some-longer n = (replicate (n + 1) 0, (let many = length-replicate {A = ℕ} (n + 1) 0 in omega arith))
+
 pub long-fault : (before after : Option (List ℕ)) → ForSome before (λ told. 268435456 < length told) → KnowsFault before after (record { number = 1; line = 0 })
 long-fault (Some told) after long = record {
   input = told;
@@ -28,12 +32,12 @@ long-fault (Some told) after long = record {
   is = long-text told (long told refl);
 }
 long-fault None after long =
-    let many : length (replicate {X = ℕ} 268435457 0) ≡ 268435457 = length-replicate {A = ℕ} 268435457 0 in
+    let text = some-longer 268435456 in
     record {
-      input = replicate 268435457 0;
+      input = text.0;
       all = λ x is. absurd (let no : ⊥ = cc in no);
       end = λ short x is. absurd (let no : ⊥ = cc in no);
-      is = long-text (replicate 268435457 0) (omega arith);
+      is = long-text text.0 text.1;
     }
 
 pub read-fault : (before after : Option (List ℕ)) (input : List ℕ) (fault : TextFault) → ForSome before (λ told. input ≡ told) → ForSome before (λ told. after ≡ Some [])

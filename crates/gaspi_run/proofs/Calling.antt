@@ -9,7 +9,7 @@ use Rattle.gaspi_types.specs.declared.calls.Call.{Call}
 use Rattle.gaspi_types.specs.declared.replies.Reply.{Reply}
 use Rattle.gaspi_types.specs.declared.events.Event.{Event}
 use Rattle.gaspi_types.specs.declared.events.Event.TheVariants.{Called, Take, Put}
-use Rattle.gaspi_model.proofs.SoundOpening.{slice_get-replicate}
+use Rattle.gaspi_model.proofs.Tables.{slice_get-replicate}
 use Rattle.gaspi_model.proofs.Tables.{changed_at-found}
 use Rattle.gaspi_model.specs.Calls.{changed_at}
 use Rattle.gaspi_model.specs.Step.{own_calls}

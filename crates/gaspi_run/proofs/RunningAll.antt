@@ -61,6 +61,8 @@ pub record Laws : Type 0 where
 not-end : (call : Call) → call ≢ End → is_end call ≡ false
 not-end (calls.Store seg offset bytes) other = refl
 not-end (calls.Load seg offset size) other = refl
+not-end (calls.Write seg offset rank rseg roffset size queue) other = refl
+not-end (calls.Notify rseg rank note value queue) other = refl
 not-end (calls.WriteNotify seg offset rank rseg roffset size note value queue) other = refl
 not-end (calls.Wait queue) other = refl
 not-end (calls.Waitsome seg begin num) other = refl

@@ -4,7 +4,7 @@ use Rattle.std.specs.Prelude.{option_and_then}
 use Rattle.gaspi_types.specs.Numbers.{number_of, value_of}
 use Rattle.gaspi_types.specs.Hex.{bytes_of}
 use Rattle.gaspi_types.specs.declared.calls.Call.TheVariants as calls
-use Rattle.gaspi_types.specs.CallText.{call_of, call_word_of, call_with, store_of, load_of, write_notify_of, wait_of, waitsome_of, reset_of}
+use Rattle.gaspi_types.specs.CallText.{call_of, call_word_of, call_with, store_of, load_of, write_of, notify_of, write_notify_of, wait_of, waitsome_of, reset_of}
 use Rattle.gaspi_types.specs.declared.calls.Call.{Call}
 use Rattle.gaspi_types.specs.declared.call_words.CallWord.{CallWord}
 use Rattle.gaspi_types.specs.declared.call_words.CallWord.TheVariants as call_words
@@ -34,6 +34,28 @@ load-plain (w1 ∷ []) call h0 = no-call call h0
 load-plain (w1 ∷ w2 ∷ []) call h0 = no-call call h0
 load-plain (w1 ∷ w2 ∷ w3 ∷ []) call h0 = bound-then (number_of w1) (λ x1. option_and_then (λ x2. option_and_then (λ x3. Some (calls.Load x1 x2 x3)) (number_of w3)) (number_of w2)) call h0 (λ x1 h1. bound-then (number_of w2) (λ x2. option_and_then (λ x3. Some (calls.Load x1 x2 x3)) (number_of w3)) call h1 (λ x2 h2. bound-then (number_of w3) (λ x3. Some (calls.Load x1 x2 x3)) call h2 (λ x3 h3. some-plain (calls.Load x1 x2 x3) call (λ end. let no : ⊥ = cc in no) h3)))
 load-plain (w1 ∷ w2 ∷ w3 ∷ w4 ∷ rest) call h0 = no-call call h0
+
+write-plain : (words : List (List ℕ)) (call : Call) → write_of words ≡ Some call → call ≢ calls.End
+unfolding write_of
+write-plain [] call h0 = no-call call h0
+write-plain (w1 ∷ []) call h0 = no-call call h0
+write-plain (w1 ∷ w2 ∷ []) call h0 = no-call call h0
+write-plain (w1 ∷ w2 ∷ w3 ∷ []) call h0 = no-call call h0
+write-plain (w1 ∷ w2 ∷ w3 ∷ w4 ∷ []) call h0 = no-call call h0
+write-plain (w1 ∷ w2 ∷ w3 ∷ w4 ∷ w5 ∷ []) call h0 = no-call call h0
+write-plain (w1 ∷ w2 ∷ w3 ∷ w4 ∷ w5 ∷ w6 ∷ []) call h0 = no-call call h0
+write-plain (w1 ∷ w2 ∷ w3 ∷ w4 ∷ w5 ∷ w6 ∷ w7 ∷ []) call h0 = bound-then (number_of w1) (λ x1. option_and_then (λ x2. option_and_then (λ x3. option_and_then (λ x4. option_and_then (λ x5. option_and_then (λ x6. option_and_then (λ x7. Some (calls.Write x1 x2 x3 x4 x5 x6 x7)) (number_of w7)) (number_of w6)) (number_of w5)) (number_of w4)) (number_of w3)) (number_of w2)) call h0 (λ x1 h1. bound-then (number_of w2) (λ x2. option_and_then (λ x3. option_and_then (λ x4. option_and_then (λ x5. option_and_then (λ x6. option_and_then (λ x7. Some (calls.Write x1 x2 x3 x4 x5 x6 x7)) (number_of w7)) (number_of w6)) (number_of w5)) (number_of w4)) (number_of w3)) call h1 (λ x2 h2. bound-then (number_of w3) (λ x3. option_and_then (λ x4. option_and_then (λ x5. option_and_then (λ x6. option_and_then (λ x7. Some (calls.Write x1 x2 x3 x4 x5 x6 x7)) (number_of w7)) (number_of w6)) (number_of w5)) (number_of w4)) call h2 (λ x3 h3. bound-then (number_of w4) (λ x4. option_and_then (λ x5. option_and_then (λ x6. option_and_then (λ x7. Some (calls.Write x1 x2 x3 x4 x5 x6 x7)) (number_of w7)) (number_of w6)) (number_of w5)) call h3 (λ x4 h4. bound-then (number_of w5) (λ x5. option_and_then (λ x6. option_and_then (λ x7. Some (calls.Write x1 x2 x3 x4 x5 x6 x7)) (number_of w7)) (number_of w6)) call h4 (λ x5 h5. bound-then (number_of w6) (λ x6. option_and_then (λ x7. Some (calls.Write x1 x2 x3 x4 x5 x6 x7)) (number_of w7)) call h5 (λ x6 h6. bound-then (number_of w7) (λ x7. Some (calls.Write x1 x2 x3 x4 x5 x6 x7)) call h6 (λ x7 h7. some-plain (calls.Write x1 x2 x3 x4 x5 x6 x7) call (λ end. let no : ⊥ = cc in no) h7)))))))
+write-plain (w1 ∷ w2 ∷ w3 ∷ w4 ∷ w5 ∷ w6 ∷ w7 ∷ w8 ∷ rest) call h0 = no-call call h0
+
+notify-plain : (words : List (List ℕ)) (call : Call) → notify_of words ≡ Some call → call ≢ calls.End
+unfolding notify_of
+notify-plain [] call h0 = no-call call h0
+notify-plain (w1 ∷ []) call h0 = no-call call h0
+notify-plain (w1 ∷ w2 ∷ []) call h0 = no-call call h0
+notify-plain (w1 ∷ w2 ∷ w3 ∷ []) call h0 = no-call call h0
+notify-plain (w1 ∷ w2 ∷ w3 ∷ w4 ∷ []) call h0 = no-call call h0
+notify-plain (w1 ∷ w2 ∷ w3 ∷ w4 ∷ w5 ∷ []) call h0 = bound-then (number_of w1) (λ x1. option_and_then (λ x2. option_and_then (λ x3. option_and_then (λ x4. option_and_then (λ x5. Some (calls.Notify x1 x2 x3 x4 x5)) (number_of w5)) (value_of w4)) (number_of w3)) (number_of w2)) call h0 (λ x1 h1. bound-then (number_of w2) (λ x2. option_and_then (λ x3. option_and_then (λ x4. option_and_then (λ x5. Some (calls.Notify x1 x2 x3 x4 x5)) (number_of w5)) (value_of w4)) (number_of w3)) call h1 (λ x2 h2. bound-then (number_of w3) (λ x3. option_and_then (λ x4. option_and_then (λ x5. Some (calls.Notify x1 x2 x3 x4 x5)) (number_of w5)) (value_of w4)) call h2 (λ x3 h3. bound-then (value_of w4) (λ x4. option_and_then (λ x5. Some (calls.Notify x1 x2 x3 x4 x5)) (number_of w5)) call h3 (λ x4 h4. bound-then (number_of w5) (λ x5. Some (calls.Notify x1 x2 x3 x4 x5)) call h4 (λ x5 h5. some-plain (calls.Notify x1 x2 x3 x4 x5) call (λ end. let no : ⊥ = cc in no) h5)))))
+notify-plain (w1 ∷ w2 ∷ w3 ∷ w4 ∷ w5 ∷ w6 ∷ rest) call h0 = no-call call h0
 
 write_notify-plain : (words : List (List ℕ)) (call : Call) → write_notify_of words ≡ Some call → call ≢ calls.End
 unfolding write_notify_of
@@ -73,6 +95,8 @@ reset-plain (w1 ∷ w2 ∷ w3 ∷ rest) call h0 = no-call call h0
 with-plain : (word : CallWord) (arguments : List (List ℕ)) (call : Call) → call_with word arguments ≡ Some call → call ≢ calls.End
 with-plain call_words.Store arguments call is = store-plain arguments call is
 with-plain call_words.Load arguments call is = load-plain arguments call is
+with-plain call_words.Write arguments call is = write-plain arguments call is
+with-plain call_words.Notify arguments call is = notify-plain arguments call is
 with-plain call_words.WriteNotify arguments call is = write_notify-plain arguments call is
 with-plain call_words.Wait arguments call is = wait-plain arguments call is
 with-plain call_words.Waitsome arguments call is = waitsome-plain arguments call is
