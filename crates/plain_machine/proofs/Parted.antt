@@ -43,6 +43,33 @@ are_queue id b origin queue q is = are_mapped id b (lane_named origin queue) 0 q
 are_rank : (id : LaneId) (b : Bool) (origin : ℕ) (p : Posts) → ((queue target : ℕ) → is_before (lane_id origin queue target) id ≡ b) → AreBefore id b (rank_named (origin, p))
 are_rank id b origin p is = are_mapped id b (queue_named origin) 0 p.queues (λ queue k q at. are_queue id b origin queue q (is queue))
 
+-- lists with others in front or behind differ in the same part
+parted_behind : (id : LaneId) (old new part part' rest : List LaneId) → IsParted id old new part part' → AreBefore id false rest → IsParted id (old ++ rest) (new ++ rest) part part'
+parted_behind id old new part part' rest p later = record {
+  front = p.front;
+  back = p.back ++ rest;
+  was = ap (λ (ys : List LaneId). ys ++ rest) p.was ∙ joined p.front part p.back rest;
+  is = ap (λ (ys : List LaneId). ys ++ rest) p.is ∙ joined p.front part' p.back rest;
+  earlier = p.earlier;
+  later = are_joined id false p.back rest p.later later;
+}
+  where
+    joined : (a b c d : List LaneId) → (a ++ (b ++ c)) ++ d ≡ a ++ (b ++ (c ++ d))
+    joined a b c d = append_assoc a (b ++ c) d ∙ ap (λ (ys : List LaneId). a ++ ys) (append_assoc b c d)
+
+parted_front : (id : LaneId) (old new part part' first : List LaneId) → IsParted id old new part part' → AreBefore id true first → IsParted id (first ++ old) (first ++ new) part part'
+parted_front id old new part part' first p earlier = record {
+  front = first ++ p.front;
+  back = p.back;
+  was = ap (λ (ys : List LaneId). first ++ ys) p.was ∙ split first p.front (part ++ p.back);
+  is = ap (λ (ys : List LaneId). first ++ ys) p.is ∙ split first p.front (part' ++ p.back);
+  earlier = are_joined id true first p.front earlier p.earlier;
+  later = p.later;
+}
+  where
+    split : (a b c : List LaneId) → a ++ (b ++ c) ≡ (a ++ b) ++ c
+    split a b c = sym (append_assoc a b c)
+
 -- the same parts in the lists of a table's items, where one item changed
 parted_in : {X : Type 0} (id : LaneId) (h : ℕ × X → List LaneId) (n i : ℕ) (xs : List X) (x y : X) (part part' : List LaneId) → slice_get xs i ≡ Some x
     → ((j k : ℕ) (z : X) → j ≡ n + k → k < i → AreBefore id true (h (j, z)))
@@ -51,36 +78,17 @@ parted_in : {X : Type 0} (id : LaneId) (h : ℕ × X → List LaneId) (n i : ℕ
     → IsParted id (flat_map h (enumerate_from n xs)) (flat_map h (enumerate_from n (slice_set xs i y))) part part'
 parted_in id h n i [] x y part part' there front back here = absurd (let no : ⊥ = cc in no)
 parted_in {X} id h n zero (z ∷ xs) x y part part' there front back here =
-    let same : z ≡ x = cc in
-    let p = here n (omega arith) in
-    let rest = flat_map h (enumerate_from (n + 1) xs) in
-    record {
-      front = p.front;
-      back = p.back ++ rest;
-      was = ap (λ (w : X). h (n, w) ++ rest) same ∙ (ap (λ (ys : List LaneId). ys ++ rest) p.was ∙ joined p.front part p.back rest);
-      is = ap (λ (ys : List LaneId). ys ++ rest) p.is ∙ joined p.front part' p.back rest;
-      earlier = p.earlier;
-      later = are_joined id false p.back rest p.later (are_mapped id false h (n + 1) xs (λ j k w at. back j (suc k) w (omega (arith, at)) (omega arith)));
-    }
-  where
-    joined : (a b c d : List LaneId) → (a ++ (b ++ c)) ++ d ≡ a ++ (b ++ (c ++ d))
-    joined a b c d = append_assoc a (b ++ c) d ∙ ap (λ (ys : List LaneId). a ++ ys) (append_assoc b c d)
+    let same : x ≡ z = cc in
+    subst (λ (w : X). IsParted id (h (n, w) ++ flat_map h (enumerate_from (n + 1) xs)) (h (n, y) ++ flat_map h (enumerate_from (n + 1) xs)) part part') same
+    (parted_behind id (h (n, x)) (h (n, y)) part part' (flat_map h (enumerate_from (n + 1) xs)) (here n (omega arith))
+    (are_mapped id false h (n + 1) xs (λ j k w at. back j (suc k) w (omega (arith, at)) (omega arith))))
 parted_in {X} id h n (suc i) (z ∷ xs) x y part part' there front back here =
-    let p = parted_in id h (n + 1) i xs x y part part' there
+    parted_front id (flat_map h (enumerate_from (n + 1) xs)) (flat_map h (enumerate_from (n + 1) (slice_set xs i y))) part part' (h (n, z))
+    (parted_in id h (n + 1) i xs x y part part' there
     (λ j k w at less. front j (suc k) w (omega (arith, at)) (omega (arith, less)))
     (λ j k w at less. back j (suc k) w (omega (arith, at)) (omega (arith, less)))
-    (λ j at. here j (omega (arith, at))) in
-    record {
-      front = h (n, z) ++ p.front;
-      back = p.back;
-      was = ap (λ (ys : List LaneId). h (n, z) ++ ys) p.was ∙ split (h (n, z)) p.front (part ++ p.back);
-      is = ap (λ (ys : List LaneId). h (n, z) ++ ys) p.is ∙ split (h (n, z)) p.front (part' ++ p.back);
-      earlier = are_joined id true (h (n, z)) p.front (front n 0 z (omega arith) (omega arith)) p.earlier;
-      later = p.later;
-    }
-  where
-    split : (a b c : List LaneId) → a ++ (b ++ c) ≡ (a ++ b) ++ c
-    split a b c = sym (append_assoc a b c)
+    (λ j at. here j (omega (arith, at))))
+    (front n 0 z (omega arith) (omega arith))
 
 -- The order of lanes by their numbers.
 
