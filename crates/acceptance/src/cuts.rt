@@ -8,7 +8,7 @@ use std::test::Fail;
 /// status and all that is written. A line's part up to the end of its first word is no word of a line; then words are
 /// wanting, up to the first byte of the last word; and from there on the line stands, with or without its line feed,
 /// unless that word is not of its form.
-const CUTS: [(usize, usize, u8, &str); 40] = [
+const CUTS: [(usize, usize, u8, &str); 42] = [
     // `world 2 1 4 8 4 1000`, from byte 0: no whole first word; too few words; a world without sections.
     (0, 5, 2, "fault S1 line 1\n"),
     (5, 17, 2, "fault S5 line 1\n"),
@@ -32,8 +32,10 @@ const CUTS: [(usize, usize, u8, &str); 40] = [
     (79, 80, 0, "0.0 5 done\n0.0 ended\n"),
     (80, 81, 2, "fault S6 line 5\n"),
     (81, 83, 0, "0.0 5 done\n0.0 ended\n"),
-    // `write_notify 0 0 1 0 4 2 3 7 0`, from byte 82.
-    (83, 94, 2, "fault S3 line 6\n"),
+    // `write_notify 0 0 1 0 4 2 3 7 0`, from byte 82: its front part `write` is a call's word.
+    (83, 87, 2, "fault S3 line 6\n"),
+    (87, 88, 2, "fault S5 line 6\n"),
+    (88, 94, 2, "fault S3 line 6\n"),
     (94, 112, 2, "fault S5 line 6\n"),
     (112, 114, 0, "0.0 5 done\n0.0 6 done\n0.0 ended\n"),
     // `wait 0 block`, from byte 113: a front part of `block` is no timeout.

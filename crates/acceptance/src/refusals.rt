@@ -13,7 +13,7 @@ const LARGE: &str = "world 2 1 4 8 4 1000\nsegment 0 0 65538\nsegment 1 0 65538\
 const FULL: &str = "world 2 1 4 8 4 1000\nsegment 0 0 65536\nsegment 1 0 65536\nrank 0 thread 0\n";
 
 /// One refusal alone: a world, a call and its reply.
-const ALONE: [(&str, &str, &str); 27] = [
+const ALONE: [(&str, &str, &str); 42] = [
     // store: segment; size 0; range.
     (SMALL, "store 1 0 01", "refused 2"),
     (SMALL, "store 0 0 -", "refused 6"),
@@ -23,6 +23,24 @@ const ALONE: [(&str, &str, &str); 27] = [
     (SMALL, "load 0 0 0", "refused 6"),
     (LARGE, "load 0 0 65537", "refused 6"),
     (SMALL, "load 0 16 1", "refused 5 16"),
+    // write: rank; queue; own segment; target's segment, of another rank and of its own; size 0, and over the limit; own
+    // range; target's range. A full queue cannot come at a first call.
+    (SMALL, "write 0 0 2 0 0 1 0", "refused 1"),
+    (SMALL, "write 0 0 1 0 0 1 1", "refused 7"),
+    (SMALL, "write 1 0 1 0 0 1 0", "refused 2"),
+    (SMALL, "write 0 0 1 1 0 1 0", "refused 4"),
+    (SMALL, "write 0 0 0 1 0 1 0", "refused 4"),
+    (SMALL, "write 0 0 1 0 0 0 0", "refused 6"),
+    (LARGE, "write 0 0 1 0 0 65537 0", "refused 6"),
+    (SMALL, "write 0 16 1 0 0 1 0", "refused 5 16"),
+    (SMALL, "write 0 0 1 0 12 1 0", "refused 5 12"),
+    // notify: rank; queue; target's segment, of another rank and of its own; slot; value.
+    (SMALL, "notify 0 2 0 1 0", "refused 1"),
+    (SMALL, "notify 0 1 0 1 1", "refused 7"),
+    (SMALL, "notify 1 1 0 1 0", "refused 4"),
+    (SMALL, "notify 1 0 0 1 0", "refused 4"),
+    (SMALL, "notify 0 1 8 1 0", "refused 10"),
+    (SMALL, "notify 0 1 0 0 0", "refused 11"),
     // write_notify: rank; queue; own segment; target's segment, of another rank and of its own; size 0, and over the
     // limit; own range; target's range; slot; value; full queue.
     (SMALL, "write_notify 0 0 2 0 0 1 0 1 0", "refused 1"),
@@ -51,7 +69,7 @@ const ALONE: [(&str, &str, &str); 27] = [
 ];
 
 /// Two refusals at once that are next to each other in the call's order.
-const BOTH: [(&str, &str, &str); 17] = [
+const BOTH: [(&str, &str, &str); 28] = [
     // store: segment and size; size and range.
     (SMALL, "store 1 0 -", "refused 2"),
     (SMALL, "store 0 17 -", "refused 6"),
@@ -59,6 +77,20 @@ const BOTH: [(&str, &str, &str); 17] = [
     (SMALL, "load 1 0 0", "refused 2"),
     (SMALL, "load 0 17 0", "refused 6"),
     (FULL, "load 0 0 65537", "refused 6"),
+    // write: rank and queue; queue and own segment; own segment and target's; target's segment and size; size and
+    // ranges; own range and target's.
+    (SMALL, "write 0 0 2 0 0 1 1", "refused 1"),
+    (SMALL, "write 1 0 1 0 0 1 1", "refused 7"),
+    (SMALL, "write 1 0 1 1 0 1 0", "refused 2"),
+    (SMALL, "write 0 0 1 1 0 0 0", "refused 4"),
+    (SMALL, "write 0 17 1 0 0 0 0", "refused 6"),
+    (FULL, "write 0 0 1 0 0 65537 0", "refused 6"),
+    (SMALL, "write 0 16 1 0 12 1 0", "refused 5 16"),
+    // notify: rank and queue; queue and target's segment; target's segment and slot; slot and value.
+    (SMALL, "notify 0 2 0 1 1", "refused 1"),
+    (SMALL, "notify 1 1 0 1 1", "refused 7"),
+    (SMALL, "notify 1 1 8 1 0", "refused 4"),
+    (SMALL, "notify 0 1 8 0 0", "refused 10"),
     // write_notify: rank and queue; queue and own segment; own segment and target's; target's segment and size; size and
     // ranges; own range and target's; target's range and slot; slot and value; value and full queue.
     (SMALL, "write_notify 0 0 2 0 0 1 0 1 1", "refused 1"),
