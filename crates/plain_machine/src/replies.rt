@@ -2,7 +2,7 @@
 
 ghost use Rattle.std.specs.Prelude.{◌≡◌, ◌≤◌, nat_eq};
 ghost use Rattle.std.specs.Cmp.Lexicographic.{pointwise};
-ghost use Rattle.gaspi_types.specs.Replies.{refusal_number, refusal_fields, same_refusal, same_reply, is_done, is_idle};
+ghost use Rattle.gaspi_types.specs.Replies.{refusal_fields, same_refusal, same_reply, is_done, is_idle};
 ghost use Rattle.gaspi_model.specs.Calls.{post_charge, charge};
 ghost use Rattle.plain_machine.specs.Fields.{listed};
 
@@ -16,25 +16,6 @@ pub enum Fields {
     Nothing,
     One(u32),
     Two(u32, u32),
-}
-
-/// The number of a refusal.
-fn refusal_number(refusal: &Refusal) -> u32
-    ensures { result ≡ refusal_number refusal.now }
-{
-    match refusal {
-        Refusal::BadRank => 1,
-        Refusal::NoSegment => 2,
-        Refusal::Unregistered => 4,
-        Refusal::BadRange { .. } => 5,
-        Refusal::BadSize => 6,
-        Refusal::BadQueue => 7,
-        Refusal::QueueFull { .. } => 8,
-        Refusal::QueueBroken { .. } => 9,
-        Refusal::BadNote => 10,
-        Refusal::ZeroValue => 11,
-        Refusal::CallerEnded => 25,
-    }
 }
 
 /// The fields of a refusal.
@@ -72,7 +53,7 @@ fn same_fields(a: Fields, b: Fields) -> bool
 fn same_refusal(a: &Refusal, b: &Refusal) -> bool
     ensures { result ≡ same_refusal a.now b.now }
 {
-    refusal_number(a) == refusal_number(b) && same_fields(refusal_fields(a), refusal_fields(b))
+    a.number() == b.number() && same_fields(refusal_fields(a), refusal_fields(b))
 }
 
 /// Whether replies are the same.
