@@ -4,6 +4,8 @@
 #[cfg(test)]
 mod cuts;
 #[cfg(test)]
+mod parts;
+#[cfg(test)]
 mod posts;
 #[cfg(test)]
 mod refusals;
