@@ -36,7 +36,7 @@ fn other_words_are_refused(rt: HostRuntime) -> Result<(), Fail> {
 }
 
 /// Texts with a fault of their words, S1 to S6, and what is written of it.
-const FAULTS_OF_WORDS: [(&str, &str); 44] = [
+const FAULTS_OF_WORDS: [(&str, &str); 45] = [
     // S1: the first line with words is no world line, or there is none.
     ("", "fault S1 line 1\n"),
     ("\n", "fault S1 line 2\n"),
@@ -51,6 +51,7 @@ const FAULTS_OF_WORDS: [(&str, &str); 44] = [
     ("world 1 1 1 1 1 1\r\r\n", "fault S2 line 1\n"),
     ("world 1 1\r 1 1 1 1\n", "fault S2 line 1\n"),
     ("world 1 1 1 1 1 1\n\u{7f}\n", "fault S2 line 2\n"),
+    ("world 1 1 1 1 1 1\n\u{80}\n", "fault S2 line 2\n"),
     (
         "world 1 1 1 1 1 1\nrank 0 thread 0\nreset 0 \u{e9}\n",
         "fault S2 line 3\n",
