@@ -10,7 +10,7 @@ use Rattle.gaspi_io.specs.Source.{without, Gives, AddsPiece, TakesAtMost}
 pub record Read (start : Option (List ℕ)) (faults most : ℕ) (bytes : List ℕ) (left : Option (List ℕ)) (now : ℕ) : Type 0 where
   pub within : length bytes ≤ most
   pub given : Gives start bytes left
-  pub counted : faults ≤ now
+  pub still : now ≡ faults
 
 pub without-twice : (o : Option (List ℕ)) (n m : ℕ) → without (without o n) m ≡ without o (n + m)
 without-twice None n m = refl

@@ -9,7 +9,7 @@ use Rattle.gaspi_io.specs.Sink.{with_more}
 pub record Wrote (start : Option (List ℕ)) (faults : ℕ) (piece : List ℕ) (done : ℕ) (held : Option (List ℕ)) (now : ℕ) : Type 0 where
   pub within : done ≤ length piece
   pub bytes : held ≡ with_more start (take done piece)
-  pub counted : faults ≤ now
+  pub still : now ≡ faults
 
 -- nothing more
 pub with_more-none : (o : Option (List ℕ)) (piece : List ℕ) → with_more o (take 0 piece) ≡ o
@@ -27,8 +27,8 @@ cause_later start before after earlier cause =
     elim cause [ inl risen ↦ inl (omega arith) | inr last ↦ inr last ]
 
 -- after one more write
-pub wrote_more : (start : Option (List ℕ)) (faults : ℕ) (piece : List ℕ) (done : ℕ) (held : Option (List ℕ)) (now : ℕ) → Wrote start faults piece done held now → (rest : List ℕ) → rest ≡ drop done piece → (n : ℕ) → n ≤ length rest → (more : Option (List ℕ)) → more ≡ with_more held (take n rest) → (later : ℕ) → now ≤ later → Wrote start faults piece (done + n) more later
-wrote_more start faults piece done held now wrote rest is n fits more added later risen = record {
+pub wrote_more : (start : Option (List ℕ)) (faults : ℕ) (piece : List ℕ) (done : ℕ) (held : Option (List ℕ)) (now : ℕ) → Wrote start faults piece done held now → (rest : List ℕ) → rest ≡ drop done piece → (n : ℕ) → n ≤ length rest → (more : Option (List ℕ)) → more ≡ with_more held (take n rest) → (later : ℕ) → later ≡ now → Wrote start faults piece (done + n) more later
+wrote_more start faults piece done held now wrote rest is n fits more added later same = record {
   within =
       let within : done ≤ length piece = wrote.within in
       let length_is : length rest ≡ length piece - done = ap length is ∙ length-drop done piece in
@@ -38,5 +38,5 @@ wrote_more start faults piece done held now wrote rest is n fits more added late
       added ∙ (ap (λ r. with_more held (take n r)) is
       ∙ (ap (λ o. with_more o (take n (drop done piece))) wrote.bytes
       ∙ (with_more-twice start (take done piece) (take n (drop done piece)) ∙ ap (λ bs. with_more start bs) (sym both))));
-  counted = let counted : faults ≤ now = wrote.counted in omega arith;
+  still = same ∙ wrote.still;
 }

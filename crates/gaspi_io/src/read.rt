@@ -55,6 +55,11 @@ pub fn read_all<S: Source>(alloc: Global, source: &mut S, most: u64) -> Result<B
     // Whatever the answer, the source lost no more than that from its front.
     ensures taken { TakesAtMost (most + 1) (S.left source.old) (S.left source.new) }
     ensures counted { S.faults source.old ≤ S.faults source.new }
+
+    // Unless it failed, its count of faults stands as it was.
+    ensures still { OnOk result (S.faults source.new ≡ S.faults source.old) }
+    ensures still_long { IsErrOf result ReadStop.Long → S.faults source.new ≡ S.faults source.old }
+    ensures still_memory { IsErrOf result ReadStop.NoMemory → S.faults source.new ≡ S.faults source.old }
 {
     let mut bytes = Bytes::new(alloc);
     loop {
@@ -80,6 +85,9 @@ fn read_piece<S: Source>(source: &mut S, most: u64, bytes: &mut Bytes) -> Result
         → HasCause (S.faults source.old) (S.faults source.new) }
     ensures taken { TakesAtMost (most + 1 - length bytes.old) (S.left source.old) (S.left source.new) }
     ensures counted { S.faults source.old ≤ S.faults source.new }
+    ensures still { OnOk result (S.faults source.new ≡ S.faults source.old) }
+    ensures still_long { IsErrOf result ReadStop.Long → S.faults source.new ≡ S.faults source.old }
+    ensures still_memory { IsErrOf result ReadStop.NoMemory → S.faults source.new ≡ S.faults source.old }
 {
     let mut buf = [0; PIECE];
     let allowed = most - bytes.len() as u64;

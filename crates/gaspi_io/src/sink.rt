@@ -1,12 +1,12 @@
 //! Where bytes go.
 
-ghost use Rattle.std.specs.Prelude.{◌≤◌, ◌<◌, ◌≡◌, ℕ, List, Option, length, take, IfOk, OnErr};
+ghost use Rattle.std.specs.Prelude.{◌≤◌, ◌<◌, ◌≡◌, ℕ, List, Option, length, take, IfOk, OnOk, OnErr};
 ghost use Rattle.gaspi_io.specs.Faults.{HasCause};
 ghost use Rattle.gaspi_io.specs.Sink.{with_more};
 
 use crate::faults::Failed;
 
-/// Where bytes go. A sink counts its faults, and a call that is answered `Failed` has counted one.
+/// Where bytes go. A sink counts its faults: a call that is answered `Failed` has counted one, and no other call has.
 pub trait Sink {
     /// The bytes that it holds, where it tells them. It tells them always or never.
     ghost held: { Self → Option (List ℕ) };
@@ -21,6 +21,7 @@ pub trait Sink {
         ensures held { IfOk result (λ n. held self.new ≡ with_more (held self.old) (take n piece.now)) }
         ensures kept { OnErr result (held self.new ≡ held self.old) }
 
+        ensures still { OnOk result (faults self.new ≡ faults self.old) }
         ensures cause { OnErr result (HasCause (faults self.old) (faults self.new)) }
         ensures counted { faults self.old ≤ faults self.new };
 }

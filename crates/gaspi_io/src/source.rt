@@ -1,13 +1,14 @@
 //! Where bytes come from.
 
-ghost use Rattle.std.specs.Prelude.{◌≤◌, ◌≡◌, ℕ, List, Option, length, IfOk, OnErr};
+ghost use Rattle.std.specs.Prelude.{◌≤◌, ◌≡◌, ℕ, List, Option, length, IfOk, OnOk, OnErr};
 ghost use Rattle.std.specs.Option.{ForSome};
 ghost use Rattle.gaspi_io.specs.Faults.{HasCause};
 ghost use Rattle.gaspi_io.specs.Source.{without, PutsFront, EndsOnly};
 
 use crate::faults::Failed;
 
-/// Where bytes come from. A source counts its faults, and a call that is answered `Failed` has counted one.
+/// Where bytes come from. A source counts its faults: a call that is answered `Failed` has counted one, and no other
+/// call has.
 /// After a fault the next read goes on where the last that succeeded ended.
 pub trait Source {
     /// The bytes that are left, where it tells them. It tells them always or never.
@@ -28,6 +29,7 @@ pub trait Source {
         ensures rest { IfOk result (λ n. left self.new ≡ without (left self.old) n) }
         ensures kept { OnErr result (left self.new ≡ left self.old) }
 
+        ensures still { OnOk result (faults self.new ≡ faults self.old) }
         ensures cause { OnErr result (HasCause (faults self.old) (faults self.new)) }
         ensures counted { faults self.old ≤ faults self.new };
 }

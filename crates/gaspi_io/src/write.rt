@@ -13,6 +13,7 @@ pub fn write_all<K: Sink>(sink: &mut K, piece: &[u8]) -> Result<(), Failed>
     ensures front { OnErr result (AddsFront piece.now (K.held sink.old) (K.held sink.new)) }
     ensures cause { OnErr result (HasCause (K.faults sink.old) (K.faults sink.new)) }
     ensures counted { K.faults sink.old ≤ K.faults sink.new }
+    ensures still { OnOk result (K.faults sink.new ≡ K.faults sink.old) }
 {
     let mut done = 0;
     while done < piece.len() {

@@ -1,5 +1,5 @@
 -- What the program does with its words and its input. (own choice)
-use Rattle.std.specs.Prelude.{◌≡◌, ◌⊎◌, ◌≤◌, ℕ, length, Bool, true, false, List, [], ◌∷◌, ◌++◌, Option, Some, Ok, Err, codes, if◌then◌else◌}
+use Rattle.std.specs.Prelude.{◌≡◌, ◌⊎◌, ◌≤◌, ◌<◌, ℕ, length, Bool, true, false, List, [], ◌∷◌, ◌++◌, Option, Some, Ok, Err, codes, if◌then◌else◌}
 use Rattle.std.specs.Option.{ForSome}
 use Rattle.std.specs.Str.{bytes_eq}
 use Rattle.std.specs.List.{list_any}
@@ -8,6 +8,7 @@ use Rattle.gaspi_types.specs.World.{World}
 use Rattle.gaspi_types.specs.declared.events.Event.{Event}
 use Rattle.gaspi_io.specs.Faults.{HasCause}
 use Rattle.gaspi_io.specs.Sink.{with_more, AddsFront}
+use Rattle.gaspi_io.specs.Source.{without}
 use Rattle.gaspi_model.specs.Step.{is_legal}
 use Rattle.rank_script.specs.WorldText.{TextFault, world_text}
 use Rattle.rank_script.specs.declared.scripts.Script.{Script}
@@ -84,26 +85,34 @@ pub record TellsRun (before after : Option (List ℕ)) (journal : List Event) (s
   pub end : ForSome before (λ told. after ≡ Some [])
   pub brief : IsBrief input journal status text
 
--- the input has a fault, and the text names the first; the whole input was read, where it was not too long
+-- the input has a fault, and the text names the first; the whole input was read, and where it is too long, one byte past
+-- what it may have
 pub record TellsFault (before after : Option (List ℕ)) (text : List ℕ) : Type 0 where
   pub input : List ℕ
   pub fault : TextFault
   pub all : ForSome before (λ told. input ≡ told)
   pub end : length input ≤ 268435456 → ForSome before (λ told. after ≡ Some [])
+  pub past : 268435456 < length input → after ≡ without before 268435457
   pub is : world_text input ≡ Err fault
   pub text_is : text ≡ fault_text fault
+
+-- no read and no write failed
+abbrev pub NothingFailed : ℕ → ℕ → ℕ → ℕ → Type 0
+NothingFailed faults faults' sink_faults sink_faults' = (faults' ≡ faults) × (sink_faults' ≡ sink_faults)
 
 -- What an answer says. Each case has its statuses.
 
 -- a run was told: status 0, 3 or 8
-pub record HasRun (before after held held' : Option (List ℕ)) (answer : Answer) : Type 0 where
+pub record HasRun (before after held held' : Option (List ℕ)) (faults faults' sink_faults sink_faults' : ℕ) (answer : Answer) : Type 0 where
   pub text : List ℕ
+  pub still : NothingFailed faults faults' sink_faults sink_faults'
   pub run : TellsRun before after answer.journal answer.status text
   pub written : held' ≡ with_more held text
 
 -- a fault was told: status 2
-pub record IsFaulty (before after held held' : Option (List ℕ)) (answer : Answer) : Type 0 where
+pub record IsFaulty (before after held held' : Option (List ℕ)) (faults faults' sink_faults sink_faults' : ℕ) (answer : Answer) : Type 0 where
   pub text : List ℕ
+  pub still : NothingFailed faults faults' sink_faults sink_faults'
   pub fault : TellsFault before after text
   pub written : held' ≡ with_more held text
   pub status : answer.status ≡ 2
@@ -124,19 +133,21 @@ pub record CouldNotWrite (before after held held' : Option (List ℕ)) (faults f
   pub cause : HasCause faults faults'
   pub status : answer.status ≡ 6
 
--- want of memory: status 7; nothing was written
-pub record LacksMemory (held held' : Option (List ℕ)) (answer : Answer) : Type 0 where
+-- want of memory, and nothing else: status 7; nothing was written
+pub record LacksMemory (held held' : Option (List ℕ)) (faults faults' sink_faults sink_faults' : ℕ) (answer : Answer) : Type 0 where
   pub kept : held' ≡ held
+  pub still : NothingFailed faults faults' sink_faults sink_faults'
   pub status : answer.status ≡ 7
 
 -- the answer of `step --brief`
 abbrev pub Steps : Option (List ℕ) → Option (List ℕ) → ℕ → ℕ → Option (List ℕ) → Option (List ℕ) → ℕ → ℕ → Answer → Type 0
 Steps before after faults faults' held held' sink_faults sink_faults' answer =
-    HasRun before after held held' answer ⊎ (IsFaulty before after held held' answer ⊎ (CouldNotRead faults faults' held held' answer
-    ⊎ (CouldNotWrite before after held held' sink_faults sink_faults' answer ⊎ LacksMemory held held' answer)))
+    HasRun before after held held' faults faults' sink_faults sink_faults' answer ⊎ (IsFaulty before after held held' faults faults' sink_faults sink_faults' answer
+    ⊎ (CouldNotRead faults faults' held held' answer
+    ⊎ (CouldNotWrite before after held held' sink_faults sink_faults' answer ⊎ LacksMemory held held' faults faults' sink_faults sink_faults' answer)))
 
 -- the answer to words that are refused: status 1, or 6 where that could not be written
 pub record Refuses (held held' : Option (List ℕ)) (faults faults' : ℕ) (answer : Answer) : Type 0 where
-  pub says : ((answer.status ≡ 1) × (held' ≡ with_more held refused_text))
+  pub says : ((answer.status ≡ 1) × (held' ≡ with_more held refused_text) × (faults' ≡ faults))
       ⊎ ((answer.status ≡ 6) × AddsFront refused_text held held' × HasCause faults faults')
   pub empty : answer.journal ≡ []

@@ -118,7 +118,7 @@ fn fault_line(alloc: Global, number: u32, line: u64) -> Result<Bytes, NoMemory>
 
 /// Writes a text, and gives the status: 6 where it could not be written whole.
 fn status_of<K: Sink>(sink: &mut K, text: &[u8], status: u8) -> u8
-    ensures { ((result ≡ status) × (K.held sink.new ≡ with_more (K.held sink.old) text.now))
+    ensures { ((result ≡ status) × (K.held sink.new ≡ with_more (K.held sink.old) text.now) × (K.faults sink.new ≡ K.faults sink.old))
         ⊎ ((result ≡ 6) × AddsFront text.now (K.held sink.old) (K.held sink.new) × HasCause (K.faults sink.old) (K.faults sink.new)) }
 {
     match write_all(sink, text) {
@@ -140,9 +140,9 @@ fn bare(alloc: Global, status: u8) -> Answer
 /// Answers a fault of the input.
 fn answer_fault<K: Sink>(alloc: Global, sink: &mut K, number: u32, line: u64) -> Answer
     ensures told { let text = fault_text (record { number = number; line = line }) in
-        ((result.status ≡ 2) × (K.held sink.new ≡ with_more (K.held sink.old) text))
+        ((result.status ≡ 2) × (K.held sink.new ≡ with_more (K.held sink.old) text) × (K.faults sink.new ≡ K.faults sink.old))
         ⊎ (((result.status ≡ 6) × AddsFront text (K.held sink.old) (K.held sink.new) × HasCause (K.faults sink.old) (K.faults sink.new))
-        ⊎ ((result.status ≡ 7) × (K.held sink.new ≡ K.held sink.old))) }
+        ⊎ ((result.status ≡ 7) × (K.held sink.new ≡ K.held sink.old) × (K.faults sink.new ≡ K.faults sink.old))) }
     ensures empty { result.journal ≡ [] }
 {
     let status = match fault_line(alloc, number, line) {

@@ -1,4 +1,4 @@
-use Rattle.std.proofs.Common.{Ok, ap, ◌∙◌, arith}
+use Rattle.std.proofs.Common.{Ok, ap, ◌∙◌}
 use Rattle.gaspi_io.proofs.Given.{taken_later, all_came, piece_came}
 use Rattle.gaspi_io.proofs.read.read_all.Goals as goal
 
@@ -15,5 +15,5 @@ pub loop-bytes-preserved : goal.loop-bytes-preserved
 loop-bytes-preserved g c = record {
   within = c.in_ok-read_piece.ensures.within;
   given = piece_came _ _ _ _ _ c.loop-bytes.invariant.given c.in_ok-read_piece.ensures.piece;
-  counted = omega (arith, c.loop-bytes.invariant.counted, c.read_piece.ensures.counted);
+  still = c.in_ok-read_piece.ensures.still ∙ c.loop-bytes.invariant.still;
 }

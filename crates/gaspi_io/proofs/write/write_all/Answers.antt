@@ -4,4 +4,4 @@ use Rattle.gaspi_io.proofs.write.write_all.Goals as goal
 
 pub loop-done-preserved : goal.loop-done-preserved
 loop-done-preserved g c =
-    wrote_more _ _ _ _ _ _ c.loop-done.invariant _ (take_rest c.args.piece.now c.loop-done.done) _ c.in_ok-done.ensures.count _ c.in_ok-done.ensures.held _ c.write.ensures.counted
+    wrote_more _ _ _ _ _ _ c.loop-done.invariant _ (take_rest c.args.piece.now c.loop-done.done) _ c.in_ok-done.ensures.count _ c.in_ok-done.ensures.held _ c.in_ok-done.ensures.still

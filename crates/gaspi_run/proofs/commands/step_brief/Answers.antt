@@ -5,9 +5,9 @@ use Rattle.gaspi_run.proofs.commands.step_brief.Goals as goal
 
 pub returns-in-Err-Long : goal.returns-in-Err-Long
 returns-in-Err-Long g c =
-    fault-answer _ _ _ _ _ _ _ _ c.answer_fault.result (record { number = 1; line = 0 }) (long-fault _ _ (c.in-Err-Long.ensures.long (ap Err c.in-Err-Long.field-0-is))) c.answer_fault.ensures.told c.answer_fault.ensures.empty
+    fault-answer _ _ _ _ _ _ _ _ c.answer_fault.result (record { number = 1; line = 0 }) (long-fault _ _ (c.in-Err-Long.ensures.long (ap Err c.in-Err-Long.field-0-is)) (c.in-Err-Long.ensures.past (ap Err c.in-Err-Long.field-0-is))) (c.in-Err-Long.ensures.still_long (ap Err c.in-Err-Long.field-0-is)) c.answer_fault.ensures.told c.answer_fault.ensures.empty
 
 pub returns-in-Err-At : goal.returns-in-Err-At
 returns-in-Err-At g c =
     fault-answer _ _ _ _ _ _ _ _ c.answer_fault-in-Err-At.result (record { number = c.in-Err-At.number; line = c.in-Err-At.line })
-    (read-fault _ _ _ _ c.in-Ok.ensures.all c.in-Ok.ensures.end (ap world_text (sym c.as_slice.ensures) ∙ c.in-Err-At.ensures.fault c.in-Err-At.number c.in-Err-At.line (ap Err c.in-Err-At.field-0-is))) c.answer_fault-in-Err-At.ensures.told c.answer_fault-in-Err-At.ensures.empty
+    (read-fault _ _ _ _ c.in-Ok.ensures.within c.in-Ok.ensures.all c.in-Ok.ensures.end (ap world_text (sym c.as_slice.ensures) ∙ c.in-Err-At.ensures.fault c.in-Err-At.number c.in-Err-At.line (ap Err c.in-Err-At.field-0-is))) c.in-Ok.ensures.still c.answer_fault-in-Err-At.ensures.told c.answer_fault-in-Err-At.ensures.empty
