@@ -94,6 +94,7 @@ impl Source for MemSource {
         ensures given { IfOk result (λ n.
             n ≡ min self.old.most (min (length self.old.left) (length buf.old))) }
         ensures front { IfOk result (λ n. PutsFront self.old.left n buf.old buf.new) }
+        ensures untouched { OnErr result (buf.new ≡ buf.old) }
         ensures ok { IfOk result (λ n. self.new ≡ record self.old {
           left = drop n self.old.left;
           calls = one_more self.old.calls;

@@ -6,7 +6,7 @@ use crate::{
 };
 use gaspi_types::{Bytes, NoMemory, Rows};
 use std::alloc::Global;
-use std::io::{self, ErrorKind, Read};
+use std::io::{self, ErrorKind, Read, Write};
 use std::test::Fail;
 
 const TEXT: &[u8; 5] = b"gaspi";
@@ -132,6 +132,49 @@ impl Read for Flaky {
     }
 }
 
+/// The same of a writer: its second call takes a byte.
+#[derive(Drop)]
+struct FlakySink {
+    calls: u8,
+}
+
+impl Write for FlakySink {
+    fn write(&mut self, piece: &[u8]) -> io::Result<usize> {
+        self.calls = self.calls.saturating_add(1);
+        if self.calls == 1 {
+            return Err(io::Error::from(ErrorKind::Interrupted));
+        }
+        if self.calls > 2 {
+            return Err(io::Error::from(ErrorKind::BrokenPipe));
+        }
+        Ok(piece.len().min(1))
+    }
+
+    fn flush(&mut self) -> io::Result<()> {
+        Ok(())
+    }
+}
+
+/// A stream each of whose calls a signal interrupts.
+#[derive(Drop)]
+struct Interrupted;
+
+impl Read for Interrupted {
+    fn read(&mut self, _buf: &mut [u8]) -> io::Result<usize> {
+        Err(io::Error::from(ErrorKind::Interrupted))
+    }
+}
+
+impl Write for Interrupted {
+    fn write(&mut self, _piece: &[u8]) -> io::Result<usize> {
+        Err(io::Error::from(ErrorKind::Interrupted))
+    }
+
+    fn flush(&mut self) -> io::Result<()> {
+        Ok(())
+    }
+}
+
 #[test]
 fn streams_of_the_system_are_a_source_and_a_sink(rt: HostRuntime) -> Result<(), Fail> {
     let alloc = rt.alloc();
@@ -142,6 +185,14 @@ fn streams_of_the_system_are_a_source_and_a_sink(rt: HostRuntime) -> Result<(), 
     let mut buf = [0; 4];
     assert_eq!(rt; source.read(&mut buf), Ok(1));
     assert_eq!(rt; source.read(&mut buf), Err(Failed));
+
+    let mut sink = StdSink::new(FlakySink { calls: 0 });
+    assert_eq!(rt; sink.write(TEXT), Ok(1));
+    assert_eq!(rt; sink.write(TEXT), Err(Failed));
+
+    let mut buf = [0; 1];
+    assert_eq!(rt; StdSource::new(Interrupted).read(&mut buf), Err(Failed));
+    assert_eq!(rt; StdSink::new(Interrupted).write(TEXT), Err(Failed));
 
     write_all(&mut StdSink::new(io::writer(&rt)), TEXT)?;
 

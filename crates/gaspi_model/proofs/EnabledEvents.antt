@@ -1,19 +1,21 @@
 -- What may come next is a step: a transfer that is listed, and a call with the reply that it has.
-use Rattle.std.proofs.Common.{◌≡◌, ℕ, zero, suc, ◌+◌, ◌*◌, ◌<◌, ◌≤◌, Bool, true, false, List, [], ◌∷◌, Option, None, Some, Result, Ok, Err, refl, sym, ◌∙◌, subst, arith, if◌then◌else◌, is_none, IsOk, nat_eq}
+use Rattle.std.proofs.Common.{◌≡◌, ℕ, zero, suc, ◌+◌, ◌*◌, ◌<◌, ◌≤◌, ℤ, Bool, true, false, List, [], ◌∷◌, Option, None, Some, Result, Ok, Err, refl, sym, ◌∙◌, subst, arith, if◌then◌else◌, is_none, IsOk, nat_eq}
 use Rattle.std.specs.List.{slice_get, slice_set, enumerate_from}
+use Rattle.std.specs.Ordering.{int_eq}
 use Rattle.std.specs.Cmp.Lexicographic.{pointwise}
 use Rattle.std.proofs.lemmas.Bool.{le-leb, eq-eqb}
+use Rattle.std.proofs.lemmas.Cmp.{int_eq_equiv}
 use Rattle.std.proofs.lemmas.Option.{slice_get_within}
 use Rattle.gaspi_types.specs.Checks.{◌>>=◌}
 use Rattle.gaspi_types.specs.Lanes.{may_take, may_put, place_of}
 use Rattle.gaspi_types.specs.Need.{need_of}
-use Rattle.gaspi_types.specs.Replies.{same_refusal, same_reply, is_done}
+use Rattle.gaspi_types.specs.Replies.{refusal_number, refusal_fields, type_number, same_refusal, same_numbers, same_reply, is_done}
+use Rattle.gaspi_types.specs.declared.collectives.Numbers.{Numbers}
 use Rattle.gaspi_types.specs.declared.entries.Entry.{Entry}
 use Rattle.gaspi_types.specs.declared.shapes.Limits.{Limits}
 use Rattle.gaspi_types.specs.declared.calls.Call.{Call}
 use Rattle.gaspi_types.specs.declared.calls.Call.TheVariants.{Store, Load, Write, Notify, WriteNotify, Wait, Waitsome, Reset, End}
 use Rattle.gaspi_types.specs.declared.replies.Refusal.{Refusal}
-use Rattle.gaspi_types.specs.declared.replies.Refusal.TheVariants.{BadRank, NoSegment, Unregistered, BadRange, BadSize, BadQueue, QueueFull, QueueBroken, BadNote, ZeroValue, CallerEnded}
 use Rattle.gaspi_types.specs.declared.replies.Reply.{Reply}
 use Rattle.gaspi_types.specs.declared.replies.Reply.TheVariants as replies
 use Rattle.gaspi_types.specs.declared.replies.Ready.{Ready}
@@ -45,23 +47,23 @@ pointwise-refl [] = refl
 pointwise-refl (x ∷ a) = rw (eq-eqb x x refl) (pointwise-refl a)
 
 same_refusal-refl : (a : Refusal) → same_refusal a a ≡ true
-same_refusal-refl BadRank = refl
-same_refusal-refl NoSegment = refl
-same_refusal-refl Unregistered = refl
-same_refusal-refl (BadRange size) = pointwise-refl (size ∷ [])
-same_refusal-refl BadSize = refl
-same_refusal-refl BadQueue = refl
-same_refusal-refl (QueueFull count need) = pointwise-refl (count ∷ need ∷ [])
-same_refusal-refl (QueueBroken rank) = pointwise-refl (rank ∷ [])
-same_refusal-refl BadNote = refl
-same_refusal-refl ZeroValue = refl
-same_refusal-refl CallerEnded = refl
+same_refusal-refl a =
+    rw (eq-eqb (refusal_number a) (refusal_number a) refl) (pointwise-refl (refusal_fields a))
+
+pointwise-int-refl : (a : List ℤ) → pointwise int_eq a a ≡ true
+pointwise-int-refl [] = refl
+pointwise-int-refl (x ∷ a) = rw (int_eq_equiv.refl x) (pointwise-int-refl a)
+
+same_numbers-refl : (a : Numbers) → same_numbers a a ≡ true
+same_numbers-refl a = rw (eq-eqb (type_number a.num_type) (type_number a.num_type) refl) (pointwise-int-refl a.items)
 
 pub same_reply-refl : (a : Reply) → same_reply a a ≡ true
 same_reply-refl replies.Done = refl
 same_reply-refl (replies.Value n) = eq-eqb n n refl
 same_reply-refl (replies.Id n) = eq-eqb n n refl
 same_reply-refl (replies.Bytes bytes) = pointwise-refl bytes
+same_reply-refl (replies.Mask n) = eq-eqb n n refl
+same_reply-refl (replies.List numbers) = same_numbers-refl numbers
 same_reply-refl replies.Timeout = refl
 same_reply-refl (replies.Refused refusal) = same_refusal-refl refusal
 

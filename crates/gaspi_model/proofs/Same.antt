@@ -1,10 +1,21 @@
 -- Replies that compare as the same are equal.
-use Rattle.std.proofs.Common.{◌≡◌, ℕ, true, ◌==◌, ◌&&◌, List, [], ◌∷◌, refl, ap, nat_eq}
+use Rattle.std.proofs.Common.{◌≡◌, ℕ, ℤ, true, ◌==◌, ◌&&◌, if◌then◌else◌, List, [], ◌∷◌, get_or, refl, sym, ◌∙◌, ap, nat_eq}
+use Rattle.std.specs.Ordering.{int_eq}
 use Rattle.std.specs.Cmp.Lexicographic.{pointwise}
 use Rattle.std.proofs.lemmas.Bool.{eqb-true}
-use Rattle.gaspi_types.specs.Replies.{same_refusal, same_reply}
+use Rattle.std.proofs.lemmas.Bool.Decides.{Decides-int_eq}
+use Rattle.gaspi_types.specs.Replies.{refusal_number, refusal_fields, stage_number, op_number, type_number, coll_fields, same_refusal, same_numbers, same_reply}
+use Rattle.gaspi_types.specs.declared.collectives.NumType.{NumType}
+use Rattle.gaspi_types.specs.declared.collectives.Op.{Op}
+use Rattle.gaspi_types.specs.declared.collectives.Stage.{Stage}
+use Rattle.gaspi_types.specs.declared.collectives.Coll.{Coll}
+use Rattle.gaspi_types.specs.declared.collectives.Numbers.{Numbers}
+use Rattle.gaspi_types.specs.declared.collectives.NumType.TheVariants.{Int, Uint, Long, Ulong, Float, Double}
+use Rattle.gaspi_types.specs.declared.collectives.Op.TheVariants.{Min, Max, Sum}
+use Rattle.gaspi_types.specs.declared.collectives.Stage.TheVariants.{Building, Committed}
+use Rattle.gaspi_types.specs.declared.collectives.Coll.TheVariants.{Barrier, Allreduce, Create, Commit}
 use Rattle.gaspi_types.specs.declared.replies.Refusal.{Refusal}
-use Rattle.gaspi_types.specs.declared.replies.Refusal.TheVariants.{BadRank, NoSegment, Unregistered, BadRange, BadSize, BadQueue, QueueFull, QueueBroken, BadNote, ZeroValue, CallerEnded}
+use Rattle.gaspi_types.specs.declared.replies.Refusal.TheVariants.{BadRank, NoSegment, SegmentThere, Unregistered, BadRange, BadSize, BadQueue, QueueFull, QueueBroken, BadNote, ZeroValue, BadAlign, PassiveSize, NoGroup, GroupStage, NotMember, GroupMismatch, ActiveCollective, ResumeOther, CollectiveMismatch, BadCount, FloatType, SegmentBusy, GroupsFull, CallerEnded}
 use Rattle.gaspi_types.specs.declared.replies.Reply.{Reply}
 use Rattle.gaspi_types.specs.declared.replies.Reply.TheVariants as replies
 use Rattle.gaspi_types.specs.declared.events.Outcome.{Outcome}
@@ -22,29 +33,150 @@ pointwise-same (x ∷ a) (y ∷ b) h =
     let tail = pointwise-same a b parts.1 in
     cc
 
+-- what the numbers of a collective stand for
+
+stage_named : ℕ → Stage
+stage_named number = if number == 0 then Building else Committed
+
+op_named : ℕ → Op
+op_named number = if number == 0 then Min else (if number == 1 then Max else Sum)
+
+type_named : ℕ → NumType
+type_named number =
+    if number == 0 then Int
+    else (if number == 1 then Uint
+    else (if number == 2 then Long
+    else (if number == 3 then Ulong
+    else (if number == 4 then Float else Double))))
+
+coll_named : List ℕ → Coll
+coll_named fields =
+    if get_or fields 0 0 == 0 then Barrier
+    else (if get_or fields 0 0 == 1 then Allreduce (op_named (get_or fields 1 0)) (type_named (get_or fields 2 0)) (get_or fields 3 0)
+    else (if get_or fields 0 0 == 2 then Create (get_or fields 1 0) (get_or fields 2 0)
+    else Commit (get_or fields 1 0)))
+
+stage_named-same : (x : Stage) → stage_named (stage_number x) ≡ x
+unfolding stage_named
+stage_named-same Building = refl
+stage_named-same Committed = refl
+
+op_named-same : (x : Op) → op_named (op_number x) ≡ x
+unfolding op_named
+op_named-same Min = refl
+op_named-same Max = refl
+op_named-same Sum = refl
+
+type_named-same : (x : NumType) → type_named (type_number x) ≡ x
+unfolding type_named
+type_named-same Int = refl
+type_named-same Uint = refl
+type_named-same Long = refl
+type_named-same Ulong = refl
+type_named-same Float = refl
+type_named-same Double = refl
+
+coll_named-same : (x : Coll) → coll_named (coll_fields x) ≡ x
+unfolding coll_named
+coll_named-same Barrier = refl
+coll_named-same (Allreduce op num_type count) =
+    ap (λ (o : Op). Allreduce o (type_named (type_number num_type)) count) (op_named-same op)
+    ∙ ap (λ (t : NumType). Allreduce op t count) (type_named-same num_type)
+coll_named-same (Create segment size) = refl
+coll_named-same (Commit mask) = refl
+
+-- the refusal of a number and fields
+refusal_named : ℕ → List ℕ → Refusal
+refusal_named number fields =
+    if number == 1 then BadRank
+    else (if number == 2 then NoSegment
+    else (if number == 3 then SegmentThere
+    else (if number == 4 then Unregistered
+    else (if number == 5 then BadRange (get_or fields 0 0)
+    else (if number == 6 then BadSize
+    else (if number == 7 then BadQueue
+    else (if number == 8 then QueueFull (get_or fields 0 0) (get_or fields 1 0)
+    else (if number == 9 then QueueBroken (get_or fields 0 0)
+    else (if number == 10 then BadNote
+    else (if number == 11 then ZeroValue
+    else (if number == 12 then BadAlign
+    else (if number == 13 then PassiveSize (get_or fields 0 0)
+    else (if number == 14 then NoGroup
+    else (if number == 15 then GroupStage (stage_named (get_or fields 0 0))
+    else (if number == 16 then NotMember
+    else (if number == 17 then GroupMismatch (get_or fields 0 0)
+    else (if number == 18 then ActiveCollective (get_or fields 0 0)
+    else (if number == 19 then ResumeOther (coll_named fields)
+    else (if number == 20 then CollectiveMismatch (coll_named fields)
+    else (if number == 21 then BadCount
+    else (if number == 22 then FloatType
+    else (if number == 23 then SegmentBusy (get_or fields 0 0)
+    else (if number == 24 then GroupsFull
+    else CallerEnded)))))))))))))))))))))))
+
+refusal_named-same : (r : Refusal) → refusal_named (refusal_number r) (refusal_fields r) ≡ r
+unfolding refusal_named
+refusal_named-same BadRank = refl
+refusal_named-same NoSegment = refl
+refusal_named-same SegmentThere = refl
+refusal_named-same Unregistered = refl
+refusal_named-same (BadRange size) = refl
+refusal_named-same BadSize = refl
+refusal_named-same BadQueue = refl
+refusal_named-same (QueueFull count need) = refl
+refusal_named-same (QueueBroken rank) = refl
+refusal_named-same BadNote = refl
+refusal_named-same ZeroValue = refl
+refusal_named-same BadAlign = refl
+refusal_named-same (PassiveSize waiting) = refl
+refusal_named-same NoGroup = refl
+refusal_named-same (GroupStage stage) = ap GroupStage (stage_named-same stage)
+refusal_named-same NotMember = refl
+refusal_named-same (GroupMismatch kept) = refl
+refusal_named-same (ActiveCollective thread) = refl
+refusal_named-same (ResumeOther kept) = ap ResumeOther (coll_named-same kept)
+refusal_named-same (CollectiveMismatch kept) = ap CollectiveMismatch (coll_named-same kept)
+refusal_named-same BadCount = refl
+refusal_named-same FloatType = refl
+refusal_named-same (SegmentBusy queue) = refl
+refusal_named-same GroupsFull = refl
+refusal_named-same CallerEnded = refl
+
 pub same_refusal-same : (a b : Refusal) → same_refusal a b ≡ true → a ≡ b
-same_refusal-same BadRank BadRank h = refl
-same_refusal-same NoSegment NoSegment h = refl
-same_refusal-same Unregistered Unregistered h = refl
-same_refusal-same (BadRange m) (BadRange n) h = ap (λ (k : ℕ). BadRange k) (eqb-true m n (both (m == n) true h).0)
-same_refusal-same BadSize BadSize h = refl
-same_refusal-same BadQueue BadQueue h = refl
-same_refusal-same (QueueFull a m) (QueueFull b n) h =
-    let parts = both (a == b) ((m == n) && true) h in
-    let counts = eqb-true a b parts.0 in
-    let needs = eqb-true m n (both (m == n) true parts.1).0 in
+same_refusal-same a b h =
+    let parts = both (refusal_number a == refusal_number b) (pointwise nat_eq (refusal_fields a) (refusal_fields b)) h in
+    let numbers = eqb-true (refusal_number a) (refusal_number b) parts.0 in
+    let fields = pointwise-same (refusal_fields a) (refusal_fields b) parts.1 in
+    sym (refusal_named-same a) ∙ ap (λ (n : ℕ). refusal_named n (refusal_fields a)) numbers
+    ∙ ap (refusal_named (refusal_number b)) fields ∙ refusal_named-same b
+
+pointwise-int : (a b : List ℤ) → pointwise int_eq a b ≡ true → a ≡ b
+pointwise-int [] [] h = refl
+pointwise-int [] (y ∷ b) h = absurd (let no : ⊥ = cc in no)
+pointwise-int (x ∷ a) [] h = absurd (let no : ⊥ = cc in no)
+pointwise-int (x ∷ a) (y ∷ b) h =
+    let parts = both (int_eq x y) (pointwise int_eq a b) h in
+    let head = (Decides-int_eq x y).0 parts.0 in
+    let tail = pointwise-int a b parts.1 in
     cc
-same_refusal-same (QueueBroken m) (QueueBroken n) h = ap (λ (k : ℕ). QueueBroken k) (eqb-true m n (both (m == n) true h).0)
-same_refusal-same BadNote BadNote h = refl
-same_refusal-same ZeroValue ZeroValue h = refl
-same_refusal-same CallerEnded CallerEnded h = refl
-same_refusal-same _ _ h = absurd (let no : ⊥ = cc in no)
+
+numbers_of : NumType → List ℤ → Numbers
+numbers_of num_type items = record { num_type = num_type; items = items }
+
+same_numbers-same : (a b : Numbers) → same_numbers a b ≡ true → a ≡ b
+unfolding numbers_of
+same_numbers-same a b h =
+    let parts = both (type_number a.num_type == type_number b.num_type) (pointwise int_eq a.items b.items) h in
+    let types : a.num_type ≡ b.num_type = sym (type_named-same a.num_type) ∙ ap type_named (eqb-true (type_number a.num_type) (type_number b.num_type) parts.0) ∙ type_named-same b.num_type in
+    ap (λ (t : NumType). numbers_of t a.items) types ∙ ap (numbers_of b.num_type) (pointwise-int a.items b.items parts.1)
 
 pub same_reply-same : (a b : Reply) → same_reply a b ≡ true → a ≡ b
 same_reply-same replies.Done replies.Done h = refl
 same_reply-same (replies.Value m) (replies.Value n) h = ap (λ (k : ℕ). replies.Value k) (eqb-true m n h)
 same_reply-same (replies.Id m) (replies.Id n) h = ap (λ (k : ℕ). replies.Id k) (eqb-true m n h)
 same_reply-same (replies.Bytes a) (replies.Bytes b) h = ap (λ (k : List ℕ). replies.Bytes k) (pointwise-same a b h)
+same_reply-same (replies.Mask m) (replies.Mask n) h = ap (λ (k : ℕ). replies.Mask k) (eqb-true m n h)
+same_reply-same (replies.List a) (replies.List b) h = ap (λ (k : Numbers). replies.List k) (same_numbers-same a b h)
 same_reply-same replies.Timeout replies.Timeout h = refl
 same_reply-same (replies.Refused a) (replies.Refused b) h = ap (λ (k : Refusal). replies.Refused k) (same_refusal-same a b h)
 same_reply-same _ _ h = absurd (let no : ⊥ = cc in no)

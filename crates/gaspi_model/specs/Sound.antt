@@ -39,8 +39,8 @@ failures None = 0
 failures (Some target) = 1
 
 -- A queue: at most DEPTH entries of a lane have taken their bytes; one entry has failed where the queue is broken, and
--- none where it is not; and the entries of the queue from each posted one on,
--- so from the least, are in any phase at most the open count, which is at most DEPTH.
+-- none where it is not; and the entries of the queue from each posted one on, in any phase, so from the least, are at
+-- most the open count, which is at most DEPTH.
 pub record IsSoundQueue (depth : ℕ) (q : Queue) : Type 0 where
   pub carried : (target : ℕ) (lane : List Entry) → slice_get q.lanes target ≡ Some lane → carried_count lane ≤ depth
   pub from_posted : (target : ℕ) (lane : List Entry) → slice_get q.lanes target ≡ Some lane → (place : ℕ) (e : Entry) → slice_get lane place ≡ Some e

@@ -1,6 +1,1 @@
-pub mod CallTexts
 pub mod DeclaredCallers
-pub mod HexWords
-pub mod NumberWords
-pub mod ReplyTexts
-pub mod WordTexts

@@ -24,6 +24,8 @@ is_listless_reply replies.Done = true
 is_listless_reply (replies.Value n) = true
 is_listless_reply (replies.Id n) = true
 is_listless_reply (replies.Bytes bytes) = length bytes == 0
+is_listless_reply (replies.Mask mask) = true
+is_listless_reply (replies.List numbers) = length numbers.items == 0
 is_listless_reply replies.Timeout = true
 is_listless_reply (replies.Refused refusal) = true
 

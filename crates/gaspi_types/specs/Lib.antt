@@ -1,16 +1,12 @@
-pub mod CallText
 pub mod Checks
 pub mod Copies
-pub mod Hex
+pub mod Fields
 pub mod Lanes
 pub mod Lending
 pub mod Need
-pub mod Numbers
 pub mod Posts
 pub mod Ranges
 pub mod Replies
-pub mod ReplyText
 pub mod SegmentBytes
 pub mod Slots
-pub mod Words
 pub mod World

@@ -38,6 +38,15 @@ impl<T> Rows<T> {
         }
     }
 
+    /// The empty list, with memory taken for so many items.
+    pub fn with_room(alloc: Global, room: usize) -> Result<Rows<T>, NoMemory>
+        ensures { IfOk result (λ rows. rows ≡ []) }
+    {
+        Ok(Rows {
+            items: Vec::with_capacity(alloc, room)?,
+        })
+    }
+
     /// The same items, without taking memory.
     pub fn from_vec(items: Vec<T>) -> Rows<T>
         ensures { result ≡ items.items }

@@ -1,5 +1,4 @@
 pub mod Entries
-pub mod Fields
 pub mod Machine
 pub mod Memory
 pub mod Posting

@@ -13,9 +13,9 @@ ghost use Rattle.plain_machine.specs.Room.{HasPostRoom};
 
 use crate::calls::{answer, recorded_reply, thread_at};
 use crate::posts::call_done;
-use crate::replies::{charge, is_idle, same_reply};
+use crate::replies::{charge, is_idle};
 use gaspi_model::{Memory, Posts, StepFault, ThreadState, Why};
-use gaspi_types::{Call, Limits, NoMemory, RankId, Reply, ThreadId};
+use gaspi_types::{Call, Limits, NoMemory, RankId, Reply, ThreadId, same_reply};
 use std::alloc::Global;
 
 /// Whether a thread has a section.

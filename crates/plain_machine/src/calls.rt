@@ -202,7 +202,9 @@ pub fn post_finds(limits: &Limits, q: &Queue, kinds: &[Kind]) -> Result<Option<R
     ensures { result ≡ post_finds limits.now q.now kinds.now }
 {
     if let Some(rank) = q.broken {
-        return Err(Refusal::QueueBroken { rank });
+        return Err(Refusal::QueueBroken {
+            rank: rank.number(),
+        });
     }
     let count = q.open_count;
     let need = kinds.len() as u32;
@@ -282,7 +284,9 @@ pub fn wait_finds(posts: &Posts, queue: u64) -> Result<Option<Reply>, Refusal>
 {
     let q = posts.queues.get(queue as usize).ok_or(Refusal::BadQueue)?;
     if let Some(rank) = q.broken {
-        return Err(Refusal::QueueBroken { rank });
+        return Err(Refusal::QueueBroken {
+            rank: rank.number(),
+        });
     }
     if has_posted_entry(q) {
         Ok(None)

@@ -1,7 +1,7 @@
 -- What the kind of a line tells of its faults.
 use Rattle.std.proofs.Common.{◌≡◌, ℕ, ◌≢◌, Bool, true, false, cond, not, ◌&&◌, ◌||◌, ◌==◌, ◌<◌, map, get_or, Bor, List, [], ◌∷◌, length, Option, Some, None, is_none, is_some, refl, sym, ◌∙◌, arith}
 use Rattle.std.proofs.lemmas.Bool.Decides.{nat_tests}
-use Rattle.gaspi_types.specs.CallText.{call_word_of}
+use Rattle.gaspi_texts.specs.CallText.{call_word_of}
 use Rattle.rank_script.specs.Lines.{is_bad_line}
 use Rattle.rank_script.specs.WorldText.{Said, first_word, lacks_world, is_unknown, is_misplaced, is_miscounted, word_count, fault_in}
 use Rattle.rank_script.specs.Kinds.{IsKind, is_world_kind, is_misplaced_kind, kind_word_count}
@@ -34,7 +34,7 @@ kind-tells said words Segment is = record { lacks = rw is refl; known = rw is re
 kind-tells said words Section is = record { lacks = rw is refl; known = rw is refl; misplaced = rw is refl; count = rw is refl }
 kind-tells said words (Call call) is = call-tells said words call is
   where
-    call-tells : (said : Said) (words : List (List ℕ)) (call : Rattle.gaspi_types.specs.declared.call_words.CallWord.CallWord) → IsKind (Call call) (first_word words) → Tells said words (Call call)
+    call-tells : (said : Said) (words : List (List ℕ)) (call : Rattle.gaspi_texts.specs.declared.call_words.CallWord.CallWord) → IsKind (Call call) (first_word words) → Tells said words (Call call)
     call-tells said words call is = record {
       lacks = rw is.0 refl;
       known = rw (is.0, is.1, is.2, is.3) refl;

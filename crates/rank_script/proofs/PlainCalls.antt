@@ -1,13 +1,13 @@
 -- Words spell no end of a caller.
 use Rattle.std.proofs.Common.{◌≡◌, ◌≢◌, ℕ, List, [], ◌∷◌, Option, None, Some, subst}
 use Rattle.std.specs.Prelude.{option_and_then}
-use Rattle.gaspi_types.specs.Numbers.{number_of, value_of}
-use Rattle.gaspi_types.specs.Hex.{bytes_of}
+use Rattle.gaspi_texts.specs.Numbers.{number_of, value_of}
+use Rattle.gaspi_texts.specs.Hex.{bytes_of}
 use Rattle.gaspi_types.specs.declared.calls.Call.TheVariants as calls
-use Rattle.gaspi_types.specs.CallText.{call_of, call_word_of, call_with, store_of, load_of, write_of, notify_of, write_notify_of, wait_of, waitsome_of, reset_of}
+use Rattle.gaspi_texts.specs.CallText.{call_of, call_word_of, call_with, store_of, load_of, write_of, notify_of, write_notify_of, wait_of, waitsome_of, reset_of}
 use Rattle.gaspi_types.specs.declared.calls.Call.{Call}
-use Rattle.gaspi_types.specs.declared.call_words.CallWord.{CallWord}
-use Rattle.gaspi_types.specs.declared.call_words.CallWord.TheVariants as call_words
+use Rattle.gaspi_texts.specs.declared.call_words.CallWord.{CallWord}
+use Rattle.gaspi_texts.specs.declared.call_words.CallWord.TheVariants as call_words
 
 bound-then : {A P : Type 0} (o : Option A) (f : A → Option Call) (call : Call) → option_and_then f o ≡ Some call → ((x : A) → f x ≡ Some call → P) → P
 bound-then {A} {P} None f call is go = absurd (let no : ⊥ = cc in no)

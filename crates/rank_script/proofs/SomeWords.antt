@@ -1,8 +1,8 @@
 -- Some of the words of a line.
 use Rattle.std.proofs.Common.{◌≡◌, ℕ, ◌+◌, take, Some, sym, List, [], ◌∷◌, ◌++◌, map, Bor, refl, ap}
 use Rattle.std.proofs.lemmas.List.{take-map}
-use Rattle.gaspi_types.specs.CallText.{call_word_of, arguments_of}
-use Rattle.gaspi_types.specs.declared.call_words.CallWord.{CallWord}
+use Rattle.gaspi_texts.specs.CallText.{call_word_of, arguments_of}
+use Rattle.gaspi_texts.specs.declared.call_words.CallWord.{CallWord}
 use Rattle.rank_script.specs.WorldText.{first_word, last_word, call_words_of}
 
 last_word-push : (front : List (List ℕ)) (word : List ℕ) → last_word (front ++ word ∷ []) ≡ word

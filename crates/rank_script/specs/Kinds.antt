@@ -1,6 +1,6 @@
 -- The kinds of lines, by their first words. (own choice)
 use Rattle.std.specs.Prelude.{◌≡◌, ℕ, ◌+◌, Bool, true, false, ◌==◌, not, List, length, Some, None, is_some, codes, if◌then◌else◌}
-use Rattle.gaspi_types.specs.CallText.{call_word_of, arguments_of, has_timeout}
+use Rattle.gaspi_texts.specs.CallText.{call_word_of, arguments_of, has_timeout}
 use Rattle.rank_script.specs.WorldText.{Said, is_world_word, is_segment_word, is_rank_word}
 use Rattle.rank_script.specs.declared.kinds.LineKind.{LineKind}
 use Rattle.rank_script.specs.declared.kinds.LineKind.TheVariants.{World, Segment, Section, Call}

@@ -1,7 +1,7 @@
 //! The arguments of lines.
 
 ghost use Rattle.std.specs.Prelude.{◌≡◌, ◌<◌, ◌+◌, map, length, true, Some, None, if◌then◌else◌, IfOk};
-ghost use Rattle.gaspi_types.specs.CallText.{arguments_of, call_of, call_word_of};
+ghost use Rattle.gaspi_texts.specs.CallText.{arguments_of, call_of, call_word_of};
 ghost use Rattle.gaspi_types.specs.World.{world_of};
 ghost use Rattle.rank_script.specs.WorldText.{first_word, later_words, all_numbers, number_at, limits_of, timeout_of, line_timeout, is_timeout_within, as_timeout, is_section_line, last_word, call_words_of};
 

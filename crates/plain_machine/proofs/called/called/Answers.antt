@@ -18,5 +18,5 @@ returns-in-Ok-record_call-clause-taken c =
     sym (c.same_reply.ensures ∙ ap (same_reply c.args.reply.now) (c.recorded_reply.ensures ∙ ap recorded_reply c.in-Ok.ensures.answer)) ∙ c.if-not-same_reply.false in
     let taken = taken_by _ _ _ _ _ _ _ c.requires.sound same in
     rw c.in-Ok-record_call.ensures.posts
-    rw (c.charge.ensures, c.thread_at-state.ensures)
+    rw (c.charge.ensures.value, c.thread_at-state.ensures)
     rw c.requires.taken (sym taken)

@@ -1,6 +1,6 @@
 use Rattle.std.proofs.Common.{◌+◌, ℕ, ap, ◌∙◌}
 use Rattle.std.proofs.lemmas.Result.{IfOk-weaker}
-use Rattle.gaspi_types.specs.CallText.{call_of}
+use Rattle.gaspi_texts.specs.CallText.{call_of}
 use Rattle.rank_script.proofs.SomeWords.{call_words-taken}
 use Rattle.rank_script.proofs.arguments.read_call.Goals as goal
 

