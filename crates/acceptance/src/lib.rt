@@ -4,6 +4,10 @@
 #[cfg(test)]
 mod cuts;
 #[cfg(test)]
+mod expectations;
+#[cfg(test)]
+mod journals;
+#[cfg(test)]
 mod parts;
 #[cfg(test)]
 mod posts;

@@ -123,7 +123,7 @@ fn refusals_and_faults_that_cannot_be_written(rt: HostRuntime) -> Result<(), Fai
     let alloc = rt.alloc();
     let mut source = SureSource::new(Bytes::new(alloc));
     let mut sink = failing_sink(alloc)?;
-    let answer = gaspirun(&rt, alloc, &["step"], &mut source, &mut sink);
+    let answer = gaspirun(&rt, alloc, &["run"], &mut source, &mut sink);
     assert_eq!(rt; answer.status, 6);
     assert!(rt; sink.bytes().is_empty());
 

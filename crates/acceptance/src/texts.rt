@@ -6,9 +6,13 @@ use std::test::Fail;
 #[test]
 fn other_words_are_refused(rt: HostRuntime) -> Result<(), Fail> {
     let alloc = rt.alloc();
-    let rows: [&[&str]; 14] = [
+    let rows: [&[&str]; 18] = [
         &[],
-        &["step"],
+        &["step", "step"],
+        &["step", "check"],
+        &["check", "--brief"],
+        &["check", "check"],
+        &["steps"],
         &["--brief"],
         &["--brief", "step"],
         &["step", "--brief", "--brief"],
@@ -36,7 +40,7 @@ fn other_words_are_refused(rt: HostRuntime) -> Result<(), Fail> {
 }
 
 /// Texts with a fault of their words, S1 to S6, and what is written of it.
-const FAULTS_OF_WORDS: [(&str, &str); 45] = [
+const FAULTS_OF_WORDS: [(&str, &str); 43] = [
     // S1: the first line with words is no world line, or there is none.
     ("", "fault S1 line 1\n"),
     ("\n", "fault S1 line 2\n"),
@@ -60,10 +64,6 @@ const FAULTS_OF_WORDS: [(&str, &str); 45] = [
     ("world 1 1 1 1 1 1\njournal 1\n", "fault S3 line 2\n"),
     (
         "world 1 1 1 1 1 1\nrank 0 thread 0\nend\n",
-        "fault S3 line 3\n",
-    ),
-    (
-        "world 1 1 1 1 1 1\nrank 0 thread 0\nagain 2 reset 0 0\n",
         "fault S3 line 3\n",
     ),
     (
@@ -95,10 +95,6 @@ const FAULTS_OF_WORDS: [(&str, &str); 45] = [
     ),
     (
         "world 1 1 1 1 1 1\nrank 0 thread 0\nreset 0 0 test\n",
-        "fault S5 line 3\n",
-    ),
-    (
-        "world 1 1 1 1 1 1\nrank 0 thread 0\nreset 0 0 = value 0\n",
         "fault S5 line 3\n",
     ),
     (
@@ -221,6 +217,69 @@ const FAULTS_OF_NUMBERS: [(&str, &str); 31] = [
         "fault S2 line 4\n",
     ),
 ];
+
+/// Lines behind `world 1 1 1 1 1 1` and `rank 0 thread 0`, with `again` or a reply that is expected, and their faults.
+const FAULTS_OF_CALL_LINES: [(&str, &str); 33] = [
+    // S3: behind `again` and a word stands no word of a call.
+    ("again 2 foo", "fault S3 line 3\n"),
+    ("again 2 end", "fault S3 line 3\n"),
+    ("again 2 =", "fault S3 line 3\n"),
+    ("again 2 again 2 reset 0 0", "fault S3 line 3\n"),
+    ("again x rank 0 thread 0", "fault S3 line 3\n"),
+    ("= value 0", "fault S3 line 3\n"),
+    // S5: nothing behind `again`, too few or too many words of the call, or nothing behind `=`.
+    ("again", "fault S5 line 3\n"),
+    ("again 2", "fault S5 line 3\n"),
+    ("again x", "fault S5 line 3\n"),
+    ("again 2 reset 0", "fault S5 line 3\n"),
+    ("again x reset 0", "fault S5 line 3\n"),
+    ("again 2 reset 0 0 0", "fault S5 line 3\n"),
+    ("again 2 wait 0", "fault S5 line 3\n"),
+    ("reset 0 0 =", "fault S5 line 3\n"),
+    ("reset 0 = value 0", "fault S5 line 3\n"),
+    ("reset = 0 0", "fault S5 line 3\n"),
+    ("wait 0 = done", "fault S5 line 3\n"),
+    ("wait 0 block block = done", "fault S5 line 3\n"),
+    // S6: no number behind `again`, or no reply behind `=`.
+    ("again x reset 0 0", "fault S6 line 3\n"),
+    ("again = reset 0 0", "fault S6 line 3\n"),
+    ("again -1 reset 0 0", "fault S6 line 3\n"),
+    ("reset 0 0 = value", "fault S6 line 3\n"),
+    ("reset 0 0 = value x", "fault S6 line 3\n"),
+    ("reset 0 0 = = value 0", "fault S6 line 3\n"),
+    ("reset 0 0 = value 0 = value 0", "fault S6 line 3\n"),
+    ("reset 0 0 = refused 26", "fault S6 line 3\n"),
+    ("reset 0 0 = refused 5", "fault S6 line 3\n"),
+    ("reset 0 0 = id 4294967296", "fault S6 line 3\n"),
+    ("reset 0 0 = list INT 2147483648", "fault S6 line 3\n"),
+    ("again 0 reset 0 x", "fault S6 line 3\n"),
+    // S7: the number behind `again`, or the timeout, is outside its limits.
+    ("again 0 reset 0 0", "fault S7 line 3\n"),
+    ("again 1000001 reset 0 0 = value 0", "fault S7 line 3\n"),
+    ("again 2 wait 0 0 = done", "fault S7 line 3\n"),
+];
+
+/// The same before any section.
+const FAULTS_BEFORE_A_SECTION: [(&str, &str); 4] = [
+    ("again", "fault S4 line 2\n"),
+    ("again x", "fault S4 line 2\n"),
+    ("again 2 reset 0 0", "fault S4 line 2\n"),
+    ("again 2 foo", "fault S3 line 2\n"),
+];
+
+#[test]
+fn faults_of_call_lines_are_named(rt: HostRuntime) -> Result<(), Fail> {
+    let alloc = rt.alloc();
+    for (line, output) in FAULTS_OF_CALL_LINES {
+        let text = format!(in alloc; "world 1 1 1 1 1 1\nrank 0 thread 0\n{line}\n")?;
+        runs_to(&rt, alloc, text.as_str(), 2, output)?;
+    }
+    for (line, output) in FAULTS_BEFORE_A_SECTION {
+        let text = format!(in alloc; "world 1 1 1 1 1 1\n{line}\n")?;
+        runs_to(&rt, alloc, text.as_str(), 2, output)?;
+    }
+    Ok(())
+}
 
 #[test]
 fn faults_of_words_are_named(rt: HostRuntime) -> Result<(), Fail> {

@@ -1,0 +1,6 @@
+pub mod FedLines
+pub mod JournalLines
+pub mod ReadJournals
+pub mod ReadLines
+pub mod Replays
+pub mod WrittenLines

@@ -5,7 +5,8 @@ ghost use Rattle.call_journal.specs.JournalText.{journal_text, AreInRange, IsFau
 ghost use Rattle.call_journal.specs.declared.reading.JournalFault.TheVariants as faults;
 
 use crate::Journal;
-use gaspi_types::NoMemory;
+use crate::lines::{first_line, is_end_line, read_event_line};
+use gaspi_types::{Bytes, NoMemory, Rows};
 use std::alloc::Global;
 use thiserror::Error;
 
@@ -21,6 +22,8 @@ pub enum JournalFault {
 }
 
 impl From<NoMemory> for JournalFault {
+    ghost from_gives = { λ _ fault. fault ≡ faults.NoMemory };
+
     fn from(_error: NoMemory) -> JournalFault {
         JournalFault::NoMemory
     }
@@ -32,7 +35,26 @@ pub fn read(alloc: Global, text: &[u8]) -> Result<Journal, JournalFault>
     ensures ranges { IfOk result (λ journal. AreInRange journal) }
     ensures fault { (line : ℕ) → IsErrOf result (faults.At line) → IsFaultyAt text.now line }
 {
-    let _alloc = alloc;
-    let _text = text;
-    Err(JournalFault::NoMemory)
+    let Some(mut rest) = text.strip_prefix(b"journal 1\n") else {
+        return Err(JournalFault::At { line: 1 });
+    };
+    let mut journal: Journal = Rows::new(alloc);
+    let mut scratch = Bytes::new(alloc);
+    while !rest.is_empty() {
+        let (line, later) = first_line(rest);
+        let place = journal.len() as u64;
+        if is_end_line(&mut scratch, line, place)? {
+            if later.is_empty() {
+                return Ok(journal);
+            }
+            return Err(JournalFault::At { line: place + 3 });
+        }
+        let Some(event) = read_event_line(alloc, &mut scratch, line, place)? else {
+            return Err(JournalFault::At { line: place + 2 });
+        };
+        journal.push(event)?;
+        rest = later;
+    }
+    let count = journal.len() as u64;
+    Err(JournalFault::At { line: count + 2 })
 }

@@ -4,8 +4,9 @@ ghost use Rattle.std.specs.Prelude.{IfOk};
 ghost use Rattle.call_journal.specs.Verdicts.{IsVerdict};
 
 use crate::Journal;
-use gaspi_model::Why;
+use gaspi_model::{StepFault, Why};
 use gaspi_types::{NoMemory, Shape};
+use plain_machine::Machine;
 use std::alloc::Global;
 
 /// Whether a journal is legal.
@@ -21,8 +22,16 @@ pub enum Verdict {
 pub fn check(alloc: Global, shape: &Shape, journal: &Journal) -> Result<Verdict, NoMemory>
     ensures { IfOk result (λ verdict. IsVerdict shape.now journal.now verdict) }
 {
-    let _alloc = alloc;
-    let _shape = shape;
-    let _journal = journal;
-    Err(NoMemory)
+    let mut machine = Machine::start(alloc, shape)?;
+    for (place, event) in journal.as_slice().iter().enumerate() {
+        match machine.step(alloc, event) {
+            Ok(()) => {}
+            Err(StepFault::Illegal(why)) => {
+                let place = place as u64;
+                return Ok(Verdict::Illegal { place, why });
+            }
+            Err(StepFault::NoMemory) => return Err(NoMemory),
+        }
+    }
+    Ok(Verdict::Legal)
 }

@@ -114,7 +114,7 @@ good-ending steps stay w t place x outcome good =
     })
 
 good-progress : Steps → LimitsStay → (limit : ℕ) (w : World) (t : Turns) (place : ℕ) (x : Waiting) (p : Progress) → IsGood w t → slice_get t.waiting place ≡ Some x → IsGood w (progress_turn limit t place x p)
-good-progress steps stay limit w t place x (Going line lines) good at = good-going steps stay limit w t place x line good at
+good-progress steps stay limit w t place x (Going line tried lines) good at = good-going steps stay limit w t place x line good at
 good-progress steps stay limit w t place x (Over outcome) good at = good-ending steps stay w t place x outcome good
 
 good-candidate : Steps → LimitsStay → (limit : ℕ) (w : World) (t : Turns) (candidate : ℕ) → IsGood w t → IsGood w (candidate_turn limit t candidate)

@@ -10,5 +10,6 @@ pub mod Started
 pub mod ScheduleLoop
 mod Calling
 mod Transcribing
-mod CommandWords
 mod Answering
+mod LineCounts
+mod ToldInputs

@@ -14,7 +14,7 @@ use Rattle.gaspi_types.specs.declared.events.Event.TheVariants.{Called, Take, Pu
 use Rattle.gaspi_model.specs.Step.{reached, room_taken, own_calls, is_active}
 use Rattle.gaspi_model.specs.declared.states.State.{State}
 use Rattle.gaspi_model.proofs.Tables.{slice_get-set_same, slice_get-set_other}
-use Rattle.rank_script.specs.Runs.{Progress, Going, Over, going_on, stopped, is_stuck, Follows, IsRun}
+use Rattle.rank_script.specs.Runs.{Progress, Going, Over, going_on, advanced, stopped, is_stuck, is_repeated, is_failed, Follows, IsRun}
 use Rattle.rank_script.specs.WorldText.{is_script_of}
 use Rattle.rank_script.specs.declared.scripts.Script.{Script}
 use Rattle.rank_script.specs.declared.scripts.ScriptLine.{ScriptLine}
@@ -92,21 +92,61 @@ count-two {A} p (z ∷ xs) (suc i) (suc j) x y ati atj apart px py =
 
 -- Lines of a script.
 
-over-stays : (outcome : RunOutcome) (pairs : List (Call × Reply)) (line : ScriptLine) (rest : List ScriptLine) → Follows (Over outcome) pairs (Going line rest) → ⊥
-over-stays outcome [] line rest follows = let no : ⊥ = cc in no
-over-stays outcome (pair ∷ pairs) line rest follows = follows
+over-stays : (outcome : RunOutcome) (pairs : List (Call × Reply)) (line : ScriptLine) (tried : ℕ) (rest : List ScriptLine) → Follows (Over outcome) pairs (Going line tried rest) → ⊥
+over-stays outcome [] line tried rest follows = let no : ⊥ = cc in no
+over-stays outcome (pair ∷ pairs) line tried rest follows = follows
+
+-- the lines that a run may still come to, the present one first
+lines-left : Progress → List ScriptLine
+lines-left (Over outcome) = []
+lines-left (Going line tried lines) = line ∷ lines
+
+-- a line that a run may come to after a reply is one that it could come to before
+left-before : (p : Progress) (reply : Reply) (line : ScriptLine) (place : ℕ) → slice_get (lines-left (advanced p reply)) place ≡ Some line
+    → (before : ℕ) × (slice_get (lines-left p) before ≡ Some line)
+unfolding lines-left
+left-before (Over outcome) reply line place at = (place, at)
+left-before (Going first tried lines) reply line place at = stuck-or (is_stuck first reply) at
+  where
+    none : (outcome : RunOutcome) → slice_get (lines-left (Over outcome)) place ≡ Some line → (before : ℕ) × (slice_get (first ∷ lines) before ≡ Some line)
+    none outcome found = absurd (let never : ⊥ = cc in never)
+
+    next : (ls : List ScriptLine) (k : ℕ) → slice_get (lines-left (going_on ls)) k ≡ Some line → slice_get ls k ≡ Some line
+    next [] k e = e
+    next (l ∷ ls) k e = e
+
+    failed-or : (b : Bool) → slice_get (lines-left (if b then Over (outcomes.Failed first.number) else going_on lines)) place ≡ Some line
+        → (before : ℕ) × (slice_get (first ∷ lines) before ≡ Some line)
+    failed-or true e = none (outcomes.Failed first.number) e
+    failed-or false e = (suc place, next lines place e)
+
+    repeated-or : (b : Bool) → slice_get (lines-left (if b then Going first (tried + 1) lines else (if is_failed first reply then Over (outcomes.Failed first.number) else going_on lines))) place ≡ Some line
+        → (before : ℕ) × (slice_get (first ∷ lines) before ≡ Some line)
+    repeated-or true e = (place, e)
+    repeated-or false e = failed-or (is_failed first reply) e
+
+    stuck-or : (b : Bool) → slice_get (lines-left (if b then Over (outcomes.Stuck first.number) else (if is_repeated first tried reply then Going first (tried + 1) lines
+        else (if is_failed first reply then Over (outcomes.Failed first.number) else going_on lines)))) place ≡ Some line
+        → (before : ℕ) × (slice_get (first ∷ lines) before ≡ Some line)
+    stuck-or true e = none (outcomes.Stuck first.number) e
+    stuck-or false e = repeated-or (is_repeated first tried reply) e
+
+-- a line that a run comes to is one that it could come to
+line-left : (p : Progress) (pairs : List (Call × Reply)) (line : ScriptLine) (tried : ℕ) (rest : List ScriptLine) → Follows p pairs (Going line tried rest)
+    → (place : ℕ) × (slice_get (lines-left p) place ≡ Some line)
+unfolding lines-left
+line-left p [] line tried rest follows = (0, subst (λ (q : Progress). slice_get (lines-left q) 0 ≡ Some line) follows refl)
+line-left (Over outcome) (pair ∷ pairs) line tried rest follows = absurd follows
+line-left (Going first made lines) (pair ∷ pairs) line tried rest follows =
+    let later = line-left (advanced (Going first made lines) pair.1) pairs line tried rest follows.1 in
+    left-before (Going first made lines) pair.1 line later.0 later.1
 
 -- a line that a run comes to is one of the script's
-pub line-there : (lines : List ScriptLine) (pairs : List (Call × Reply)) (line : ScriptLine) (rest : List ScriptLine) → Follows (going_on lines) pairs (Going line rest)
+pub line-there : (lines : List ScriptLine) (pairs : List (Call × Reply)) (line : ScriptLine) (tried : ℕ) (rest : List ScriptLine) → Follows (going_on lines) pairs (Going line tried rest)
     → (place : ℕ) × (slice_get lines place ≡ Some line)
-line-there [] pairs line rest follows = absurd (over-stays outcomes.Ended pairs line rest follows)
-line-there (l ∷ lines) [] line rest follows = (0, (let same : ◌≡◌ {A = Progress} (Going line rest) (Going l lines) = follows in let one : line ≡ l = cc in ap (λ (x : ScriptLine). Some x) (sym one)))
-line-there (l ∷ lines) (pair ∷ pairs) line rest follows = go (is_stuck l pair.1) follows.1 (λ f. line-there lines pairs line rest f)
-  where
-    go : (b : Bool) → Follows (if b then Over (outcomes.Stuck l.number) else going_on lines) pairs (Going line rest)
-        → (Follows (going_on lines) pairs (Going line rest) → (place : ℕ) × (slice_get lines place ≡ Some line)) → (place : ℕ) × (slice_get (l ∷ lines) place ≡ Some line)
-    go true f later = absurd (over-stays (outcomes.Stuck l.number) pairs line rest f)
-    go false f later = let found = later f in (suc found.0, found.1)
+unfolding lines-left
+line-there [] pairs line tried rest follows = absurd (over-stays outcomes.Ended pairs line tried rest follows)
+line-there (l ∷ lines) pairs line tried rest follows = line-left (Going l 0 lines) pairs line tried rest follows
 
 pub find-there : {A : Type 0} (p : A → Bool) (xs : List A) (x : A) → find p xs ≡ Some x → (k : ℕ) × (slice_get xs k ≡ Some x)
 find-there p [] x h = absurd (let no : ⊥ = cc in no)
@@ -121,8 +161,9 @@ find-there {A} p (y ∷ xs) x h = go (p y) h (λ e. find-there p xs x e)
 -- it was stopped before a line, since its rank had no room after the history that all its calls stand in
 pub record WasStopped (w : World) (journal : List Event) (c : CallerId) (lines : List ScriptLine) (outcome : RunOutcome) : Type 0 where
   pub line : ScriptLine
+  pub tried : ℕ
   pub rest : List ScriptLine
-  pub follows : Follows (going_on lines) (own_calls c.rank c.thread journal) (Going line rest)
+  pub follows : Follows (going_on lines) (own_calls c.rank c.thread journal) (Going line tried rest)
   pub limit : outcome ≡ outcomes.Limit line.number
   pub before : List Event
   pub later : List Event
@@ -157,8 +198,9 @@ stopped-more w journal e c lines outcome foreign s =
     let same : own_calls c.rank c.thread (journal ++ e ∷ []) ≡ own_calls c.rank c.thread journal = own_calls-append c.rank c.thread journal (e ∷ []) ∙ rw foreign (append-nil _) in
     record {
       line = s.line;
+      tried = s.tried;
       rest = s.rest;
-      follows = subst (λ (ps : List (Call × Reply)). Follows (going_on lines) ps (Going s.line s.rest)) (sym same) s.follows;
+      follows = subst (λ (ps : List (Call × Reply)). Follows (going_on lines) ps (Going s.line s.tried s.rest)) (sym same) s.follows;
       limit = s.limit;
       before = s.before;
       later = s.later ++ e ∷ [];
@@ -179,6 +221,7 @@ come-more w journal e c lines p foreign (inr stopped) = inr (stopped.0, stopped.
 limit-more : (w : World) (journal : List Event) (e : Event) (c : CallerId) (lines : List ScriptLine) (outcome : RunOutcome) → own_of c.rank c.thread e ≡ []
     → HasLimitCause w journal c lines outcome → HasLimitCause w (journal ++ e ∷ []) c lines outcome
 limit-more w journal e c lines outcomes.Ended foreign h = tt
+limit-more w journal e c lines (outcomes.Failed number) foreign h = tt
 limit-more w journal e c lines (outcomes.Stuck number) foreign h = tt
 limit-more w journal e c lines (outcomes.NoMemory number) foreign h = h
 limit-more w journal e c lines (outcomes.Limit number) foreign h =

@@ -73,56 +73,56 @@ all-at : {X : Type 0} (P : X → Type 0) (xs : List X) (place : ℕ) (x : X) →
 all-at P xs place x all at = subst P (get_or_from_slice_get xs place x x at) (All-get_or P xs place x (slice_get_within xs place x at) all)
 
 -- the present line of a caller is one of its script, and makes no end
-plain-line : (w : World) (scripts : List Script) (journal : List Event) (x : Waiting) (line : ScriptLine) (lines : List ScriptLine) → ArePlain scripts → Goes w scripts journal x → x.cursor ≡ Going line lines → is_end line.call ≡ false
-plain-line w scripts journal x line lines plain g going = by-come g.come
+plain-line : (w : World) (scripts : List Script) (journal : List Event) (x : Waiting) (line : ScriptLine) (tried : ℕ) (lines : List ScriptLine) → ArePlain scripts → Goes w scripts journal x → x.cursor ≡ Going line tried lines → is_end line.call ≡ false
+plain-line w scripts journal x line tried lines plain g going = by-come g.come
   where
     by-come : HasCome w journal x.caller g.script.lines x.cursor → is_end line.call ≡ false
     by-come (inl f) =
         let follows = subst (λ (p : Progress). Follows (going_on g.script.lines) (own_calls x.caller.rank x.caller.thread journal) p) going f in
-        let there = line-there g.script.lines (own_calls x.caller.rank x.caller.thread journal) line lines follows in
+        let there = line-there g.script.lines (own_calls x.caller.rank x.caller.thread journal) line tried lines follows in
         let script = find-there _ scripts g.script g.is_script in
         not-end line.call (all-at IsPlain g.script.lines there.0 line (all-at HasPlainLines scripts script.0 g.script plain script.1) there.1)
-    by-come (inr stopped) = absurd (let over : ◌≡◌ {A = Progress} (Going line lines) (Over stopped.0) = sym going ∙ stopped.1 in let no : ⊥ = cc in no)
+    by-come (inr stopped) = absurd (let over : ◌≡◌ {A = Progress} (Going line tried lines) (Over stopped.0) = sym going ∙ stopped.1 in let no : ⊥ = cc in no)
 
 ok-state : (r : Result State Why) → IsOk r → (s : State) × (r ≡ Ok s)
 ok-state (Ok s) h = (s, refl)
 ok-state (Err why) h = absurd (let no : ⊥ = cc in no)
 
 -- a reply recorded
-recorded-running : Laws → (w : World) (scripts : List Script) (t : Turns) (place : ℕ) (x : Waiting) (line : ScriptLine) (lines : List ScriptLine) (found : Ready) → ArePlain scripts → IsGood w t → IsRunning w scripts t
-    → slice_get t.waiting place ≡ Some x → x.cursor ≡ Going line lines → room_taken t.state x.caller.rank + need_of line.call false false ≤ t.state.limits.events
+recorded-running : Laws → (w : World) (scripts : List Script) (t : Turns) (place : ℕ) (x : Waiting) (line : ScriptLine) (tried : ℕ) (lines : List ScriptLine) (found : Ready) → ArePlain scripts → IsGood w t → IsRunning w scripts t
+    → slice_get t.waiting place ≡ Some x → x.cursor ≡ Going line tried lines → room_taken t.state x.caller.rank + need_of line.call false false ≤ t.state.limits.events
     → answer_in t.state x.caller.rank x.caller.thread line.call ≡ Some found → IsRunning w scripts (recorded t place x line.call (recorded_reply found))
-recorded-running laws w scripts t place x line lines found plain good running at going room answers =
+recorded-running laws w scripts t place x line tried lines found plain good running at going room answers =
     let ok = ok-state (step t.state (Called x.caller line.call (recorded_reply found))) (laws.calls t.state x.caller.rank x.caller.thread line.call found good.sound (running.active place x at) room answers) in
-    let made = called-step laws.active laws.onward w scripts t place x line lines (recorded_reply found) ok.0 running at going (plain-line w scripts t.journal x line lines plain (running.goes place x at) going) ok.1 in
+    let made = called-step laws.active laws.onward w scripts t place x line tried lines (recorded_reply found) ok.0 running at going (plain-line w scripts t.journal x line tried lines plain (running.goes place x at) going) ok.1 in
     rw ok.1 made
 
-looked-running : Laws → (limit : ℕ) (w : World) (scripts : List Script) (t : Turns) (place : ℕ) (x : Waiting) (line : ScriptLine) (lines : List ScriptLine) → ArePlain scripts → IsGood w t → IsRunning w scripts t
-    → slice_get t.waiting place ≡ Some x → x.cursor ≡ Going line lines → room_taken t.state x.caller.rank + need_of line.call false false ≤ t.state.limits.events
+looked-running : Laws → (limit : ℕ) (w : World) (scripts : List Script) (t : Turns) (place : ℕ) (x : Waiting) (line : ScriptLine) (tried : ℕ) (lines : List ScriptLine) → ArePlain scripts → IsGood w t → IsRunning w scripts t
+    → slice_get t.waiting place ≡ Some x → x.cursor ≡ Going line tried lines → room_taken t.state x.caller.rank + need_of line.call false false ≤ t.state.limits.events
     → answer_in t.state x.caller.rank x.caller.thread line.call ≡ Some ready.NotReady → IsRunning w scripts (looked limit t place x line)
-looked-running laws limit w scripts t place x line lines plain good running at going room answers = go (nat_le (looks_of limit line.timeout) (x.looks + 1)) refl
+looked-running laws limit w scripts t place x line tried lines plain good running at going room answers = go (nat_le (looks_of limit line.timeout) (x.looks + 1)) refl
   where
     go : (b : Bool) → nat_le (looks_of limit line.timeout) (x.looks + 1) ≡ b → IsRunning w scripts (looked limit t place x line)
-    go true last = rw last (recorded-running laws w scripts t place x line lines ready.NotReady plain good running at going room answers)
+    go true last = rw last (recorded-running laws w scripts t place x line tried lines ready.NotReady plain good running at going room answers)
     go false more =
         let x' : Waiting = record { caller = x.caller; cursor = x.cursor; looks = x.looks + 1 } in
         let g = running.goes place x at in
         rw more (waiting-changed w scripts t place x x' running at refl (record { script = g.script; is_script = g.is_script; come = g.come }))
 
-answered-running : Laws → (limit : ℕ) (w : World) (scripts : List Script) (t : Turns) (place : ℕ) (x : Waiting) (line : ScriptLine) (lines : List ScriptLine) (found : Option Ready) → ArePlain scripts → IsGood w t → IsRunning w scripts t
-    → slice_get t.waiting place ≡ Some x → x.cursor ≡ Going line lines → room_taken t.state x.caller.rank + need_of line.call false false ≤ t.state.limits.events
+answered-running : Laws → (limit : ℕ) (w : World) (scripts : List Script) (t : Turns) (place : ℕ) (x : Waiting) (line : ScriptLine) (tried : ℕ) (lines : List ScriptLine) (found : Option Ready) → ArePlain scripts → IsGood w t → IsRunning w scripts t
+    → slice_get t.waiting place ≡ Some x → x.cursor ≡ Going line tried lines → room_taken t.state x.caller.rank + need_of line.call false false ≤ t.state.limits.events
     → answer_in t.state x.caller.rank x.caller.thread line.call ≡ found → IsRunning w scripts (answered limit t place x line found)
-answered-running laws limit w scripts t place x line lines None plain good running at going room answers = running
-answered-running laws limit w scripts t place x line lines (Some (ready.Reply reply)) plain good running at going room answers =
-    recorded-running laws w scripts t place x line lines (ready.Reply reply) plain good running at going room answers
-answered-running laws limit w scripts t place x line lines (Some ready.NotReady) plain good running at going room answers =
-    looked-running laws limit w scripts t place x line lines plain good running at going room answers
+answered-running laws limit w scripts t place x line tried lines None plain good running at going room answers = running
+answered-running laws limit w scripts t place x line tried lines (Some (ready.Reply reply)) plain good running at going room answers =
+    recorded-running laws w scripts t place x line tried lines (ready.Reply reply) plain good running at going room answers
+answered-running laws limit w scripts t place x line tried lines (Some ready.NotReady) plain good running at going room answers =
+    looked-running laws limit w scripts t place x line tried lines plain good running at going room answers
 
 -- a run that is stopped, since there is no room
-stopped-goes : (w : World) (scripts : List Script) (t : Turns) (x : Waiting) (line : ScriptLine) (lines : List ScriptLine) → IsGood w t → Goes w scripts t.journal x → x.cursor ≡ Going line lines
+stopped-goes : (w : World) (scripts : List Script) (t : Turns) (x : Waiting) (line : ScriptLine) (tried : ℕ) (lines : List ScriptLine) → IsGood w t → Goes w scripts t.journal x → x.cursor ≡ Going line tried lines
     → t.state.limits.events < room_taken t.state x.caller.rank + need_of line.call false false
     → Goes w scripts t.journal (record { caller = x.caller; cursor = stopped x.cursor halts.Limit; looks = 0 })
-stopped-goes w scripts t x line lines good g going full = record {
+stopped-goes w scripts t x line tried lines good g going full = record {
   script = g.script;
   is_script = g.is_script;
   come = inr (
@@ -130,6 +130,7 @@ stopped-goes w scripts t x line lines good g going full = record {
     ap (λ (p : Progress). stopped p halts.Limit) going,
     record {
       line = line;
+      tried = tried;
       rest = lines;
       follows = follows g.come;
       limit = refl;
@@ -144,22 +145,22 @@ stopped-goes w scripts t x line lines good g going full = record {
   );
 }
   where
-    follows : HasCome w t.journal x.caller g.script.lines x.cursor → Follows (going_on g.script.lines) (own_calls x.caller.rank x.caller.thread t.journal) (Going line lines)
+    follows : HasCome w t.journal x.caller g.script.lines x.cursor → Follows (going_on g.script.lines) (own_calls x.caller.rank x.caller.thread t.journal) (Going line tried lines)
     follows (inl f) = subst (λ (p : Progress). Follows (going_on g.script.lines) (own_calls x.caller.rank x.caller.thread t.journal) p) going f
-    follows (inr stopped) = absurd (let over : ◌≡◌ {A = Progress} (Going line lines) (Over stopped.0) = sym going ∙ stopped.1 in let no : ⊥ = cc in no)
+    follows (inr stopped) = absurd (let over : ◌≡◌ {A = Progress} (Going line tried lines) (Over stopped.0) = sym going ∙ stopped.1 in let no : ⊥ = cc in no)
 
-going-running : Laws → (limit : ℕ) (w : World) (scripts : List Script) (t : Turns) (place : ℕ) (x : Waiting) (line : ScriptLine) (lines : List ScriptLine) → ArePlain scripts → IsGood w t → IsRunning w scripts t
-    → slice_get t.waiting place ≡ Some x → x.cursor ≡ Going line lines → IsRunning w scripts (going_turn limit t place x line)
-going-running laws limit w scripts t place x line lines plain good running at going = go (nat_lt t.state.limits.events (room_taken t.state x.caller.rank + need_of line.call false false)) refl
+going-running : Laws → (limit : ℕ) (w : World) (scripts : List Script) (t : Turns) (place : ℕ) (x : Waiting) (line : ScriptLine) (tried : ℕ) (lines : List ScriptLine) → ArePlain scripts → IsGood w t → IsRunning w scripts t
+    → slice_get t.waiting place ≡ Some x → x.cursor ≡ Going line tried lines → IsRunning w scripts (going_turn limit t place x line)
+going-running laws limit w scripts t place x line tried lines plain good running at going = go (nat_lt t.state.limits.events (room_taken t.state x.caller.rank + need_of line.call false false)) refl
   where
     go : (b : Bool) → nat_lt t.state.limits.events (room_taken t.state x.caller.rank + need_of line.call false false) ≡ b → IsRunning w scripts (going_turn limit t place x line)
     go true full =
         let x' : Waiting = record { caller = x.caller; cursor = stopped x.cursor halts.Limit; looks = 0 } in
         rw full (waiting-changed w scripts t place x x' running at refl
-        (stopped-goes w scripts t x line lines good (running.goes place x at) going (ltb-true t.state.limits.events (room_taken t.state x.caller.rank + need_of line.call false false) full)))
+        (stopped-goes w scripts t x line tried lines good (running.goes place x at) going (ltb-true t.state.limits.events (room_taken t.state x.caller.rank + need_of line.call false false) full)))
     go false room =
         let fits = ltb-false t.state.limits.events (room_taken t.state x.caller.rank + need_of line.call false false) room in
-        rw room (answered-running laws limit w scripts t place x line lines (answer_in t.state x.caller.rank x.caller.thread line.call) plain good running at going fits refl)
+        rw room (answered-running laws limit w scripts t place x line tried lines (answer_in t.state x.caller.rank x.caller.thread line.call) plain good running at going fits refl)
 
 -- an active caller's end is answered
 end-answer : (s : State) (rank thread : ℕ) → IsSound s → rank < s.limits.ranks → is_active s rank thread ≡ true → answer_in s rank thread End ≡ Some (ready.Reply replies.Done)
@@ -194,8 +195,8 @@ caller-running : Laws → (limit : ℕ) (w : World) (scripts : List Script) (t :
 caller-running laws limit w scripts t place x plain good running at = go x.cursor refl
   where
     go : (p : Progress) → x.cursor ≡ p → IsRunning w scripts (caller_turn limit t place x)
-    go (Going line lines) is =
-        subst (λ (u : Turns). IsRunning w scripts u) (sym (ap (λ (p : Progress). progress_turn limit t place x p) is)) (going-running laws limit w scripts t place x line lines plain good running at is)
+    go (Going line tried lines) is =
+        subst (λ (u : Turns). IsRunning w scripts u) (sym (ap (λ (p : Progress). progress_turn limit t place x p) is)) (going-running laws limit w scripts t place x line tried lines plain good running at is)
     go (Over outcome) is =
         subst (λ (u : Turns). IsRunning w scripts u) (sym (ap (λ (p : Progress). progress_turn limit t place x p) is)) (ending-running laws w scripts t place x outcome good running at is)
 

@@ -14,7 +14,7 @@ use Rattle.gaspi_types.specs.declared.events.Event.TheVariants.{Called}
 use Rattle.gaspi_model.specs.Step.{step, own_calls, is_active, ends_caller}
 use Rattle.gaspi_model.specs.declared.states.State.{State}
 use Rattle.gaspi_model.proofs.Tables.{append-parts}
-use Rattle.rank_script.specs.Runs.{Progress, Going, Over, going_on, is_stuck, Follows, IsRun, IsStopped, end_pair}
+use Rattle.rank_script.specs.Runs.{Progress, Going, Over, going_on, advanced, is_stuck, is_repeated, is_failed, Follows, IsRun, IsStopped, end_pair}
 use Rattle.rank_script.specs.declared.scripts.Script.{Script}
 use Rattle.rank_script.specs.declared.scripts.ScriptLine.{ScriptLine}
 use Rattle.rank_script.specs.declared.scripts.RunOutcome.{RunOutcome}
@@ -30,8 +30,8 @@ abbrev pub EndsRun : Type 0
 EndsRun = (lines : List ScriptLine) (pairs : List (Call × Reply)) (outcome : RunOutcome) → Follows (going_on lines) pairs (Over outcome) → IsRun lines (pairs ++ end_pair) outcome
 
 abbrev pub StopsRun : Type 0
-StopsRun = (lines : List ScriptLine) (pairs : List (Call × Reply)) (line : ScriptLine) (rest : List ScriptLine) (outcome : RunOutcome)
-    → Follows (going_on lines) pairs (Going line rest) → IsStopped line.number outcome → IsRun lines (pairs ++ end_pair) outcome
+StopsRun = (lines : List ScriptLine) (pairs : List (Call × Reply)) (line : ScriptLine) (tried : ℕ) (rest : List ScriptLine) (outcome : RunOutcome)
+    → Follows (going_on lines) pairs (Going line tried rest) → IsStopped line.number outcome → IsRun lines (pairs ++ end_pair) outcome
 
 -- what stands in a list with an item taken out stood in it, at another place
 remove-apart : {A : Type 0} (xs : List A) (i j : ℕ) (y : A) → slice_get (remove xs i) j ≡ Some y → (k : ℕ) × (i ≡ k → ⊥) × (slice_get xs k ≡ Some y)
@@ -41,20 +41,60 @@ remove-apart (x ∷ xs) zero j y at = (suc j, (λ e. omega (arith, e)), at)
 remove-apart (x ∷ xs) (suc i) zero y at = (0, (λ e. omega (arith, e)), at)
 remove-apart (x ∷ xs) (suc i) (suc j) y at = let rest = remove-apart xs i j y at in (suc rest.0, (λ e. rest.1 (omega (arith, e))), rest.2)
 
+-- an outcome that no want of room leads to
+IsFree : RunOutcome → Type 0
+IsFree outcomes.Ended = Unit {0}
+IsFree (outcomes.Failed number) = Unit {0}
+IsFree (outcomes.Stuck number) = Unit {0}
+IsFree (outcomes.Limit number) = ⊥
+IsFree (outcomes.NoMemory number) = ⊥
+
+-- a run that goes on, or that is over by itself
+GoesFree : Progress → Type 0
+GoesFree (Over outcome) = IsFree outcome
+GoesFree (Going line tried lines) = Unit {0}
+
+free-cause : (w : World) (journal : List Event) (c : CallerId) (all : List ScriptLine) (outcome : RunOutcome) → IsFree outcome → HasLimitCause w journal c all outcome
+unfolding IsFree
+free-cause w journal c all outcomes.Ended free = tt
+free-cause w journal c all (outcomes.Failed number) free = tt
+free-cause w journal c all (outcomes.Stuck number) free = tt
+free-cause w journal c all (outcomes.Limit number) free = absurd free
+free-cause w journal c all (outcomes.NoMemory number) free = absurd free
+
+free-on : (lines : List ScriptLine) → GoesFree (going_on lines)
+unfolding GoesFree IsFree
+free-on [] = tt
+free-on (line ∷ lines) = tt
+
+free-advanced : (line : ScriptLine) (tried : ℕ) (lines : List ScriptLine) (reply : Reply) → GoesFree (advanced (Going line tried lines) reply)
+unfolding GoesFree IsFree
+free-advanced line tried lines reply = stuck-or (is_stuck line reply)
+  where
+    failed-or : (b : Bool) → GoesFree (if b then Over (outcomes.Failed line.number) else going_on lines)
+    failed-or true = tt
+    failed-or false = free-on lines
+
+    repeated-or : (b : Bool) → GoesFree (if b then Going line (tried + 1) lines else (if is_failed line reply then Over (outcomes.Failed line.number) else going_on lines))
+    repeated-or true = tt
+    repeated-or false = failed-or (is_failed line reply)
+
+    stuck-or : (b : Bool) → GoesFree (if b then Over (outcomes.Stuck line.number) else (if is_repeated line tried reply then Going line (tried + 1) lines
+        else (if is_failed line reply then Over (outcomes.Failed line.number) else going_on lines)))
+    stuck-or true = tt
+    stuck-or false = repeated-or (is_repeated line tried reply)
+
 -- a run that pairs alone led to its end was not stopped
-over-cause : (w : World) (journal : List Event) (c : CallerId) (all : List ScriptLine) (made outcome : RunOutcome) (pairs : List (Call × Reply)) → HasLimitCause w journal c all made → Follows (Over made) pairs (Over outcome) → HasLimitCause w journal c all outcome
-over-cause w journal c all made outcome [] cause follows = let same : outcome ≡ made = cc in subst (λ (o : RunOutcome). HasLimitCause w journal c all o) (sym same) cause
-over-cause w journal c all made outcome (pair ∷ pairs) cause follows = absurd follows
+free-end : (p : Progress) (pairs : List (Call × Reply)) (outcome : RunOutcome) → GoesFree p → Follows p pairs (Over outcome) → IsFree outcome
+unfolding GoesFree
+free-end p [] outcome free follows = subst GoesFree (sym follows) free
+free-end (Over made) (pair ∷ pairs) outcome free follows = absurd follows
+free-end (Going line tried lines) (pair ∷ pairs) outcome free follows =
+    free-end (advanced (Going line tried lines) pair.1) pairs outcome (free-advanced line tried lines pair.1) follows.1
 
 follows-cause : (w : World) (journal : List Event) (c : CallerId) (all lines : List ScriptLine) (pairs : List (Call × Reply)) (outcome : RunOutcome) → Follows (going_on lines) pairs (Over outcome) → HasLimitCause w journal c all outcome
-follows-cause w journal c all [] pairs outcome follows = over-cause w journal c all outcomes.Ended outcome pairs tt follows
-follows-cause w journal c all (l ∷ lines) [] outcome follows = absurd (let no : ⊥ = cc in no)
-follows-cause w journal c all (l ∷ lines) (pair ∷ pairs) outcome follows = go (is_stuck l pair.1) follows.1 (λ f. follows-cause w journal c all lines pairs outcome f)
-  where
-    go : (b : Bool) → Follows (if b then Over (outcomes.Stuck l.number) else going_on lines) pairs (Over outcome) → (Follows (going_on lines) pairs (Over outcome) → HasLimitCause w journal c all outcome)
-        → HasLimitCause w journal c all outcome
-    go true f later = over-cause w journal c all (outcomes.Stuck l.number) outcome pairs tt f
-    go false f later = later f
+follows-cause w journal c all lines pairs outcome follows =
+    free-cause w journal c all outcome (free-end (going_on lines) pairs outcome (free-on lines) follows)
 
 -- how a caller has ended
 ended-of : EndsRun → StopsRun → (w : World) (scripts : List Script) (journal : List Event) (x : Waiting) (outcome : RunOutcome) → x.cursor ≡ Over outcome → Goes w scripts journal x
@@ -78,7 +118,7 @@ ended-of ends stops w scripts journal x outcome over g = by-come g.come
         let two : ◌≡◌ {A = Progress} (Over outcome) (Over stopped.0) = sym over ∙ stopped.1 in
         let same : outcome ≡ stopped.0 = cc in
         let limit : outcome ≡ outcomes.Limit s.line.number = same ∙ s.limit in
-        let there = line-there g.script.lines (own_calls x.caller.rank x.caller.thread journal) s.line s.rest s.follows in
+        let there = line-there g.script.lines (own_calls x.caller.rank x.caller.thread journal) s.line s.tried s.rest s.follows in
         let cause : HasLimitCause w (journal ++ Called x.caller End replies.Done ∷ []) x.caller g.script.lines (outcomes.Limit s.line.number) = (
           there.0,
           s.line,
@@ -98,7 +138,7 @@ ended-of ends stops w scripts journal x outcome over g = by-come g.come
           script = g.script;
           is_script = g.is_script;
           run = subst (λ (ps : List (Call × Reply)). IsRun g.script.lines ps outcome) (sym pairs-is)
-              (stops g.script.lines (own_calls x.caller.rank x.caller.thread journal) s.line s.rest outcome s.follows (inl limit));
+              (stops g.script.lines (own_calls x.caller.rank x.caller.thread journal) s.line s.tried s.rest outcome s.follows (inl limit));
           limit = subst (λ (o : RunOutcome). HasLimitCause w (journal ++ Called x.caller End replies.Done ∷ []) x.caller g.script.lines o) (sym limit) cause;
         }
 

@@ -27,8 +27,8 @@ abbrev pub ActiveStays : Type 0
 ActiveStays = (s t : State) (e : Event) (rank thread : ℕ) → step s e ≡ Ok t → ends_caller rank thread e ≡ false → is_active t rank thread ≡ is_active s rank thread
 
 abbrev pub Onward : Type 0
-Onward = (p : Progress) (pairs : List (Call × Reply)) (line : ScriptLine) (lines : List ScriptLine) (reply : Reply)
-    → Follows p pairs (Going line lines) → Follows p (pairs ++ (line.call, reply) ∷ []) (advanced (Going line lines) reply)
+Onward = (p : Progress) (pairs : List (Call × Reply)) (line : ScriptLine) (tried : ℕ) (lines : List ScriptLine) (reply : Reply)
+    → Follows p pairs (Going line tried lines) → Follows p (pairs ++ (line.call, reply) ∷ []) (advanced (Going line tried lines) reply)
 
 -- an event of no caller
 pub foreign-step : ActiveStays → (w : World) (scripts : List Script) (t : Turns) (e : Event) (s : State) → IsRunning w scripts t → step t.state e ≡ Ok s
@@ -111,25 +111,25 @@ pub own-more : (w : World) (journal : List Event) (c : CallerId) (call : Call) (
 own-more w journal c call reply = own_calls-append c.rank c.thread journal (Called c call reply ∷ []) ∙ ap (λ (ps : List (Call × Reply)). own_calls c.rank c.thread journal ++ ps) (own-same c call reply)
 
 -- the run of a caller whose present call was recorded
-goes-on : Onward → (w : World) (scripts : List Script) (journal : List Event) (x : Waiting) (line : ScriptLine) (lines : List ScriptLine) (reply : Reply) → x.cursor ≡ Going line lines → Goes w scripts journal x
+goes-on : Onward → (w : World) (scripts : List Script) (journal : List Event) (x : Waiting) (line : ScriptLine) (tried : ℕ) (lines : List ScriptLine) (reply : Reply) → x.cursor ≡ Going line tried lines → Goes w scripts journal x
     → Goes w scripts (journal ++ Called x.caller line.call reply ∷ []) (record { caller = x.caller; cursor = advanced x.cursor reply; looks = 0 })
-goes-on onward w scripts journal x line lines reply going g = record {
+goes-on onward w scripts journal x line tried lines reply going g = record {
   script = g.script;
   is_script = g.is_script;
   come = inl (subst (λ (ps : List (Call × Reply)). Follows (going_on g.script.lines) ps (advanced x.cursor reply)) (sym (own-more w journal x.caller line.call reply))
       (subst (λ (p : Progress). Follows (going_on g.script.lines) (own_calls x.caller.rank x.caller.thread journal ++ (line.call, reply) ∷ []) (advanced p reply)) (sym going)
-      (onward (going_on g.script.lines) (own_calls x.caller.rank x.caller.thread journal) line lines reply (follows g.come))));
+      (onward (going_on g.script.lines) (own_calls x.caller.rank x.caller.thread journal) line tried lines reply (follows g.come))));
 }
   where
-    follows : HasCome w journal x.caller g.script.lines x.cursor → Follows (going_on g.script.lines) (own_calls x.caller.rank x.caller.thread journal) (Going line lines)
+    follows : HasCome w journal x.caller g.script.lines x.cursor → Follows (going_on g.script.lines) (own_calls x.caller.rank x.caller.thread journal) (Going line tried lines)
     follows (inl f) = subst (λ (p : Progress). Follows (going_on g.script.lines) (own_calls x.caller.rank x.caller.thread journal) p) going f
-    follows (inr stopped) = absurd (let over : ◌≡◌ {A = Progress} (Going line lines) (Over stopped.0) = sym going ∙ stopped.1 in let no : ⊥ = cc in no)
+    follows (inr stopped) = absurd (let over : ◌≡◌ {A = Progress} (Going line tried lines) (Over stopped.0) = sym going ∙ stopped.1 in let no : ⊥ = cc in no)
 
 -- a call of the present line, recorded
-pub called-step : ActiveStays → Onward → (w : World) (scripts : List Script) (t : Turns) (place : ℕ) (x : Waiting) (line : ScriptLine) (lines : List ScriptLine) (reply : Reply) (s : State)
-    → IsRunning w scripts t → slice_get t.waiting place ≡ Some x → x.cursor ≡ Going line lines → is_end line.call ≡ false → step t.state (Called x.caller line.call reply) ≡ Ok s
+pub called-step : ActiveStays → Onward → (w : World) (scripts : List Script) (t : Turns) (place : ℕ) (x : Waiting) (line : ScriptLine) (tried : ℕ) (lines : List ScriptLine) (reply : Reply) (s : State)
+    → IsRunning w scripts t → slice_get t.waiting place ≡ Some x → x.cursor ≡ Going line tried lines → is_end line.call ≡ false → step t.state (Called x.caller line.call reply) ≡ Ok s
     → IsRunning w scripts (record t { state = s; waiting = slice_set t.waiting place (record { caller = x.caller; cursor = advanced x.cursor reply; looks = 0 }); journal = t.journal ++ Called x.caller line.call reply ∷ [] })
-called-step stays onward w scripts t place x line lines reply s running at going plain is = record {
+called-step stays onward w scripts t place x line tried lines reply s running at going plain is = record {
   active = λ q y here. active-at q y (set-cases t.waiting place q x (record { caller = x.caller; cursor = advanced x.cursor reply; looks = 0 }) y at here);
   goes = λ q y here. goes-at q y (set-cases t.waiting place q x (record { caller = x.caller; cursor = advanced x.cursor reply; looks = 0 }) y at here);
   ended = λ k f here. ended-more w scripts t.journal (Called x.caller line.call reply) f (own-other f.caller.rank f.caller.thread x.caller line.call reply (apart-finished w scripts t place k x f running at here)) (running.ended k f here);
@@ -145,7 +145,7 @@ called-step stays onward w scripts t place x line lines reply s running at going
     active-at q y (inr there) = stays t.state s (Called x.caller line.call reply) y.caller.rank y.caller.thread is (ends y.caller.rank y.caller.thread) ∙ running.active q y there.1
 
     goes-at : (q : ℕ) (y : Waiting) → ((q ≡ place) × (y ≡ record { caller = x.caller; cursor = advanced x.cursor reply; looks = 0 })) ⊎ ((place ≡ q → ⊥) × (slice_get t.waiting q ≡ Some y)) → Goes w scripts (t.journal ++ Called x.caller line.call reply ∷ []) y
-    goes-at q y (inl here) = subst (λ (z : Waiting). Goes w scripts (t.journal ++ Called x.caller line.call reply ∷ []) z) (sym here.1) (goes-on onward w scripts t.journal x line lines reply going (running.goes place x at))
+    goes-at q y (inl here) = subst (λ (z : Waiting). Goes w scripts (t.journal ++ Called x.caller line.call reply ∷ []) z) (sym here.1) (goes-on onward w scripts t.journal x line tried lines reply going (running.goes place x at))
     goes-at q y (inr there) =
         let g = running.goes q y there.1 in
         record {

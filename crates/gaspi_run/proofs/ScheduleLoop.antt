@@ -1,5 +1,5 @@
 -- The loop of the schedule.
-use Rattle.std.proofs.Common.{◌≡◌, ℕ, suc, ◌<◌, ◌≤◌, Bool, true, false, ◌&&◌, ◌==◌, List, [], ◌∷◌, length, map, cond, count_by, Option, None, Some, Ok, inl, inr, refl, sym, ap, ◌∙◌, subst, arith}
+use Rattle.std.proofs.Common.{◌≡◌, ℕ, suc, ◌+◌, ◌<◌, ◌≤◌, Bool, true, false, ◌&&◌, ◌==◌, List, [], ◌∷◌, length, map, cond, count_by, Option, None, Some, Ok, inl, inr, refl, sym, ap, ◌∙◌, subst, arith}
 use Rattle.std.specs.Prelude.{MatchBool}
 use Rattle.std.specs.List.{slice_get, list_any}
 use Rattle.std.proofs.lemmas.Bool.{eqb-true}
@@ -22,7 +22,7 @@ use Rattle.gaspi_model.specs.declared.states.ThreadState.{ThreadState}
 use Rattle.gaspi_model.specs.declared.states.ThreadState.TheVariants.{Absent, Running, Ended}
 use Rattle.gaspi_model.specs.declared.states.State.{State}
 use Rattle.rank_script.specs.PlainScripts.{ArePlain}
-use Rattle.rank_script.specs.Runs.{is_stuck, end_pair, IsRun}
+use Rattle.rank_script.specs.Runs.{is_stuck, is_repeated, is_failed, end_pair, IsRunFrom, IsRun}
 use Rattle.rank_script.specs.WorldText.{AreScriptsOf}
 use Rattle.rank_script.specs.declared.scripts.Script.{Script}
 use Rattle.rank_script.specs.declared.scripts.ScriptLine.{ScriptLine}
@@ -154,17 +154,32 @@ pub record EndLaws : Type 0 where
   pub endings : (w : World) (history : List Event) (s : State) (rank thread : ℕ) → reached w history ≡ Ok s → is_active s rank thread ≡ true
       → (list_any (is_caller rank thread) w.callers ≡ true) × ((k : ℕ) (reply : Reply) → slice_get (own_calls rank thread history) k ≡ Some (End, reply) → ⊥)
 
+-- what a whole run has among its pairs
+abbrev HasEndAt : List (Call × Reply) → Type 0
+HasEndAt pairs = (k : ℕ) × (slice_get pairs k ≡ Some (End, replies.Done))
+
+end-first : (pairs : List (Call × Reply)) → pairs ≡ end_pair → HasEndAt pairs
+end-first pairs is = (0, ap (λ (ps : List (Call × Reply)). slice_get ps 0) is)
+
+-- of what may follow a reply, the case that comes has the end
+end-after : (stuck repeated failed : Bool) (pairs : List (Call × Reply)) (Stuck Failed Again Later : Type 0) → (Again → HasEndAt pairs) → (Later → HasEndAt pairs)
+    → MatchBool stuck ((pairs ≡ end_pair) × Stuck) (MatchBool repeated Again (MatchBool failed ((pairs ≡ end_pair) × Failed) Later)) → HasEndAt pairs
+end-after true repeated failed pairs Stuck Failed Again Later again later h = end-first pairs h.0
+end-after false true failed pairs Stuck Failed Again Later again later h = again h
+end-after false false true pairs Stuck Failed Again Later again later h = end-first pairs h.0
+end-after false false false pairs Stuck Failed Again Later again later h = later h
+
 -- a run has the end among its pairs
+run-has-end : (tried : ℕ) (lines : List ScriptLine) (pairs : List (Call × Reply)) (outcome : RunOutcome) → IsRunFrom tried lines pairs outcome → HasEndAt pairs
+run-has-end tried [] pairs outcome h = end-first pairs h.0
+run-has-end tried (line ∷ lines) [] outcome h = absurd h
+run-has-end tried (line ∷ lines) (pair ∷ pairs) outcome (inl h) = end-first (pair ∷ pairs) h.0
+run-has-end tried (line ∷ lines) (pair ∷ pairs) outcome (inr h) =
+    let found = end-after (is_stuck line pair.1) (is_repeated line tried pair.1) (is_failed line pair.1) pairs _ _ _ _ (run-has-end (tried + 1) (line ∷ lines) pairs outcome) (run-has-end 0 lines pairs outcome) h.1 in
+    (suc found.0, found.1)
+
 run-ends : (lines : List ScriptLine) (pairs : List (Call × Reply)) (outcome : RunOutcome) → IsRun lines pairs outcome → (k : ℕ) × (slice_get pairs k ≡ Some (End, replies.Done))
-run-ends [] pairs outcome h = (0, ap (λ (ps : List (Call × Reply)). slice_get ps 0) h.0)
-run-ends (line ∷ lines) [] outcome h = absurd h
-run-ends (line ∷ lines) (pair ∷ pairs) outcome (inl h) = (0, ap (λ (ps : List (Call × Reply)). slice_get ps 0) h.0)
-run-ends (line ∷ lines) (pair ∷ pairs) outcome (inr h) = go (is_stuck line pair.1) h.1 (λ r. run-ends lines pairs outcome r)
-  where
-    go : (b : Bool) → MatchBool b ((pairs ≡ end_pair) × (outcome ≡ outcomes.Stuck line.number)) (IsRun lines pairs outcome)
-        → (IsRun lines pairs outcome → (k : ℕ) × (slice_get pairs k ≡ Some (End, replies.Done))) → (k : ℕ) × (slice_get (pair ∷ pairs) k ≡ Some (End, replies.Done))
-    go true m later = (1, ap (λ (ps : List (Call × Reply)). slice_get ps 0) m.0)
-    go false m later = let rest = later m in (suc rest.0, rest.1)
+run-ends lines pairs outcome h = run-has-end 0 lines pairs outcome h
 
 -- what is counted is there
 counted-there : {A : Type 0} (p : A → Bool) (xs : List A) → 1 ≤ count_by p xs → (k : ℕ) × (x : A) × (slice_get xs k ≡ Some x) × (p x ≡ true)

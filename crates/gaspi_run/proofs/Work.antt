@@ -1,7 +1,7 @@
 -- The work that is left falls with each turn.
-use Rattle.std.proofs.Common.{◌≡◌, ℕ, zero, suc, ◌+◌, ◌-◌, ◌<◌, ◌≤◌, Bool, true, false, List, [], ◌∷◌, ◌++◌, length, Option, None, Some, Result, Ok, Err, refl, sym, ap, subst, arith, nat_lt, nat_le, ◌==◌, remove, IsOk}
+use Rattle.std.proofs.Common.{◌≡◌, ℕ, zero, suc, ◌+◌, ◌-◌, ◌*◌, ◌<◌, ◌≤◌, Bool, true, false, ◌&&◌, if◌then◌else◌, List, [], ◌∷◌, ◌++◌, length, Option, None, Some, Result, Ok, Err, refl, sym, ap, subst, arith, nat_lt, nat_le, ◌==◌, remove, IsOk}
 use Rattle.std.specs.List.{slice_get, slice_set, sum_by}
-use Rattle.std.proofs.lemmas.Bool.{leb-false, ne_eqb}
+use Rattle.std.proofs.lemmas.Bool.{leb-false, ltb-true, ne_eqb}
 use Rattle.std.proofs.lemmas.List.Sums.{sum_by-cons, sum_by-set, sum_by-remove}
 use Rattle.std.proofs.lemmas.Option.{slice_get_within, get_or_from_slice_get}
 use Rattle.gaspi_types.specs.Need.{need_of}
@@ -21,22 +21,24 @@ use Rattle.gaspi_model.specs.declared.states.State.{State}
 use Rattle.gaspi_model.specs.declared.states.Posts.{Posts}
 use Rattle.gaspi_model.specs.declared.states.Memory.{Memory}
 use Rattle.gaspi_model.specs.declared.states.Why.{Why}
-use Rattle.rank_script.specs.Runs.{Progress, Going, Over, going_on, advanced, stopped, is_stuck}
+use Rattle.rank_script.specs.Runs.{Progress, Going, Over, going_on, advanced, stopped, is_timeout, is_stuck, is_repeated, is_failed}
 use Rattle.rank_script.specs.declared.scripts.Halted.TheVariants as halts
 use Rattle.rank_script.specs.declared.scripts.ScriptLine.{ScriptLine}
 use Rattle.rank_script.specs.declared.scripts.RunOutcome.{RunOutcome}
+use Rattle.rank_script.specs.declared.scripts.RunOutcome.TheVariants as outcomes
 use Rattle.gaspi_run.specs.Generator.{drawn, picked}
 use Rattle.gaspi_run.specs.Schedule.{made, looks_of, with_waiting, recorded, looked, answered, going_turn, ending_turn, progress_turn, caller_turn, candidate_turn, candidates, with_draw, turn}
 use Rattle.gaspi_run.specs.declared.turns.Waiting.{Waiting}
 use Rattle.gaspi_run.specs.declared.turns.Turns.{Turns}
 
--- what a caller may still do: two for each line and its looks, and one for its end
+-- what a caller may still do: for each call of a line its looks and one more, as much for the line, and one for its end
 abbrev pub line_work : ℕ → ScriptLine → ℕ
-line_work limit line = 2 + looks_of limit line.timeout
+line_work limit line = 1 + looks_of limit line.timeout + line.tries * (1 + looks_of limit line.timeout)
 
 abbrev pub run_work : ℕ → Progress → ℕ → ℕ
 run_work limit (Over outcome) looks = 1
-run_work limit (Going line lines) looks = 3 + (looks_of limit line.timeout - looks) + sum_by (line_work limit) lines
+run_work limit (Going line tried lines) looks =
+    3 + (line.tries - tried) * (1 + looks_of limit line.timeout) + (looks_of limit line.timeout - looks) + sum_by (line_work limit) lines
 
 abbrev pub waiting_work : ℕ → Waiting → ℕ
 waiting_work limit w = run_work limit w.cursor w.looks
@@ -45,18 +47,45 @@ waiting_work limit w = run_work limit w.cursor w.looks
 abbrev pub work : ℕ → Turns → ℕ
 work limit t = sum_by (waiting_work limit) t.waiting + events_left t.state
 
+and-right : (a b : Bool) → (a && b) ≡ true → b ≡ true
+and-right true b h = h
+and-right false b h = cc h
+
 -- a run that goes on with lines has less work than a line more
 going-less : (limit : ℕ) (lines : List ScriptLine) → run_work limit (going_on lines) 0 < 3 + sum_by (line_work limit) lines
 going-less limit [] = omega arith
-going-less limit (line ∷ lines) = let sum = sum_by-cons (line_work limit) line lines in omega arith
+going-less limit (line ∷ lines) =
+    let sum = sum_by-cons (line_work limit) line lines in
+    let all : line.tries - 0 ≡ line.tries = omega arith in
+    let product : (line.tries - 0) * (1 + looks_of limit line.timeout) ≡ line.tries * (1 + looks_of limit line.timeout) = ap (λ (n : ℕ). n * (1 + looks_of limit line.timeout)) all in
+    omega arith
 
-advanced-less : (limit : ℕ) (line : ScriptLine) (lines : List ScriptLine) (reply : Reply) (looks : ℕ)
-    → run_work limit (advanced (Going line lines) reply) 0 < run_work limit (Going line lines) looks
-advanced-less limit line lines reply looks = go (is_stuck line reply) refl
+-- one try less
+fewer-tries : (tries tried each : ℕ) → tried + 1 < tries → (tries - (tried + 1)) * each + each ≤ (tries - tried) * each
+fewer-tries tries tried each h =
+    let more : tries - tried ≡ suc (tries - (tried + 1)) = omega arith in
+    subst (λ (n : ℕ). (tries - (tried + 1)) * each + each ≤ n * each) (sym more) (omega arith)
+
+advanced-less : (limit : ℕ) (line : ScriptLine) (tried : ℕ) (lines : List ScriptLine) (reply : Reply) (looks : ℕ)
+    → run_work limit (advanced (Going line tried lines) reply) 0 < run_work limit (Going line tried lines) looks
+advanced-less limit line tried lines reply looks = stuck-or (is_stuck line reply)
   where
-    go : (b : Bool) → is_stuck line reply ≡ b → run_work limit (advanced (Going line lines) reply) 0 < run_work limit (Going line lines) looks
-    go true is = rw is (omega arith)
-    go false is = rw is (let less = going-less limit lines in omega arith)
+    failed-or : (b : Bool) → run_work limit (if b then Over (outcomes.Failed line.number) else going_on lines) 0 < run_work limit (Going line tried lines) looks
+    failed-or true = omega arith
+    failed-or false = let less = going-less limit lines in omega arith
+
+    repeated-or : (b : Bool) → is_repeated line tried reply ≡ b
+        → run_work limit (if b then Going line (tried + 1) lines else (if is_failed line reply then Over (outcomes.Failed line.number) else going_on lines)) 0 < run_work limit (Going line tried lines) looks
+    repeated-or true again =
+        let left = ltb-true (tried + 1) line.tries (and-right (is_timeout reply) (nat_lt (tried + 1) line.tries) again) in
+        let fewer = fewer-tries line.tries tried (1 + looks_of limit line.timeout) left in
+        omega arith
+    repeated-or false again = failed-or (is_failed line reply)
+
+    stuck-or : (b : Bool) → run_work limit (if b then Over (outcomes.Stuck line.number) else (if is_repeated line tried reply then Going line (tried + 1) lines
+        else (if is_failed line reply then Over (outcomes.Failed line.number) else going_on lines))) 0 < run_work limit (Going line tried lines) looks
+    stuck-or true = omega arith
+    stuck-or false = repeated-or (is_repeated line tried reply) refl
 
 -- what follows from the facts about a sound step: a step takes an event
 abbrev pub Counts : Type 0
@@ -96,30 +125,30 @@ none-past [] i at = omega arith
 none-past (x ∷ xs) zero at = absurd (let no : ⊥ = cc in no)
 none-past (x ∷ xs) (suc i) at = let rest = none-past xs i at in omega arith
 
-recorded-less : Counts → (limit : ℕ) (t : Turns) (place : ℕ) (w : Waiting) (line : ScriptLine) (lines : List ScriptLine) (call : Call) (reply : Reply) → IsSound t.state
-    → slice_get t.waiting place ≡ Some w → w.cursor ≡ Going line lines → work limit (recorded t place w call reply) < work limit t
-recorded-less counts limit t place w line lines call reply sound at going =
+recorded-less : Counts → (limit : ℕ) (t : Turns) (place : ℕ) (w : Waiting) (line : ScriptLine) (tried : ℕ) (lines : List ScriptLine) (call : Call) (reply : Reply) → IsSound t.state
+    → slice_get t.waiting place ≡ Some w → w.cursor ≡ Going line tried lines → work limit (recorded t place w call reply) < work limit t
+recorded-less counts limit t place w line tried lines call reply sound at going =
     let w' : Waiting = record { caller = w.caller; cursor = advanced w.cursor reply; looks = 0 } in
     let event = made-work counts limit (with_waiting t place w') (Called w.caller call reply) sound in
-    let less = waiting-less limit t place w w' at (rw going (advanced-less limit line lines reply w.looks)) in
+    let less = waiting-less limit t place w w' at (rw going (advanced-less limit line tried lines reply w.looks)) in
     omega arith
 
-looked-less : Counts → (limit : ℕ) (t : Turns) (place : ℕ) (w : Waiting) (line : ScriptLine) (lines : List ScriptLine) → IsSound t.state
-    → slice_get t.waiting place ≡ Some w → w.cursor ≡ Going line lines → work limit (looked limit t place w line) < work limit t
-looked-less counts limit t place w line lines sound at going = go (nat_le (looks_of limit line.timeout) (w.looks + 1)) refl
+looked-less : Counts → (limit : ℕ) (t : Turns) (place : ℕ) (w : Waiting) (line : ScriptLine) (tried : ℕ) (lines : List ScriptLine) → IsSound t.state
+    → slice_get t.waiting place ≡ Some w → w.cursor ≡ Going line tried lines → work limit (looked limit t place w line) < work limit t
+looked-less counts limit t place w line tried lines sound at going = go (nat_le (looks_of limit line.timeout) (w.looks + 1)) refl
   where
     go : (b : Bool) → nat_le (looks_of limit line.timeout) (w.looks + 1) ≡ b → work limit (looked limit t place w line) < work limit t
-    go true last = rw last (recorded-less counts limit t place w line lines line.call replies.Timeout sound at going)
+    go true last = rw last (recorded-less counts limit t place w line tried lines line.call replies.Timeout sound at going)
     go false more =
         let w' : Waiting = record { caller = w.caller; cursor = w.cursor; looks = w.looks + 1 } in
         let looks = leb-false (looks_of limit line.timeout) (w.looks + 1) more in
         rw more (waiting-less limit t place w w' at (rw going (omega arith)))
 
-answered-less : Counts → (limit : ℕ) (t : Turns) (place : ℕ) (w : Waiting) (line : ScriptLine) (lines : List ScriptLine) (found : Option Ready) → IsSound t.state
-    → slice_get t.waiting place ≡ Some w → w.cursor ≡ Going line lines → (found ≡ None → ⊥) → work limit (answered limit t place w line found) < work limit t
-answered-less counts limit t place w line lines None sound at going some = absurd (some refl)
-answered-less counts limit t place w line lines (Some (ready.Reply reply)) sound at going some = recorded-less counts limit t place w line lines line.call reply sound at going
-answered-less counts limit t place w line lines (Some ready.NotReady) sound at going some = looked-less counts limit t place w line lines sound at going
+answered-less : Counts → (limit : ℕ) (t : Turns) (place : ℕ) (w : Waiting) (line : ScriptLine) (tried : ℕ) (lines : List ScriptLine) (found : Option Ready) → IsSound t.state
+    → slice_get t.waiting place ≡ Some w → w.cursor ≡ Going line tried lines → (found ≡ None → ⊥) → work limit (answered limit t place w line found) < work limit t
+answered-less counts limit t place w line tried lines None sound at going some = absurd (some refl)
+answered-less counts limit t place w line tried lines (Some (ready.Reply reply)) sound at going some = recorded-less counts limit t place w line tried lines line.call reply sound at going
+answered-less counts limit t place w line tried lines (Some ready.NotReady) sound at going some = looked-less counts limit t place w line tried lines sound at going
 
 -- a look at a call finds something where the caller's rank is there
 pub answer-some : (s : State) (rank thread : ℕ) (call : Call) → IsSound s → rank < s.limits.ranks → answer_in s rank thread call ≡ None → ⊥
@@ -130,15 +159,15 @@ answer-some s rank thread call sound within none = go (slice_get s.posts rank) (
     go (Some posts) None hp hm = past-none s.memories rank (let same = sound.memories in omega arith) hm
     go (Some posts) (Some memory) hp hm = let no = rw (hp, hm) at none in cc
 
-going-less-turn : Counts → (limit : ℕ) (t : Turns) (place : ℕ) (w : Waiting) (line : ScriptLine) (lines : List ScriptLine) → IsSound t.state → w.caller.rank < t.state.limits.ranks
-    → slice_get t.waiting place ≡ Some w → w.cursor ≡ Going line lines → work limit (going_turn limit t place w line) < work limit t
-going-less-turn counts limit t place w line lines sound within at going = go (nat_lt t.state.limits.events (room_taken t.state w.caller.rank + need_of line.call false false)) refl
+going-less-turn : Counts → (limit : ℕ) (t : Turns) (place : ℕ) (w : Waiting) (line : ScriptLine) (tried : ℕ) (lines : List ScriptLine) → IsSound t.state → w.caller.rank < t.state.limits.ranks
+    → slice_get t.waiting place ≡ Some w → w.cursor ≡ Going line tried lines → work limit (going_turn limit t place w line) < work limit t
+going-less-turn counts limit t place w line tried lines sound within at going = go (nat_lt t.state.limits.events (room_taken t.state w.caller.rank + need_of line.call false false)) refl
   where
     go : (b : Bool) → nat_lt t.state.limits.events (room_taken t.state w.caller.rank + need_of line.call false false) ≡ b → work limit (going_turn limit t place w line) < work limit t
     go true full =
         let w' : Waiting = record { caller = w.caller; cursor = stopped w.cursor halts.Limit; looks = 0 } in
         rw full (waiting-less limit t place w w' at (rw going (omega arith)))
-    go false room = rw room (answered-less counts limit t place w line lines (answer_in t.state w.caller.rank w.caller.thread line.call) sound at going
+    go false room = rw room (answered-less counts limit t place w line tried lines (answer_in t.state w.caller.rank w.caller.thread line.call) sound at going
         (answer-some t.state w.caller.rank w.caller.thread line.call sound within))
 
 ending-less : Counts → (limit : ℕ) (t : Turns) (place : ℕ) (w : Waiting) (outcome : RunOutcome) → IsSound t.state
@@ -157,8 +186,8 @@ caller-less : Counts → (limit : ℕ) (t : Turns) (place : ℕ) (w : Waiting) �
 caller-less counts limit t place w sound within at = go w.cursor refl
   where
     go : (p : Progress) → w.cursor ≡ p → work limit (caller_turn limit t place w) < work limit t
-    go (Going line lines) is =
-        subst (λ (x : Turns). work limit x < work limit t) (sym (ap (λ (p : Progress). progress_turn limit t place w p) is)) (going-less-turn counts limit t place w line lines sound within at is)
+    go (Going line tried lines) is =
+        subst (λ (x : Turns). work limit x < work limit t) (sym (ap (λ (p : Progress). progress_turn limit t place w p) is)) (going-less-turn counts limit t place w line tried lines sound within at is)
     go (Over outcome) is =
         subst (λ (x : Turns). work limit x < work limit t) (sym (ap (λ (p : Progress). progress_turn limit t place w p) is)) (ending-less counts limit t place w outcome sound at is)
 

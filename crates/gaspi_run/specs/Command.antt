@@ -1,34 +1,41 @@
 -- What the program does with its words and its input. (own choice)
-use Rattle.std.specs.Prelude.{◌≡◌, ◌⊎◌, ◌≤◌, ◌<◌, ℕ, length, Bool, true, false, List, [], ◌∷◌, ◌++◌, Option, Some, Ok, Err, codes, if◌then◌else◌}
+use Rattle.std.specs.Prelude.{◌≡◌, ◌⊎◌, ◌≤◌, ◌<◌, ℕ, ◌+◌, ◌-◌, nat_lt, length, take, drop, Bool, true, false, List, [], ◌∷◌, ◌++◌, Option, Some, None, Result, Ok, Err, codes, if◌then◌else◌}
 use Rattle.std.specs.Option.{ForSome}
 use Rattle.std.specs.Str.{bytes_eq}
 use Rattle.std.specs.List.{list_any}
 use Rattle.std.specs.Fmt.{decimal}
 use Rattle.gaspi_types.specs.World.{World}
 use Rattle.gaspi_types.specs.declared.events.Event.{Event}
+use Rattle.gaspi_texts.specs.Lines.{fed_lines}
 use Rattle.gaspi_io.specs.Faults.{HasCause}
 use Rattle.gaspi_io.specs.Sink.{with_more, AddsFront}
 use Rattle.gaspi_io.specs.Source.{without}
 use Rattle.gaspi_model.specs.Step.{is_legal}
-use Rattle.rank_script.specs.WorldText.{TextFault, world_text}
+use Rattle.gaspi_model.specs.declared.states.Why.{Why}
+use Rattle.gaspi_model.specs.declared.states.Why.TheVariants as whys
+use Rattle.call_journal.specs.JournalText.{journal_text, AreInRange, IsFaultyAt}
+use Rattle.call_journal.specs.Verdicts.{IsVerdict}
+use Rattle.call_journal.specs.declared.verdicts.Verdict.{Verdict}
+use Rattle.call_journal.specs.declared.verdicts.Verdict.TheVariants.{Legal, Illegal}
+use Rattle.rank_script.specs.WorldText.{Said, TextFault, world_text, journal_place}
 use Rattle.rank_script.specs.declared.scripts.Script.{Script}
 use Rattle.rank_script.specs.declared.scripts.RunOutcome.{RunOutcome}
 use Rattle.rank_script.specs.declared.scripts.RunOutcome.TheVariants as outcomes
 use Rattle.gaspi_run.specs.Schedule.{IsScheduled, HasSettled, HaveEnded}
 use Rattle.gaspi_run.specs.Transcripts.{transcripts}
 use Rattle.gaspi_run.specs.declared.turns.Finished.{Finished}
+use Rattle.gaspi_run.specs.declared.words.Command.{Command}
+use Rattle.gaspi_run.specs.declared.words.Command.TheVariants.{Step, Brief, Check}
 use Rattle.gaspi_run.specs.declared.commands.Answer.{Answer}
 
--- the only words so far: `step --brief`
-abbrev pub are_step_words : List (List ℕ) → Bool
-are_step_words [] = false
-are_step_words (first ∷ []) = false
-are_step_words (first ∷ second ∷ []) = are_both (bytes_eq first (codes "step")) (bytes_eq second (codes "--brief"))
-  where
-    are_both : Bool → Bool → Bool
-    are_both true b = b
-    are_both false b = false
-are_step_words (first ∷ second ∷ third ∷ words) = false
+-- the words of the commands: `step`, `step --brief` and `check`
+abbrev pub command_of : List (List ℕ) → Option Command
+command_of [] = None
+command_of (first ∷ []) =
+    if bytes_eq first (codes "step") then Some Step else (if bytes_eq first (codes "check") then Some Check else None)
+command_of (first ∷ second ∷ []) =
+    if bytes_eq first (codes "step") then (if bytes_eq second (codes "--brief") then Some Brief else None) else None
+command_of (first ∷ second ∷ third ∷ words) = None
 
 abbrev pub refused_text : List ℕ
 refused_text = codes "gaspirun: words refused\n"
@@ -37,33 +44,41 @@ refused_text = codes "gaspirun: words refused\n"
 abbrev pub fault_text : TextFault → List ℕ
 fault_text f = codes "fault S" ++ decimal f.number ++ codes " line " ++ decimal f.line ++ codes "\n"
 
-abbrev pub is_stuck_outcome : RunOutcome → Bool
-is_stuck_outcome outcomes.Ended = false
-is_stuck_outcome (outcomes.Stuck line) = true
-is_stuck_outcome (outcomes.Limit line) = false
-is_stuck_outcome (outcomes.NoMemory line) = false
+-- a caller whose script came to a wrong end: a reply that its line does not expect, or a timeout on a line that blocks
+abbrev pub is_wrong_outcome : RunOutcome → Bool
+is_wrong_outcome outcomes.Ended = false
+is_wrong_outcome (outcomes.Failed line) = true
+is_wrong_outcome (outcomes.Stuck line) = true
+is_wrong_outcome (outcomes.Limit line) = false
+is_wrong_outcome (outcomes.NoMemory line) = false
 
 abbrev pub is_limit_outcome : RunOutcome → Bool
 is_limit_outcome outcomes.Ended = false
+is_limit_outcome (outcomes.Failed line) = false
 is_limit_outcome (outcomes.Stuck line) = false
 is_limit_outcome (outcomes.Limit line) = true
 is_limit_outcome (outcomes.NoMemory line) = false
 
-abbrev pub is_any_stuck : List Finished → Bool
-is_any_stuck finished = list_any (λ f. is_stuck_outcome f.outcome) finished
+abbrev pub is_any_wrong : List Finished → Bool
+is_any_wrong finished = list_any (λ f. is_wrong_outcome f.outcome) finished
 
 abbrev pub is_any_limit : List Finished → Bool
 is_any_limit finished = list_any (λ f. is_limit_outcome f.outcome) finished
 
--- the status of a run: 3 where a caller is stuck, else 8 where one ended at the event limit, else 0
+-- the status of a run: 3 where a caller has failed or is stuck, else 8 where one ended at the event limit, else 0
 abbrev pub run_status : List Finished → ℕ
-run_status finished = if is_any_stuck finished then 3 else (if is_any_limit finished then 8 else 0)
+run_status finished = if is_any_wrong finished then 3 else (if is_any_limit finished then 8 else 0)
 
--- What `step --brief` does with its input: the schedule has seed 0 and the limit 1,000,000. The text that it writes is
--- what the callers were told, its status tells how they ended, and its journal is a legal history in which each caller's
--- calls are a run of its script, and after which every caller has ended and all that was posted has arrived, broken
--- queues aside.
-pub record IsBrief (input : List ℕ) (journal : List Event) (status : ℕ) (text : List ℕ) : Type 0 where
+-- the text of a run: what each caller was told, or the journal
+abbrev pub run_text : Bool → World → List Script → List Event → List ℕ
+run_text true w scripts journal = transcripts w scripts journal
+run_text false w scripts journal = journal_text journal
+
+-- What `step`, brief or not, does with its input: the schedule has seed 0 and the limit 1,000,000. The text that it writes
+-- is the journal, or what the callers were told; its status tells how they ended; and its journal is a legal history in
+-- which each caller's calls are a run of its script, and after which every caller has ended and all that was posted has
+-- arrived, broken queues aside.
+pub record IsStepped (brief : Bool) (input : List ℕ) (journal : List Event) (status : ℕ) (text : List ℕ) : Type 0 where
   pub world : World
   pub scripts : List Script
   pub finished : List Finished
@@ -73,27 +88,113 @@ pub record IsBrief (input : List ℕ) (journal : List Event) (status : ℕ) (tex
   pub settled : HasSettled world journal
   pub ended : HaveEnded world scripts journal finished
   pub status_is : status ≡ run_status finished
-  pub text_is : text ≡ transcripts world scripts journal
+  pub text_is : text ≡ run_text brief world scripts journal
+
+-- What `check` does with its input: a world text, and from the first line that begins with `journal` on a journal.
+
+-- the world text in it
+abbrev pub world_part : List ℕ → List ℕ
+world_part input = before (journal_place input)
+  where
+    before : Option (ℕ × ℕ) → List ℕ
+    before None = input
+    before (Some place) = take place.0 input
+
+-- what the world text gives; the whole input may not be too long
+abbrev pub checked_world : List ℕ → Result Said TextFault
+checked_world input =
+    if nat_lt 268435456 (length input) then Err (record { number = 1; line = 0 }) else world_text (world_part input)
+
+abbrev pub why_word : Why → List ℕ
+why_word whys.Caller = codes "caller"
+why_word whys.Limit = codes "limit"
+why_word whys.Join = codes "join"
+why_word whys.Reply = codes "reply"
+why_word whys.Take = codes "take"
+why_word whys.Put = codes "put"
+
+abbrev pub no_journal_text : ℕ → List ℕ
+no_journal_text line = codes "not a journal " ++ decimal line ++ codes "\n"
+
+abbrev pub verdict_text : ℕ → Verdict → List ℕ
+verdict_text count Legal = codes "legal " ++ decimal count ++ codes "\n"
+verdict_text count (Illegal place why) = codes "illegal " ++ decimal place ++ codes " " ++ why_word why ++ codes "\n"
+
+abbrev pub verdict_status : Verdict → ℕ
+verdict_status Legal = 0
+verdict_status (Illegal place why) = 4
+
+-- no journal, which shows at that line of the input
+pub record IsNoJournal (line : ℕ) (journal : List Event) (status : ℕ) (text : List ℕ) : Type 0 where
+  pub status_is : status ≡ 4
+  pub text_is : text ≡ no_journal_text line
+  pub empty : journal ≡ []
+
+-- a verdict told
+pub record HasVerdict (world : World) (journal : List Event) (status : ℕ) (text : List ℕ) : Type 0 where
+  pub verdict : Verdict
+  pub judged : IsVerdict world journal verdict
+  pub status_is : status ≡ verdict_status verdict
+  pub text_is : text ≡ verdict_text (length journal) verdict
+
+-- a text that is no journal from its line on, the first line of which has that number
+pub record IsUnread (text : List ℕ) (number : ℕ) (journal : List Event) (status : ℕ) (told : List ℕ) : Type 0 where
+  pub line : ℕ
+  pub faulty : IsFaultyAt text line
+  pub none : IsNoJournal (number - 1 + line) journal status told
+
+-- a journal with its verdict
+pub record IsJudged (world : World) (text : List ℕ) (journal : List Event) (status : ℕ) (told : List ℕ) : Type 0 where
+  pub journal_is : text ≡ journal_text journal
+  pub ranges : AreInRange journal
+  pub verdict : HasVerdict world journal status told
+
+-- what is told of the text of a journal, the first line of which has that number
+abbrev pub IsRead : World → List ℕ → ℕ → List Event → ℕ → List ℕ → Type 0
+IsRead world text number journal status told = IsUnread text number journal status told ⊎ IsJudged world text journal status told
+
+-- What is told of an input with a world: where no line begins with `journal`, the line after the last is named.
+abbrev pub IsCheckedIn : World → List ℕ → Option (ℕ × ℕ) → List Event → ℕ → List ℕ → Type 0
+IsCheckedIn world input None journal status text = IsNoJournal (length (fed_lines input) + 1) journal status text
+IsCheckedIn world input (Some place) journal status text = IsRead world (drop place.0 input) place.1 journal status text
+
+pub record IsChecked (input : List ℕ) (journal : List Event) (status : ℕ) (text : List ℕ) : Type 0 where
+  pub world : World
+  pub scripts : List Script
+  pub read : checked_world input ≡ Ok (record { world = Some world; scripts = scripts })
+  pub result : IsCheckedIn world input (journal_place input) journal status text
+
+-- What a command tells of an input without a fault, and what it takes the world from.
+
+abbrev pub IsTold : Command → List ℕ → List Event → ℕ → List ℕ → Type 0
+IsTold Step input journal status text = IsStepped false input journal status text
+IsTold Brief input journal status text = IsStepped true input journal status text
+IsTold Check input journal status text = IsChecked input journal status text
+
+abbrev pub world_read : Command → List ℕ → Result Said TextFault
+world_read Step input = world_text input
+world_read Brief input = world_text input
+world_read Check input = checked_world input
 
 -- An input stands here as what its source had left before and after, and an output as what its sink held, where they
 -- tell it.
 
--- the whole input was read, and the text tells the run of it
-pub record TellsRun (before after : Option (List ℕ)) (journal : List Event) (status : ℕ) (text : List ℕ) : Type 0 where
+-- the whole input was read, and the text is what the command tells of it
+pub record TellsInput (command : Command) (before after : Option (List ℕ)) (journal : List Event) (status : ℕ) (text : List ℕ) : Type 0 where
   pub input : List ℕ
   pub all : ForSome before (λ told. input ≡ told)
   pub end : ForSome before (λ told. after ≡ Some [])
-  pub brief : IsBrief input journal status text
+  pub tells : IsTold command input journal status text
 
 -- the input has a fault, and the text names the first; the whole input was read, and where it is too long, one byte past
 -- what it may have
-pub record TellsFault (before after : Option (List ℕ)) (text : List ℕ) : Type 0 where
+pub record TellsFault (command : Command) (before after : Option (List ℕ)) (text : List ℕ) : Type 0 where
   pub input : List ℕ
   pub fault : TextFault
   pub all : ForSome before (λ told. input ≡ told)
   pub end : length input ≤ 268435456 → ForSome before (λ told. after ≡ Some [])
   pub past : 268435456 < length input → after ≡ without before 268435457
-  pub is : world_text input ≡ Err fault
+  pub is : world_read command input ≡ Err fault
   pub text_is : text ≡ fault_text fault
 
 -- no read and no write failed
@@ -102,18 +203,18 @@ NothingFailed faults faults' sink_faults sink_faults' = (faults' ≡ faults) × 
 
 -- What an answer says. Each case has its statuses.
 
--- a run was told: status 0, 3 or 8
-pub record HasRun (before after held held' : Option (List ℕ)) (faults faults' sink_faults sink_faults' : ℕ) (answer : Answer) : Type 0 where
+-- the input was told: status 0, 3 or 8 of a run, 0 or 4 of a check
+pub record HasTold (command : Command) (before after held held' : Option (List ℕ)) (faults faults' sink_faults sink_faults' : ℕ) (answer : Answer) : Type 0 where
   pub text : List ℕ
   pub still : NothingFailed faults faults' sink_faults sink_faults'
-  pub run : TellsRun before after answer.journal answer.status text
+  pub told : TellsInput command before after answer.journal answer.status text
   pub written : held' ≡ with_more held text
 
 -- a fault was told: status 2
-pub record IsFaulty (before after held held' : Option (List ℕ)) (faults faults' sink_faults sink_faults' : ℕ) (answer : Answer) : Type 0 where
+pub record IsFaulty (command : Command) (before after held held' : Option (List ℕ)) (faults faults' sink_faults sink_faults' : ℕ) (answer : Answer) : Type 0 where
   pub text : List ℕ
   pub still : NothingFailed faults faults' sink_faults sink_faults'
-  pub fault : TellsFault before after text
+  pub fault : TellsFault command before after text
   pub written : held' ≡ with_more held text
   pub status : answer.status ≡ 2
   pub empty : answer.journal ≡ []
@@ -125,10 +226,10 @@ pub record CouldNotRead (faults faults' : ℕ) (held held' : Option (List ℕ)) 
   pub status : answer.status ≡ 5
   pub empty : answer.journal ≡ []
 
--- the text of a run or of a fault could not be written whole: status 6; what was written is a front part of it
-pub record CouldNotWrite (before after held held' : Option (List ℕ)) (faults faults' : ℕ) (answer : Answer) : Type 0 where
+-- the text of the input or of a fault could not be written whole: status 6; what was written is a front part of it
+pub record CouldNotWrite (command : Command) (before after held held' : Option (List ℕ)) (faults faults' : ℕ) (answer : Answer) : Type 0 where
   pub text : List ℕ
-  pub of : ((would_be : ℕ) × TellsRun before after answer.journal would_be text) ⊎ (TellsFault before after text × (answer.journal ≡ []))
+  pub of : ((would_be : ℕ) × TellsInput command before after answer.journal would_be text) ⊎ (TellsFault command before after text × (answer.journal ≡ []))
   pub front : AddsFront text held held'
   pub cause : HasCause faults faults'
   pub status : answer.status ≡ 6
@@ -139,12 +240,14 @@ pub record LacksMemory (held held' : Option (List ℕ)) (faults faults' sink_fau
   pub still : NothingFailed faults faults' sink_faults sink_faults'
   pub status : answer.status ≡ 7
 
--- the answer of `step --brief`
-abbrev pub Steps : Option (List ℕ) → Option (List ℕ) → ℕ → ℕ → Option (List ℕ) → Option (List ℕ) → ℕ → ℕ → Answer → Type 0
-Steps before after faults faults' held held' sink_faults sink_faults' answer =
-    HasRun before after held held' faults faults' sink_faults sink_faults' answer ⊎ (IsFaulty before after held held' faults faults' sink_faults sink_faults' answer
+-- the answer of a command
+abbrev pub Answers : Command → Option (List ℕ) → Option (List ℕ) → ℕ → ℕ → Option (List ℕ) → Option (List ℕ) → ℕ → ℕ → Answer → Type 0
+Answers command before after faults faults' held held' sink_faults sink_faults' answer =
+    HasTold command before after held held' faults faults' sink_faults sink_faults' answer
+    ⊎ (IsFaulty command before after held held' faults faults' sink_faults sink_faults' answer
     ⊎ (CouldNotRead faults faults' held held' answer
-    ⊎ (CouldNotWrite before after held held' sink_faults sink_faults' answer ⊎ LacksMemory held held' faults faults' sink_faults sink_faults' answer)))
+    ⊎ (CouldNotWrite command before after held held' sink_faults sink_faults' answer
+    ⊎ LacksMemory held held' faults faults' sink_faults sink_faults' answer)))
 
 -- the answer to words that are refused: status 1, or 6 where that could not be written
 pub record Refuses (held held' : Option (List ℕ)) (faults faults' : ℕ) (answer : Answer) : Type 0 where

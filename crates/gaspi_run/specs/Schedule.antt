@@ -103,7 +103,7 @@ ending_turn t place w outcome =
     (Called w.caller End replies.Done)
 
 abbrev pub progress_turn : ℕ → Turns → ℕ → Waiting → Progress → Turns
-progress_turn limit t place w (Going line lines) = going_turn limit t place w line
+progress_turn limit t place w (Going line made lines) = going_turn limit t place w line
 progress_turn limit t place w (Over outcome) = ending_turn t place w outcome
 
 abbrev pub caller_turn : ℕ → Turns → ℕ → Waiting → Turns
@@ -170,6 +170,7 @@ pub record HadNoRoom (w : World) (journal : List Event) (caller : CallerId) (lin
 
 abbrev pub HasLimitCause : World → List Event → CallerId → List ScriptLine → RunOutcome → Type 0
 HasLimitCause w journal caller lines outcomes.Ended = Unit {0}
+HasLimitCause w journal caller lines (outcomes.Failed number) = Unit {0}
 HasLimitCause w journal caller lines (outcomes.Stuck number) = Unit {0}
 HasLimitCause w journal caller lines (outcomes.Limit number) =
     (place : ℕ) × (line : ScriptLine) × (slice_get lines place ≡ Some line) × (line.number ≡ number) × HadNoRoom w journal caller line

@@ -3,48 +3,56 @@ use Rattle.std.specs.Prelude.{ℕ, List, [], ◌∷◌, ◌++◌, Option, None, 
 use Rattle.std.specs.Fmt.{decimal}
 use Rattle.std.specs.List.{flat_map, range_with_len}
 use Rattle.gaspi_types.specs.World.{World}
+use Rattle.gaspi_texts.specs.EventText.{caller_word}
 use Rattle.gaspi_texts.specs.ReplyText.{reply_text}
 use Rattle.gaspi_types.specs.declared.shapes.CallerId.{CallerId}
 use Rattle.gaspi_types.specs.declared.calls.Call.{Call}
 use Rattle.gaspi_types.specs.declared.replies.Reply.{Reply}
 use Rattle.gaspi_types.specs.declared.events.Event.{Event}
 use Rattle.gaspi_model.specs.Step.{own_calls, is_end}
-use Rattle.rank_script.specs.Runs.{is_stuck}
+use Rattle.rank_script.specs.Runs.{Progress, Going, Over, going_on, advanced}
 use Rattle.rank_script.specs.WorldText.{is_script_of}
 use Rattle.rank_script.specs.declared.scripts.Script.{Script}
-use Rattle.rank_script.specs.declared.scripts.ScriptLine.{ScriptLine}
-
--- a caller as its rank and thread
-abbrev pub caller_text : CallerId → List ℕ
-caller_text c = decimal c.rank ++ codes "." ++ decimal c.thread
+use Rattle.rank_script.specs.declared.scripts.RunOutcome.{RunOutcome}
+use Rattle.rank_script.specs.declared.scripts.RunOutcome.TheVariants as outcomes
 
 -- a recorded call: its caller, the line that made it, and its reply
 abbrev pub call_line : CallerId → ℕ → Reply → List ℕ
-call_line c line reply = caller_text c ++ codes " " ++ decimal line ++ codes " " ++ reply_text reply ++ codes "\n"
+call_line c line reply = caller_word c ++ codes " " ++ decimal line ++ codes " " ++ reply_text reply ++ codes "\n"
 
 -- how a caller's run ended
 abbrev pub ended_line : CallerId → List ℕ
-ended_line c = caller_text c ++ codes " ended\n"
+ended_line c = caller_word c ++ codes " ended\n"
+
+abbrev pub failed_line : CallerId → ℕ → List ℕ
+failed_line c line = caller_word c ++ codes " failed " ++ decimal line ++ codes "\n"
 
 abbrev pub stuck_line : CallerId → ℕ → List ℕ
-stuck_line c line = caller_text c ++ codes " stuck " ++ decimal line ++ codes "\n"
+stuck_line c line = caller_word c ++ codes " stuck " ++ decimal line ++ codes "\n"
 
 abbrev pub limit_line : CallerId → ℕ → List ℕ
-limit_line c line = caller_text c ++ codes " limit " ++ decimal line ++ codes "\n"
+limit_line c line = caller_word c ++ codes " limit " ++ decimal line ++ codes "\n"
 
--- the calls of a caller with their lines, and how its run ended: where the pairs end before a line, or have the end
--- there, it stopped before it
-abbrev pub transcript : CallerId → List ScriptLine → List (Call × Reply) → List ℕ
-transcript c [] pairs = ended_line c
-transcript c (line ∷ lines) [] = limit_line c line.number
-transcript c (line ∷ lines) (pair ∷ pairs) =
+abbrev pub outcome_line : CallerId → RunOutcome → List ℕ
+outcome_line c outcomes.Ended = ended_line c
+outcome_line c (outcomes.Failed line) = failed_line c line
+outcome_line c (outcomes.Stuck line) = stuck_line c line
+outcome_line c (outcomes.Limit line) = limit_line c line
+outcome_line c (outcomes.NoMemory line) = limit_line c line
+
+-- what is told of the rest of a run: its calls with their lines, and how it ended; where the calls end before one that a
+-- line would make, or have the end there, it stopped before it
+abbrev pub transcript : CallerId → Progress → List (Call × Reply) → List ℕ
+transcript c (Over outcome) pairs = outcome_line c outcome
+transcript c (Going line made lines) [] = limit_line c line.number
+transcript c (Going line made lines) (pair ∷ pairs) =
     if is_end pair.0 then limit_line c line.number
-    else call_line c line.number pair.1
-    ++ (if is_stuck line pair.1 then stuck_line c line.number else transcript c lines pairs)
+    else call_line c line.number pair.1 ++ transcript c (advanced (Going line made lines) pair.1) pairs
 
 abbrev pub script_transcript : List Event → Option Script → List ℕ
 script_transcript journal None = []
-script_transcript journal (Some script) = transcript script.caller script.lines (own_calls script.caller.rank script.caller.thread journal)
+script_transcript journal (Some script) =
+    transcript script.caller (going_on script.lines) (own_calls script.caller.rank script.caller.thread journal)
 
 abbrev pub thread_transcript : List Script → List Event → ℕ → ℕ → List ℕ
 thread_transcript scripts journal rank thread = script_transcript journal (find (is_script_of (record { rank = rank; thread = thread })) scripts)

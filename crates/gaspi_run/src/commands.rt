@@ -1,107 +1,43 @@
 //! The commands of the program.
 
-ghost use Rattle.std.specs.Prelude.{◌≡◌, ◌⊎◌, [], map, true, false, length, ◌<◌, ◌++◌, OnOk, IfOk, IsErrOf, ℕ, Err, codes};
-ghost use Rattle.std.specs.Option.{ForSome};
+ghost use Rattle.std.specs.Prelude.{◌≡◌, ◌⊎◌, [], map, None, Some, IfOk};
 ghost use Rattle.gaspi_io.specs.Faults.{HasCause};
 ghost use Rattle.gaspi_io.specs.Sink.{with_more, AddsFront};
-ghost use Rattle.gaspi_types.specs.declared.events.Event.{Event};
-ghost use Rattle.rank_script.specs.WorldText.{world_text, TextFault};
-ghost use Rattle.rank_script.specs.declared.scripts.ScriptFault.TheVariants as script_faults;
-ghost use Rattle.gaspi_run.specs.Command.{are_step_words, refused_text, fault_text, is_any_stuck, is_any_limit, run_status, IsBrief, Refuses, Steps};
+ghost use Rattle.gaspi_run.specs.Command.{command_of, fault_text, Refuses, Answers};
+ghost use Rattle.gaspi_run.specs.declared.words.Command.{Command};
 
-use crate::scheduling::{Journal, schedule};
-use crate::transcripts::write_transcripts;
-use crate::turns::Finished;
+use crate::telling::tell;
+use crate::words::Command;
+use call_journal::Journal;
 use gaspi_io::{Failed, ReadStop, Sink, Source, read_all, write_all};
-use gaspi_types::{Bytes, NoMemory, Rows, write_number};
-use rank_script::{RunOutcome, ScriptFault, read_world};
+use gaspi_texts::write_number;
+use gaspi_types::{Bytes, NoMemory, Rows};
+use rank_script::ScriptFault;
 use std::alloc::Global;
 use std::sync::Wait;
 use std::thread::Threads;
 
-/// The program's answer: its exit status, and the history of the world that it ran.
+/// The program's answer: its exit status, and the history of the world that it ran or the journal that it read.
 ///
 /// | Status | Where |
 /// |---|---|
-/// | 0 | every caller ended |
+/// | 0 | every caller ended; of `check`: the journal is legal |
 /// | 1 | the words are refused |
 /// | 2 | the world text has a fault |
-/// | 3 | a caller is stuck |
+/// | 3 | a caller has failed or is stuck |
+/// | 4 | `check`: there is no journal, or it is not legal |
 /// | 5 | a read failed |
 /// | 6 | a write failed |
 /// | 7 | want of memory |
-/// | 8 | a caller ended at the event limit, and none is stuck |
+/// | 8 | a caller ended at the event limit, and none has failed or is stuck |
 #[derive(Debug, Drop)]
 pub struct Answer {
     pub status: u8,
     pub journal: Journal,
 }
 
-/// A run of a world text: its history, the status that tells how its callers ended, and the text that tells it.
-#[derive(Debug, Drop)]
-struct Brief {
-    journal: Journal,
-    status: u8,
-    text: Bytes,
-}
-
-/// The most bytes that a world text may have.
+/// The most bytes that an input may have.
 const MOST: u64 = 268_435_456;
-
-/// The looks of a call that blocks.
-const LIMIT: u32 = 1_000_000;
-
-/// The generator's first number.
-const SEED: u32 = 0;
-
-/// Whether a caller is stuck.
-fn is_any_stuck(finished: &[Finished]) -> bool
-    ensures { result ≡ is_any_stuck finished.now }
-{
-    finished
-        .iter()
-        .any(|f| matches!(f.outcome, RunOutcome::Stuck { .. }))
-}
-
-/// Whether a caller ended at the event limit.
-fn is_any_limit(finished: &[Finished]) -> bool
-    ensures { result ≡ is_any_limit finished.now }
-{
-    finished
-        .iter()
-        .any(|f| matches!(f.outcome, RunOutcome::Limit { .. }))
-}
-
-/// The status of a run.
-fn run_status(finished: &[Finished]) -> u8
-    ensures { result ≡ run_status finished.now }
-{
-    if is_any_stuck(finished) {
-        3
-    } else if is_any_limit(finished) {
-        8
-    } else {
-        0
-    }
-}
-
-/// Runs a world text.
-fn run_text(alloc: Global, input: &[u8]) -> Result<Brief, ScriptFault>
-    ensures run { IfOk result (λ brief. IsBrief input.now brief.journal brief.status brief.text) }
-    ensures fault { (number line : ℕ) → IsErrOf result (script_faults.At number line)
-        → world_text input.now ≡ Err (record { number = number; line = line }) }
-{
-    let (shape, scripts) = read_world(alloc, input)?;
-    let ran = schedule(alloc, &shape, &scripts, SEED, LIMIT)?;
-    let mut text = Bytes::new(alloc);
-    write_transcripts(&mut text, &shape, &scripts, &ran.journal)?;
-    let status = run_status(ran.outcomes.as_slice());
-    Ok(Brief {
-        journal: ran.journal,
-        status,
-        text,
-    })
-}
 
 /// The line that names a fault.
 fn fault_line(alloc: Global, number: u32, line: u64) -> Result<Bytes, NoMemory>
@@ -152,9 +88,14 @@ fn answer_fault<K: Sink>(alloc: Global, sink: &mut K, number: u32, line: u64) ->
     bare(alloc, status)
 }
 
-/// `step --brief`: runs the world text that the source has left on one thread, and writes what each caller was told.
-pub fn step_brief<S: Source, K: Sink>(alloc: Global, source: &mut S, sink: &mut K) -> Answer
-    ensures { Steps (S.left source.old) (S.left source.new) (S.faults source.old) (S.faults source.new)
+/// Does what a command asks for with the input that the source has left, and writes what it tells.
+pub fn run_command<S: Source, K: Sink>(
+    alloc: Global,
+    command: Command,
+    source: &mut S,
+    sink: &mut K,
+) -> Answer
+    ensures { Answers command (S.left source.old) (S.left source.new) (S.faults source.old) (S.faults source.new)
         (K.held sink.old) (K.held sink.new) (K.faults sink.old) (K.faults sink.new) result }
 {
     let input = match read_all(alloc, source, MOST) {
@@ -163,26 +104,16 @@ pub fn step_brief<S: Source, K: Sink>(alloc: Global, source: &mut S, sink: &mut 
         Err(ReadStop::Long) => return answer_fault(alloc, sink, 1, 0),
         Err(ReadStop::NoMemory) => return bare(alloc, 7),
     };
-    match run_text(alloc, input.as_slice()) {
-        Ok(run) => {
-            let status = status_of(sink, run.text.as_slice(), run.status);
+    match tell(alloc, command, input.as_slice()) {
+        Ok(told) => {
+            let status = status_of(sink, told.text.as_slice(), told.status);
             Answer {
                 status,
-                journal: run.journal,
+                journal: told.journal,
             }
         }
         Err(ScriptFault::At { number, line }) => answer_fault(alloc, sink, number, line),
         Err(ScriptFault::NoMemory) => bare(alloc, 7),
-    }
-}
-
-/// Whether the words are those of `step --brief`.
-fn are_step_words(words: &[&str]) -> bool
-    ensures { result ≡ are_step_words (map (λ word. word.now) words.now) }
-{
-    match words {
-        [first, second] => *first == "step" && *second == "--brief",
-        _ => false,
     }
 }
 
@@ -194,14 +125,14 @@ pub fn command<S: Source, K: Sink>(
     source: &mut S,
     sink: &mut K,
 ) -> Answer
-    ensures refused { are_step_words (map (λ word. word.now) words.now) ≡ false
+    ensures refused { command_of (map (λ word. word.now) words.now) ≡ None
         → Refuses (K.held sink.old) (K.held sink.new) (K.faults sink.old) (K.faults sink.new) result × (source.new ≡ source.old) }
-    ensures step { are_step_words (map (λ word. word.now) words.now) ≡ true
-        → Steps (S.left source.old) (S.left source.new) (S.faults source.old) (S.faults source.new)
+    ensures answers { (command : Command) → command_of (map (λ word. word.now) words.now) ≡ Some command
+        → Answers command (S.left source.old) (S.left source.new) (S.faults source.old) (S.faults source.new)
         (K.held sink.old) (K.held sink.new) (K.faults sink.old) (K.faults sink.new) result }
 {
-    if are_step_words(words) {
-        return step_brief(alloc, source, sink);
+    if let Some(command) = Command::of(words) {
+        return run_command(alloc, command, source, sink);
     }
     let status = status_of(sink, b"gaspirun: words refused\n", 1);
     bare(alloc, status)
@@ -216,10 +147,10 @@ pub fn gaspirun<R: Threads + Wait + Sync, S: Source, K: Sink>(
     source: &mut S,
     sink: &mut K,
 ) -> Answer
-    ensures refused { are_step_words (map (λ word. word.now) words.now) ≡ false
+    ensures refused { command_of (map (λ word. word.now) words.now) ≡ None
         → Refuses (K.held sink.old) (K.held sink.new) (K.faults sink.old) (K.faults sink.new) result × (source.new ≡ source.old) }
-    ensures step { are_step_words (map (λ word. word.now) words.now) ≡ true
-        → Steps (S.left source.old) (S.left source.new) (S.faults source.old) (S.faults source.new)
+    ensures answers { (command : Command) → command_of (map (λ word. word.now) words.now) ≡ Some command
+        → Answers command (S.left source.old) (S.left source.new) (S.faults source.old) (S.faults source.new)
         (K.held sink.old) (K.held sink.new) (K.faults sink.old) (K.faults sink.new) result }
 {
     command(alloc, words, source, sink)

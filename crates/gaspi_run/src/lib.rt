@@ -5,10 +5,13 @@ mod commands;
 mod moves;
 mod own_calls;
 mod scheduling;
+mod telling;
 mod transcripts;
 mod turns;
+mod words;
 
-pub use commands::{Answer, command, gaspirun, step_brief};
-pub use scheduling::{Journal, Ran, schedule};
+pub use commands::{Answer, command, gaspirun, run_command};
+pub use scheduling::{Ran, schedule};
 pub use transcripts::write_transcripts;
 pub use turns::Finished;
+pub use words::Command;

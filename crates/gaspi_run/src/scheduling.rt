@@ -7,14 +7,12 @@ ghost use Rattle.gaspi_run.specs.Schedule.{starts, rank_starts, thread_starts, s
 
 use crate::moves::turn;
 use crate::turns::{Finished, Turns, Waiting};
+use call_journal::Journal;
 use gaspi_model::{enabled, endings, settling, soundness};
-use gaspi_types::{CallerId, Event, NoMemory, RankId, Rows, Shape, ThreadId};
+use gaspi_types::{CallerId, NoMemory, RankId, Rows, Shape, ThreadId};
 use plain_machine::Machine;
 use rank_script::{Cursor, Scripts, runs};
 use std::alloc::Global;
-
-/// A history: its events, in order.
-pub type Journal = Rows<Event>;
 
 /// What a schedule gave: the events, and how each caller ended, in the order of their ends.
 #[derive(Debug, Drop)]

@@ -1,21 +1,23 @@
 //! Transcripts: what each caller was told, line by line, and how its run ended.
 
-ghost use Rattle.std.specs.Prelude.{◌≡◌, ◌<◌, ◌++◌, List, OnOk, OnErr};
+ghost use Rattle.std.specs.Prelude.{◌≡◌, ◌<◌, ◌++◌, ◌||◌, [], List, OnOk, OnErr, codes, is_some};
+ghost use Rattle.std.specs.Fmt.{decimal};
 ghost use Rattle.gaspi_types.specs.declared.events.Event.{Event};
 ghost use Rattle.gaspi_model.specs.Step.{is_end};
 ghost use Rattle.gaspi_run.specs.OwnCalls.{pairs_of, HasCallers, IsCallTable};
-ghost use Rattle.gaspi_run.specs.Transcripts.{caller_text, call_line, ended_line, stuck_line, limit_line, transcript, thread_transcript, rank_transcripts, transcripts};
+ghost use Rattle.gaspi_texts.specs.EventText.{caller_word};
+ghost use Rattle.rank_script.specs.Runs.{going_on, outcome_of};
+ghost use Rattle.gaspi_run.specs.Transcripts.{call_line, ended_line, outcome_line, transcript, thread_transcript, rank_transcripts, transcripts};
 
 use crate::own_calls::{CallTable, OwnCall, own_calls};
-use crate::scheduling::Journal;
-use gaspi_types::{
-    Bytes, Call, CallerId, NoMemory, RankId, Reply, Shape, ThreadId, write_number, write_reply,
-};
-use rank_script::{Script, Scripts, is_stuck};
+use call_journal::Journal;
+use gaspi_texts::{write_number, write_reply};
+use gaspi_types::{Bytes, Call, CallerId, NoMemory, RankId, Reply, Shape, ThreadId};
+use rank_script::{Cursor, RunOutcome, Script, Scripts};
 
 /// Adds a caller as its rank and thread.
 fn write_caller(text: &mut Bytes, caller: CallerId) -> Result<(), NoMemory>
-    ensures { OnOk result (text.new ≡ text.old ++ caller_text caller) }
+    ensures { OnOk result (text.new ≡ text.old ++ caller_word caller) }
 {
     write_number(text, u64::from(caller.rank.number()))?;
     text.append(b".")?;
@@ -42,24 +44,37 @@ fn write_ended(text: &mut Bytes, caller: CallerId) -> Result<(), NoMemory>
     text.append(b" ended\n")
 }
 
-/// Adds the line of a run that is stuck.
-fn write_stuck(text: &mut Bytes, caller: CallerId, line: u64) -> Result<(), NoMemory>
-    ensures { OnOk result (text.new ≡ text.old ++ stuck_line caller line) }
+/// Adds the line of a run that came to another end at a line, with the word of that end.
+fn write_at_line(text: &mut Bytes, caller: CallerId, word: &[u8], line: u64) -> Result<(), NoMemory>
+    ensures { OnOk result (text.new ≡ text.old ++ (caller_word caller ++ (word.now ++ (decimal line ++ codes "\n")))) }
 {
     write_caller(text, caller)?;
-    text.append(b" stuck ")?;
+    text.append(word)?;
     write_number(text, line)?;
     text.append(b"\n")
 }
 
-/// Adds the line of a run that stopped at the event limit.
-fn write_limit(text: &mut Bytes, caller: CallerId, line: u64) -> Result<(), NoMemory>
-    ensures { OnOk result (text.new ≡ text.old ++ limit_line caller line) }
+/// Adds the line of how a run ended.
+fn write_outcome(text: &mut Bytes, caller: CallerId, outcome: RunOutcome) -> Result<(), NoMemory>
+    ensures { OnOk result (text.new ≡ text.old ++ outcome_line caller outcome) }
 {
-    write_caller(text, caller)?;
-    text.append(b" limit ")?;
-    write_number(text, line)?;
-    text.append(b"\n")
+    match outcome {
+        RunOutcome::Ended => write_ended(text, caller),
+        RunOutcome::Failed { line } => write_at_line(text, caller, b" failed ", line),
+        RunOutcome::Stuck { line } => write_at_line(text, caller, b" stuck ", line),
+        RunOutcome::Limit { line } | RunOutcome::NoMemory { line } => {
+            write_at_line(text, caller, b" limit ", line)
+        }
+    }
+}
+
+/// Adds the line of how a run ended: where it goes on, it came to the event limit at its present line.
+fn write_ending(text: &mut Bytes, caller: CallerId, cursor: &Cursor<'_>) -> Result<(), NoMemory>
+    ensures { OnOk result (text.new ≡ text.old ++ transcript caller cursor.now []) }
+{
+    let line = cursor.line();
+    let outcome = cursor.outcome().unwrap_or(RunOutcome::Limit { line });
+    write_outcome(text, caller, outcome)
 }
 
 /// Whether a call is the end of its caller.
@@ -69,30 +84,30 @@ fn is_end(call: &Call) -> bool
     matches!(call, Call::End)
 }
 
+/// Whether a run makes no more calls: it is over, or its caller ends.
+fn is_over(cursor: &Cursor<'_>, call: &Call) -> bool
+    ensures { result ≡ (is_some (outcome_of cursor.now) || is_end call.now) }
+{
+    cursor.outcome().is_some() || is_end(call)
+}
+
 /// Adds the transcript of one caller, from its own calls.
 fn write_transcript(
     text: &mut Bytes,
     script: &Script,
     calls: &[OwnCall<'_>],
 ) -> Result<(), NoMemory>
-    ensures { OnOk result (text.new ≡ text.old ++ transcript script.now.caller script.now.lines (pairs_of calls.now)) }
+    ensures { OnOk result (text.new ≡ text.old ++ transcript script.now.caller (going_on script.now.lines) (pairs_of calls.now)) }
 {
-    for (done, own) in calls.iter().enumerate() {
-        let Some(line) = script.lines.get(done) else {
-            return write_ended(text, script.caller);
-        };
-        if is_end(own.call) {
-            return write_limit(text, script.caller, line.number);
+    let mut cursor = Cursor::new(script);
+    for own in calls {
+        if is_over(&cursor, own.call) {
+            return write_ending(text, script.caller, &cursor);
         }
-        write_call(text, script.caller, line.number, own.reply)?;
-        if is_stuck(line, own.reply) {
-            return write_stuck(text, script.caller, line.number);
-        }
+        write_call(text, script.caller, cursor.line(), own.reply)?;
+        cursor.advance(own.reply);
     }
-    match script.lines.get(calls.len()) {
-        Some(line) => write_limit(text, script.caller, line.number),
-        None => write_ended(text, script.caller),
-    }
+    write_ending(text, script.caller, &cursor)
 }
 
 /// Adds the transcript of a caller that has a script.

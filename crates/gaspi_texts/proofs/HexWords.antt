@@ -10,7 +10,7 @@ use Rattle.hex.proofs.HexLemmas.{decode_of-encode_lower, length-encode_with}
 use Rattle.gaspi_texts.specs.Hex.{no_bytes, bytes_of, hex_text}
 
 -- a test that decides what does not hold fails
-fails : (b : Bool) (P : Type 0) → Decides b P → (P → ⊥) → b ≡ false
+pub fails : (b : Bool) (P : Type 0) → Decides b P → (P → ⊥) → b ≡ false
 fails true P decides never = absurd (never (decides.0 refl))
 fails false P decides never = refl
 

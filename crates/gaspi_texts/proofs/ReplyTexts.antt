@@ -1,98 +1,197 @@
--- Different replies have different texts.
-use Rattle.std.proofs.Common.{◌≡◌, ℕ, ◌^◌, ◌<◌, Bool, true, false, ◌&&◌, ◌==◌, if◌then◌else◌, List, [], ◌∷◌, ◌++◌, get_or, drop, Option, unwrap_or, lit<, refl, sym, ap, ◌∙◌, arith}
+-- A reply's text, read back.
+use Rattle.std.proofs.Common.{◌≡◌, ℕ, ℤ, pos, negsuc, ◌^◌, ◌<◌, true, false, ◌==◌, codes, List, [], ◌∷◌, map, suc, Some, lit<, refl, sym, ap, ◌∙◌, arith}
 use Rattle.std.specs.Char.{is_ascii_digit}
-use Rattle.std.specs.Fmt.{decimal}
+use Rattle.std.specs.Fmt.{decimal, signed_decimal}
 use Rattle.std.specs.List.{list_all, AllByRecursion}
-use Rattle.std.proofs.lemmas.Fmt.{decimal_injective, digits_decimal}
-use Rattle.gaspi_texts.specs.Hex.{bytes_of, hex_text}
-use Rattle.gaspi_texts.specs.ReplyText.{refusal_number, refusal_fields, spaced_numbers, reply_text, IsInRange}
+use Rattle.std.specs.Option.{option_map}
+use Rattle.std.proofs.lemmas.Bool.Decides.{nat_tests}
+use Rattle.std.proofs.lemmas.Fmt.{digits_decimal}
+use Rattle.gaspi_types.specs.Replies.{refusal_number, refusal_fields, coll_fields}
+use Rattle.gaspi_types.specs.declared.collectives.NumType.{NumType}
+use Rattle.gaspi_types.specs.declared.collectives.NumType.TheVariants.{Int, Uint, Long, Ulong, Float, Double}
+use Rattle.gaspi_types.specs.declared.collectives.Op.{Op}
+use Rattle.gaspi_types.specs.declared.collectives.Op.TheVariants.{Min, Max, Sum}
+use Rattle.gaspi_types.specs.declared.collectives.Stage.{Stage}
+use Rattle.gaspi_types.specs.declared.collectives.Stage.TheVariants.{Building, Committed}
+use Rattle.gaspi_types.specs.declared.collectives.Coll.{Coll}
+use Rattle.gaspi_types.specs.declared.collectives.Coll.TheVariants.{Barrier, Allreduce, Create, Commit}
 use Rattle.gaspi_types.specs.declared.replies.Refusal.{Refusal}
-use Rattle.gaspi_types.specs.declared.replies.Refusal.TheVariants.{BadRank, NoSegment, Unregistered, BadRange, BadSize, BadQueue, QueueFull, QueueBroken, BadNote, ZeroValue, CallerEnded}
+use Rattle.gaspi_types.specs.declared.replies.Refusal.TheVariants.{BadRank, NoSegment, SegmentThere, Unregistered, BadRange, BadSize, BadQueue, QueueFull, QueueBroken, BadNote, ZeroValue, BadAlign, PassiveSize, NoGroup, GroupStage, NotMember, GroupMismatch, ActiveCollective, ResumeOther, CollectiveMismatch, BadCount, FloatType, SegmentBusy, GroupsFull, CallerEnded}
 use Rattle.gaspi_types.specs.declared.replies.Reply.{Reply}
-use Rattle.gaspi_types.specs.declared.replies.Reply.TheVariants.{Done, Value, Id, Bytes, Timeout, Refused}
+use Rattle.gaspi_types.specs.declared.replies.Reply.TheVariants as replies
+use Rattle.gaspi_texts.specs.Numbers.{number_of}
+use Rattle.gaspi_texts.specs.ReplyText.{type_word, op_word, stage_word, type_of, op_of, stage_of, is_in_type, signed_of, element_of, elements_of, coll_words, coll_of, field_words, refusal_of, reply_word_of, words_of_reply, reply_text, reply_of, IsInRange}
+use Rattle.gaspi_texts.specs.Words.{words_of}
+use Rattle.gaspi_texts.proofs.GraphicWords.{number_word, small_word, fixed_word, hex_word, signed_word, IsWide}
 use Rattle.gaspi_texts.proofs.HexWords.{bytes_of-hex_text}
-use Rattle.gaspi_texts.proofs.NumberWords.{digit_words}
+use Rattle.gaspi_texts.proofs.NumberWords.{digit_words, number_of-decimal, value_of-decimal}
+use Rattle.gaspi_texts.proofs.WordTexts.{is_graphic, IsGraphic, words_of-graphic}
 
-and_left : (b c : Bool) → (b && c) ≡ true → b ≡ true
-and_left true c h = refl
-and_left false c h = h
+-- Types, operations and stages.
 
-and_right : (b c : Bool) → (b && c) ≡ true → c ≡ true
-and_right true c h = h
-and_right false c h = cc h
+type_of-word : (t : NumType) → type_of (type_word t) ≡ Some t
+unfolding type_of
+type_of-word Int = refl
+type_of-word Uint = refl
+type_of-word Long = refl
+type_of-word Ulong = refl
+type_of-word Float = refl
+type_of-word Double = refl
 
--- two fronts of elements that pass, each before nothing or an element that does not, are one front
-same_fronts : (p : ℕ → Bool) (ds es xs ys : List ℕ) → list_all p ds ≡ true → list_all p es ≡ true
-    → p (get_or xs 0 32) ≡ false → p (get_or ys 0 32) ≡ false → ds ++ xs ≡ es ++ ys → (ds ≡ es) × (xs ≡ ys)
-same_fronts p [] [] xs ys pass also stop stops e = (refl, e)
-same_fronts p [] (b ∷ es) xs ys pass also stop stops e =
-    let first = ap (λ (t : List ℕ). p (get_or t 0 32)) e in
-    let passes = and_left (p b) (list_all p es) also in
-    cc
-same_fronts p (a ∷ ds) [] xs ys pass also stop stops e =
-    let first = ap (λ (t : List ℕ). p (get_or t 0 32)) e in
-    let passes = and_left (p a) (list_all p ds) pass in
-    cc
-same_fronts p (a ∷ ds) (b ∷ es) xs ys pass also stop stops e =
-    let tails : ds ++ xs ≡ es ++ ys = cc in
-    let heads : a ≡ b = cc in
-    let rest = same_fronts p ds es xs ys (and_right (p a) (list_all p ds) pass) (and_right (p b) (list_all p es) also) stop stops tails in
-    let fronts : ds ≡ es = rest.0 in
-    (cc, rest.1)
+op_of-word : (op : Op) → op_of (op_word op) ≡ Some op
+unfolding op_of
+op_of-word Min = refl
+op_of-word Max = refl
+op_of-word Sum = refl
 
--- a space or nothing follows a number
-stops_digits : (ns : List ℕ) → is_ascii_digit (get_or (spaced_numbers ns) 0 32) ≡ false
-stops_digits [] = refl
-stops_digits (n ∷ ns) = refl
+stage_of-word : (stage : Stage) → stage_of (stage_word stage) ≡ Some stage
+unfolding stage_of
+stage_of-word Building = refl
+stage_of-word Committed = refl
 
-pub same_from_spaced : (ms ns : List ℕ) → AllByRecursion (λ n. n < 2 ^ 64) ms → AllByRecursion (λ n. n < 2 ^ 64) ns
-    → spaced_numbers ms ≡ spaced_numbers ns → ms ≡ ns
-same_from_spaced [] [] small also e = refl
-same_from_spaced [] (n ∷ ns) small also e = cc e
-same_from_spaced (m ∷ ms) [] small also e = cc e
-same_from_spaced (m ∷ ms) (n ∷ ns) small also e =
-    let tails : decimal m ++ spaced_numbers ms ≡ decimal n ++ spaced_numbers ns = cc in
-    let parts = same_fronts is_ascii_digit (decimal m) (decimal n) (spaced_numbers ms) (spaced_numbers ns) (digits_decimal digit_words m small.0) (digits_decimal digit_words n also.0) (stops_digits ms) (stops_digits ns) tails in
-    let heads : m ≡ n = decimal_injective m n small.0 also.0 parts.0 in
-    let rest : ms ≡ ns = same_from_spaced ms ns small.1 also.1 parts.1 in
-    cc
+pub type_graphic : (t : NumType) → IsGraphic (type_word t)
+unfolding is_graphic
+type_graphic Int = fixed_word (type_word Int) (lit< tt) refl
+type_graphic Uint = fixed_word (type_word Uint) (lit< tt) refl
+type_graphic Long = fixed_word (type_word Long) (lit< tt) refl
+type_graphic Ulong = fixed_word (type_word Ulong) (lit< tt) refl
+type_graphic Float = fixed_word (type_word Float) (lit< tt) refl
+type_graphic Double = fixed_word (type_word Double) (lit< tt) refl
 
-below_2_64 : (ns : List ℕ) → AllByRecursion (λ n. n < 2 ^ 32) ns → AllByRecursion (λ n. n < 2 ^ 64) ns
-below_2_64 [] h = tt
-below_2_64 (n ∷ ns) h = (omega (arith, h.0), below_2_64 ns h.1)
+op_graphic : (op : Op) → IsGraphic (op_word op)
+unfolding is_graphic
+op_graphic Min = fixed_word (op_word Min) (lit< tt) refl
+op_graphic Max = fixed_word (op_word Max) (lit< tt) refl
+op_graphic Sum = fixed_word (op_word Sum) (lit< tt) refl
 
--- the refusal of a number and fields
-refusal_named : ℕ → List ℕ → Refusal
-refusal_named number fields =
-    if number == 1 then BadRank
-    else (if number == 2 then NoSegment
-    else (if number == 4 then Unregistered
-    else (if number == 5 then BadRange (get_or fields 0 0)
-    else (if number == 6 then BadSize
-    else (if number == 7 then BadQueue
-    else (if number == 8 then QueueFull (get_or fields 0 0) (get_or fields 1 0)
-    else (if number == 9 then QueueBroken (get_or fields 0 0)
-    else (if number == 10 then BadNote
-    else (if number == 11 then ZeroValue
-    else CallerEnded)))))))))
+stage_graphic : (stage : Stage) → IsGraphic (stage_word stage)
+unfolding is_graphic
+stage_graphic Building = fixed_word (stage_word Building) (lit< tt) refl
+stage_graphic Committed = fixed_word (stage_word Committed) (lit< tt) refl
 
-refusal_named-same : (r : Refusal) → refusal_named (refusal_number r) (refusal_fields r) ≡ r
-unfolding refusal_named
-refusal_named-same BadRank = refl
-refusal_named-same NoSegment = refl
-refusal_named-same Unregistered = refl
-refusal_named-same (BadRange size) = refl
-refusal_named-same BadSize = refl
-refusal_named-same BadQueue = refl
-refusal_named-same (QueueFull count need) = refl
-refusal_named-same (QueueBroken rank) = refl
-refusal_named-same BadNote = refl
-refusal_named-same ZeroValue = refl
-refusal_named-same CallerEnded = refl
+-- Elements.
+
+wide_in_type : (t : NumType) (z : ℤ) → is_in_type t z ≡ true → IsWide z
+unfolding IsWide
+wide_in_type Int (pos n) h = grind (arith, nat_tests)
+wide_in_type Int (negsuc n) h = grind (arith, nat_tests)
+wide_in_type Uint (pos n) h = grind (arith, nat_tests)
+wide_in_type Uint (negsuc n) h = grind (arith, nat_tests)
+wide_in_type Long (pos n) h = grind (arith, nat_tests)
+wide_in_type Long (negsuc n) h = grind (arith, nat_tests)
+wide_in_type Ulong (pos n) h = grind (arith, nat_tests)
+wide_in_type Ulong (negsuc n) h = grind (arith, nat_tests)
+wide_in_type Float (pos n) h = grind (arith, nat_tests)
+wide_in_type Float (negsuc n) h = grind (arith, nat_tests)
+wide_in_type Double (pos n) h = grind (arith, nat_tests)
+wide_in_type Double (negsuc n) h = grind (arith, nat_tests)
+
+-- a word of digits has no sign
+signed_of-digits : (word : List ℕ) → list_all is_ascii_digit word ≡ true → signed_of word ≡ option_map pos (number_of word)
+unfolding signed_of number_of
+signed_of-digits [] digits = refl
+signed_of-digits (byte ∷ bytes) digits =
+    let other : (byte == 45) ≡ false = grind (arith, nat_tests) in
+    rw other refl
+
+signed_of-decimal : (z : ℤ) → IsWide z → signed_of (signed_decimal z) ≡ Some z
+unfolding IsWide signed_of
+signed_of-decimal (pos n) wide = signed_of-digits (decimal n) (digits_decimal digit_words n wide) ∙ rw (number_of-decimal n wide) refl
+signed_of-decimal (negsuc n) wide = rw (number_of-decimal (suc n) wide) refl
+
+element_of-decimal : (t : NumType) (z : ℤ) → is_in_type t z ≡ true → element_of t (signed_decimal z) ≡ Some z
+unfolding element_of
+element_of-decimal t z h = rw (signed_of-decimal z (wide_in_type t z h), h) refl
+
+elements_of-decimals : (t : NumType) (items : List ℤ) → AllByRecursion (λ z. is_in_type t z ≡ true) items
+    → elements_of t (map signed_decimal items) ≡ Some items
+elements_of-decimals t [] h = refl
+elements_of-decimals t (z ∷ items) h = rw (element_of-decimal t z h.0, elements_of-decimals t items h.1) refl
+
+elements_graphic : (t : NumType) (items : List ℤ) → AllByRecursion (λ z. is_in_type t z ≡ true) items
+    → AllByRecursion IsGraphic (map signed_decimal items)
+elements_graphic t [] h = tt
+elements_graphic t (z ∷ items) h = (signed_word z (wide_in_type t z h.0), elements_graphic t items h.1)
+
+-- Refusals.
+
+coll_of-words : (c : Coll) → AllByRecursion (λ n. n < 2 ^ 32) (coll_fields c) → coll_of (coll_words c) ≡ Some c
+unfolding coll_of
+coll_of-words Barrier h = refl
+coll_of-words (Allreduce op num_type count) h =
+    rw (op_of-word op, type_of-word num_type, value_of-decimal count h.1.1.1.0) refl
+coll_of-words (Create segment size) h = rw (value_of-decimal segment h.1.0, value_of-decimal size h.1.1.0) refl
+coll_of-words (Commit mask) h = rw (value_of-decimal mask h.1.0) refl
+
+coll_graphic : (c : Coll) → AllByRecursion (λ n. n < 2 ^ 32) (coll_fields c) → AllByRecursion IsGraphic (coll_words c)
+unfolding is_graphic
+coll_graphic Barrier h = (fixed_word (codes "barrier") (lit< tt) refl, tt)
+coll_graphic (Allreduce op num_type count) h =
+    (fixed_word (codes "allreduce") (lit< tt) refl, (op_graphic op, (type_graphic num_type, (small_word count h.1.1.1.0, tt))))
+coll_graphic (Create segment size) h =
+    (fixed_word (codes "create") (lit< tt) refl, (small_word segment h.1.0, (small_word size h.1.1.0, tt)))
+coll_graphic (Commit mask) h = (fixed_word (codes "commit") (lit< tt) refl, (small_word mask h.1.0, tt))
+
+refusal_of-words : (r : Refusal) → AllByRecursion (λ n. n < 2 ^ 32) (refusal_fields r)
+    → refusal_of (refusal_number r) (field_words r) ≡ Some r
+unfolding refusal_of
+refusal_of-words BadRank h = refl
+refusal_of-words NoSegment h = refl
+refusal_of-words SegmentThere h = refl
+refusal_of-words Unregistered h = refl
+refusal_of-words (BadRange size) h = rw (value_of-decimal size h.0) refl
+refusal_of-words BadSize h = refl
+refusal_of-words BadQueue h = refl
+refusal_of-words (QueueFull count need) h = rw (value_of-decimal count h.0, value_of-decimal need h.1.0) refl
+refusal_of-words (QueueBroken rank) h = rw (value_of-decimal rank h.0) refl
+refusal_of-words BadNote h = refl
+refusal_of-words ZeroValue h = refl
+refusal_of-words BadAlign h = refl
+refusal_of-words (PassiveSize waiting) h = rw (value_of-decimal waiting h.0) refl
+refusal_of-words NoGroup h = refl
+refusal_of-words (GroupStage stage) h = rw (stage_of-word stage) refl
+refusal_of-words NotMember h = refl
+refusal_of-words (GroupMismatch kept) h = rw (value_of-decimal kept h.0) refl
+refusal_of-words (ActiveCollective thread) h = rw (value_of-decimal thread h.0) refl
+refusal_of-words (ResumeOther kept) h = rw (coll_of-words kept h) refl
+refusal_of-words (CollectiveMismatch kept) h = rw (coll_of-words kept h) refl
+refusal_of-words BadCount h = refl
+refusal_of-words FloatType h = refl
+refusal_of-words (SegmentBusy queue) h = rw (value_of-decimal queue h.0) refl
+refusal_of-words GroupsFull h = refl
+refusal_of-words CallerEnded h = refl
+
+fields_graphic : (r : Refusal) → AllByRecursion (λ n. n < 2 ^ 32) (refusal_fields r) → AllByRecursion IsGraphic (field_words r)
+fields_graphic BadRank h = tt
+fields_graphic NoSegment h = tt
+fields_graphic SegmentThere h = tt
+fields_graphic Unregistered h = tt
+fields_graphic (BadRange size) h = (small_word size h.0, tt)
+fields_graphic BadSize h = tt
+fields_graphic BadQueue h = tt
+fields_graphic (QueueFull count need) h = (small_word count h.0, (small_word need h.1.0, tt))
+fields_graphic (QueueBroken rank) h = (small_word rank h.0, tt)
+fields_graphic BadNote h = tt
+fields_graphic ZeroValue h = tt
+fields_graphic BadAlign h = tt
+fields_graphic (PassiveSize waiting) h = (small_word waiting h.0, tt)
+fields_graphic NoGroup h = tt
+fields_graphic (GroupStage stage) h = (stage_graphic stage, tt)
+fields_graphic NotMember h = tt
+fields_graphic (GroupMismatch kept) h = (small_word kept h.0, tt)
+fields_graphic (ActiveCollective thread) h = (small_word thread h.0, tt)
+fields_graphic (ResumeOther kept) h = coll_graphic kept h
+fields_graphic (CollectiveMismatch kept) h = coll_graphic kept h
+fields_graphic BadCount h = tt
+fields_graphic FloatType h = tt
+fields_graphic (SegmentBusy queue) h = (small_word queue h.0, tt)
+fields_graphic GroupsFull h = tt
+fields_graphic CallerEnded h = tt
 
 refusal_number-small : (r : Refusal) → refusal_number r < 2 ^ 64
 refusal_number-small BadRank = lit< tt
 refusal_number-small NoSegment = lit< tt
+refusal_number-small SegmentThere = lit< tt
 refusal_number-small Unregistered = lit< tt
 refusal_number-small (BadRange size) = lit< tt
 refusal_number-small BadSize = lit< tt
@@ -101,34 +200,55 @@ refusal_number-small (QueueFull count need) = lit< tt
 refusal_number-small (QueueBroken rank) = lit< tt
 refusal_number-small BadNote = lit< tt
 refusal_number-small ZeroValue = lit< tt
+refusal_number-small BadAlign = lit< tt
+refusal_number-small (PassiveSize waiting) = lit< tt
+refusal_number-small NoGroup = lit< tt
+refusal_number-small (GroupStage stage) = lit< tt
+refusal_number-small NotMember = lit< tt
+refusal_number-small (GroupMismatch kept) = lit< tt
+refusal_number-small (ActiveCollective thread) = lit< tt
+refusal_number-small (ResumeOther kept) = lit< tt
+refusal_number-small (CollectiveMismatch kept) = lit< tt
+refusal_number-small BadCount = lit< tt
+refusal_number-small FloatType = lit< tt
+refusal_number-small (SegmentBusy queue) = lit< tt
+refusal_number-small GroupsFull = lit< tt
 refusal_number-small CallerEnded = lit< tt
 
-same_refusal : (r s : Refusal) → (refusal_number r ∷ refusal_fields r) ≡ (refusal_number s ∷ refusal_fields s) → r ≡ s
-same_refusal r s e =
-    sym (refusal_named-same r) ∙ ap (λ (ns : List ℕ). refusal_named (get_or ns 0 0) (drop 1 ns)) e ∙ refusal_named-same s
+-- Replies.
 
-same_bytes : (xs ys : List ℕ) → IsInRange (Bytes xs) → IsInRange (Bytes ys) → hex_text xs ≡ hex_text ys → xs ≡ ys
-same_bytes xs ys small also e =
-    let read = sym (bytes_of-hex_text xs small) ∙ ap bytes_of e ∙ bytes_of-hex_text ys also in
-    ap (λ (o : Option (List ℕ)). unwrap_or o []) read
+pub reply_of-words : (r : Reply) → IsInRange r → reply_of (words_of_reply r) ≡ Some r
+unfolding reply_of reply_word_of words_of_reply
+reply_of-words replies.Done h = refl
+reply_of-words (replies.Value n) h = rw (number_of-decimal n h) refl
+reply_of-words (replies.Id n) h = rw (value_of-decimal n h) refl
+reply_of-words (replies.Bytes bytes) h = rw (bytes_of-hex_text bytes h) refl
+reply_of-words (replies.Mask mask) h = rw (value_of-decimal mask h) refl
+reply_of-words (replies.List numbers) h =
+    rw (type_of-word numbers.num_type, elements_of-decimals numbers.num_type numbers.items h) refl
+reply_of-words replies.Timeout h = refl
+reply_of-words (replies.Refused refusal) h =
+    rw (number_of-decimal (refusal_number refusal) (refusal_number-small refusal), refusal_of-words refusal h) refl
 
--- the first bytes of the texts differ from one kind of reply to the next
+pub words_of_reply-graphic : (r : Reply) → IsInRange r → AllByRecursion IsGraphic (words_of_reply r)
+unfolding words_of_reply is_graphic
+words_of_reply-graphic replies.Done h = (fixed_word (codes "done") (lit< tt) refl, tt)
+words_of_reply-graphic (replies.Value n) h = (fixed_word (codes "value") (lit< tt) refl, (number_word n h, tt))
+words_of_reply-graphic (replies.Id n) h = (fixed_word (codes "id") (lit< tt) refl, (small_word n h, tt))
+words_of_reply-graphic (replies.Bytes bytes) h = (fixed_word (codes "bytes") (lit< tt) refl, (hex_word bytes h, tt))
+words_of_reply-graphic (replies.Mask mask) h = (fixed_word (codes "mask") (lit< tt) refl, (small_word mask h, tt))
+words_of_reply-graphic (replies.List numbers) h =
+    (fixed_word (codes "list") (lit< tt) refl, (type_graphic numbers.num_type, elements_graphic numbers.num_type numbers.items h))
+words_of_reply-graphic replies.Timeout h = (fixed_word (codes "timeout") (lit< tt) refl, tt)
+words_of_reply-graphic (replies.Refused refusal) h =
+    (fixed_word (codes "refused") (lit< tt) refl, (number_word (refusal_number refusal) (refusal_number-small refusal), fields_graphic refusal h))
+
+pub reply_of-reply_text : (r : Reply) → IsInRange r → reply_of (words_of (reply_text r)) ≡ Some r
+reply_of-reply_text r h = ap reply_of (words_of-graphic (words_of_reply r) (words_of_reply-graphic r h)) ∙ reply_of-words r h
+
 pub same_reply : (a b : Reply) → IsInRange a → IsInRange b → reply_text a ≡ reply_text b → a ≡ b
-unfolding reply_text
-same_reply Done Done small also e = refl
-same_reply (Value m) (Value n) small also e =
-    let numbers = same_from_spaced (m ∷ []) (n ∷ []) (small, tt) (also, tt) (ap (drop 5) e) in
-    ap (λ (ns : List ℕ). Value (get_or ns 0 0)) numbers
-same_reply (Id m) (Id n) small also e =
-    let numbers = same_from_spaced (m ∷ []) (n ∷ []) (omega arith, tt) (omega arith, tt) (ap (drop 2) e) in
-    ap (λ (ns : List ℕ). Id (get_or ns 0 0)) numbers
-same_reply (Bytes xs) (Bytes ys) small also e = ap Bytes (same_bytes xs ys small also (ap (drop 6) e))
-same_reply Timeout Timeout small also e = refl
-same_reply (Refused r) (Refused s) small also e =
-    ap Refused (same_refusal r s (same_from_spaced (refusal_number r ∷ refusal_fields r) (refusal_number s ∷ refusal_fields s) (refusal_number-small r, below_2_64 (refusal_fields r) small) (refusal_number-small s, below_2_64 (refusal_fields s) also) (ap (drop 7) e)))
-same_reply Done b small also e = let first = ap (λ (t : List ℕ). get_or t 0 0) e in absurd (omega arith)
-same_reply (Value m) b small also e = let first = ap (λ (t : List ℕ). get_or t 0 0) e in absurd (omega arith)
-same_reply (Id m) b small also e = let first = ap (λ (t : List ℕ). get_or t 0 0) e in absurd (omega arith)
-same_reply (Bytes xs) b small also e = let first = ap (λ (t : List ℕ). get_or t 0 0) e in absurd (omega arith)
-same_reply Timeout b small also e = let first = ap (λ (t : List ℕ). get_or t 0 0) e in absurd (omega arith)
-same_reply (Refused r) b small also e = let first = ap (λ (t : List ℕ). get_or t 0 0) e in absurd (omega arith)
+same_reply a b small also e =
+    let first = reply_of-reply_text a small in
+    let second = reply_of-reply_text b also in
+    let read : Some a ≡ Some b = sym first ∙ ap (λ (text : List ℕ). reply_of (words_of text)) e ∙ second in
+    cc

@@ -1,7 +1,9 @@
 pub mod CallText
+pub mod EventReading
 pub mod EventText
 pub mod Hex
 pub mod Lines
 pub mod Numbers
 pub mod ReplyText
 pub mod Words
+pub mod Written

@@ -1,12 +1,13 @@
-//! Calls read from texts.
+//! Texts of calls.
 
-ghost use Rattle.std.specs.Prelude.{◌≡◌, ◌++◌, map, IfOk, OnOk, OnErr, true};
+ghost use Rattle.std.specs.Prelude.{◌≡◌, ◌++◌, map, take, length, IfOk, OnOk, OnErr, true};
 ghost use Rattle.gaspi_texts.specs.CallText.{store_of, load_of, write_of, notify_of, write_notify_of, wait_of, waitsome_of, reset_of, call_of, recorded_call_of, takes_memory, call_of_text, call_text};
 
 use crate::blanks::words;
 use crate::call_words::CallWord;
 use crate::hexes::read_bytes;
 use crate::numbers::{read_number, read_value};
+use crate::words_written::{append_bytes, append_line};
 use gaspi_types::{Bytes, Call, NoMemory};
 use std::alloc::Global;
 
@@ -189,14 +190,90 @@ pub fn read_recorded_call(alloc: Global, words: &[&[u8]]) -> Result<Option<Call>
     read_call_words(alloc, words)
 }
 
+/// Adds the text of a call. Without memory the text keeps its front.
+fn append_call(text: &mut Bytes, call: &Call) -> Result<(), NoMemory>
+    ensures ok { OnOk result (text.new ≡ text.old ++ call_text call.now) }
+    ensures err { OnErr result (take (length text.old) text.new ≡ text.old) }
+{
+    match call {
+        Call::Store { seg, offset, bytes } => {
+            append_line(text, b"store", &[*seg, *offset])?;
+            append_bytes(text, bytes.as_slice())
+        }
+        Call::Load { seg, offset, size } => append_line(text, b"load", &[*seg, *offset, *size]),
+        Call::Write {
+            seg,
+            offset,
+            rank,
+            rseg,
+            roffset,
+            size,
+            queue,
+        } => {
+            append_line(
+                text,
+                b"write",
+                &[*seg, *offset, *rank, *rseg, *roffset, *size, *queue],
+            )
+        }
+        Call::Notify {
+            rseg,
+            rank,
+            note,
+            value,
+            queue,
+        } => {
+            append_line(
+                text,
+                b"notify",
+                &[*rseg, *rank, *note, u64::from(*value), *queue],
+            )
+        }
+        Call::WriteNotify {
+            seg,
+            offset,
+            rank,
+            rseg,
+            roffset,
+            size,
+            note,
+            value,
+            queue,
+        } => {
+            append_line(
+                text,
+                b"write_notify",
+                &[
+                    *seg,
+                    *offset,
+                    *rank,
+                    *rseg,
+                    *roffset,
+                    *size,
+                    *note,
+                    u64::from(*value),
+                    *queue,
+                ],
+            )
+        }
+        Call::Wait { queue } => append_line(text, b"wait", &[*queue]),
+        Call::Waitsome { seg, begin, num } => append_line(text, b"waitsome", &[*seg, *begin, *num]),
+        Call::Reset { seg, note } => append_line(text, b"reset", &[*seg, *note]),
+        Call::End => text.append(b"end"),
+    }
+}
+
 /// Adds the text of a call, in the one form that is written. Without memory nothing changes.
 pub fn write_call(text: &mut Bytes, call: &Call) -> Result<(), NoMemory>
     ensures ok { OnOk result (text.new ≡ text.old ++ call_text call.now) }
     ensures err { OnErr result (text.new ≡ text.old) }
 {
-    let _call = call;
-    let _count = text.len();
-    Err(NoMemory)
+    let start = text.len();
+    let written = append_call(text, call);
+    if written.is_err() {
+        text.truncate(start);
+    }
+    written
 }
 
 /// The call that a text spells, its words apart by spaces and tabs. The end of a caller is one.

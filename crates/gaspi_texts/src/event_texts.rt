@@ -1,20 +1,106 @@
 //! Texts of events.
 
-ghost use Rattle.std.specs.Prelude.{◌≡◌, ◌≢◌, ◌++◌, OnOk, OnErr, IfOk, MatchOption};
+ghost use Rattle.std.specs.Prelude.{◌≡◌, ◌≢◌, ◌++◌, ◌∷◌, take, length, OnOk, OnErr, IfOk, MatchOption};
 ghost use Rattle.gaspi_types.specs.declared.events.Event.{Event};
-ghost use Rattle.gaspi_texts.specs.EventText.{event_text, IsInEventRange};
+ghost use Rattle.gaspi_texts.specs.EventText.{caller_word, event_text, IsInEventRange};
 
-use gaspi_types::{Bytes, Event, NoMemory};
+use crate::call_texts::write_call;
+use crate::event_reading::{outcome_word, read_spelled_event};
+use crate::numbers::write_number;
+use crate::reply_texts::write_reply;
+use crate::words_written::{append_line, append_word};
+use gaspi_types::{Bytes, CallerId, Event, NoMemory, Rows};
 use std::alloc::Global;
+
+/// Adds a caller behind a space: its rank and its thread. Without memory the text keeps its front.
+fn append_caller(text: &mut Bytes, caller: CallerId) -> Result<(), NoMemory>
+    ensures ok { OnOk result (text.new ≡ text.old ++ 32 ∷ caller_word caller) }
+    ensures err { OnErr result (take (length text.old) text.new ≡ text.old) }
+{
+    text.push(b' ')?;
+    write_number(text, u64::from(caller.rank.number()))?;
+    text.push(b'.')?;
+    write_number(text, u64::from(caller.thread.number()))
+}
+
+/// Adds the text of an event. Without memory the text keeps its front.
+#[tactic(auto, unfolding(crate::specs::EventText::words_of_event))]
+fn append_event(text: &mut Bytes, event: &Event) -> Result<(), NoMemory>
+    ensures ok { OnOk result (text.new ≡ text.old ++ event_text event.now) }
+    ensures err { OnErr result (take (length text.old) text.new ≡ text.old) }
+{
+    match event {
+        Event::Called(caller, call, reply) => {
+            text.append(b"called")?;
+            append_caller(text, *caller)?;
+            text.push(b' ')?;
+            write_call(text, call)?;
+            text.append(b" -> ")?;
+            write_reply(text, reply)
+        }
+        Event::Take(origin, queue, target, number, outcome) => {
+            append_line(
+                text,
+                b"take",
+                &[
+                    u64::from(origin.number()),
+                    u64::from(queue.number()),
+                    u64::from(target.number()),
+                    u64::from(*number),
+                ],
+            )?;
+            append_word(text, outcome_word(*outcome))
+        }
+        Event::Put(origin, queue, target, number, outcome) => {
+            append_line(
+                text,
+                b"put",
+                &[
+                    u64::from(origin.number()),
+                    u64::from(queue.number()),
+                    u64::from(target.number()),
+                    u64::from(*number),
+                ],
+            )?;
+            append_word(text, outcome_word(*outcome))
+        }
+    }
+}
 
 /// Adds the text of an event, in the one form that there is. Without memory nothing changes.
 pub fn write_event(text: &mut Bytes, event: &Event) -> Result<(), NoMemory>
     ensures ok { OnOk result (text.new ≡ text.old ++ event_text event.now) }
     ensures err { OnErr result (text.new ≡ text.old) }
 {
-    let _event = event;
-    let _count = text.len();
-    Err(NoMemory)
+    let start = text.len();
+    let written = append_event(text, event);
+    if written.is_err() {
+        text.truncate(start);
+    }
+    written
+}
+
+/// The event that a text spells; none exactly where it is the text of no event. What `scratch` holds afterwards is
+/// not said: its memory is used for the text that the event would have.
+pub fn read_event_with(
+    alloc: Global,
+    scratch: &mut Bytes,
+    text: &[u8],
+) -> Result<Option<Event>, NoMemory>
+    ensures { IfOk result (λ found. MatchOption found
+        ((event : Event) → IsInEventRange event → text.now ≢ event_text event)
+        (λ event. IsInEventRange event × (text.now ≡ event_text event))) }
+{
+    let Some(event) = read_spelled_event(alloc, text)? else {
+        return Ok(None);
+    };
+    scratch.truncate(0);
+    write_event(scratch, &event)?;
+    if scratch.as_slice() == text {
+        Ok(Some(event))
+    } else {
+        Ok(None)
+    }
 }
 
 /// The event that a text spells; none exactly where it is the text of no event.
@@ -23,7 +109,6 @@ pub fn read_event(alloc: Global, text: &[u8]) -> Result<Option<Event>, NoMemory>
         ((event : Event) → IsInEventRange event → text.now ≢ event_text event)
         (λ event. IsInEventRange event × (text.now ≡ event_text event))) }
 {
-    let _alloc = alloc;
-    let _text = text;
-    Err(NoMemory)
+    let mut scratch: Bytes = Rows::new(alloc);
+    read_event_with(alloc, &mut scratch, text)
 }

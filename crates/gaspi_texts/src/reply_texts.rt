@@ -1,36 +1,142 @@
 //! Texts of replies.
 
-ghost use Rattle.std.specs.Prelude.{◌≡◌, ◌++◌, map, OnOk, OnErr, IfOk};
-ghost use Rattle.gaspi_texts.specs.ReplyText.{reply_text, reply_of};
+ghost use Rattle.std.specs.Prelude.{◌≡◌, ◌++◌, ◌∷◌, map, take, length, OnOk, OnErr, IfOk, codes};
+ghost use Rattle.std.specs.Fmt.{decimal};
+ghost use Rattle.std.specs.List.{join_with_byte};
+ghost use Rattle.gaspi_types.specs.Replies.{refusal_number};
+ghost use Rattle.gaspi_texts.specs.ReplyText.{coll_words, field_words, words_of_reply, reply_text, reply_of};
 ghost use Rattle.gaspi_texts.specs.Words.{words_of};
+ghost use Rattle.gaspi_texts.specs.Written.{spaced};
 
-use gaspi_types::{Bytes, NoMemory, Reply};
+use crate::blanks::words;
+use crate::reply_reading::read_arguments;
+use crate::reply_words::{ReplyWord, op_word, stage_word, type_word};
+use crate::words_written::{
+    append_bytes, append_elements, append_line, append_numbers, append_word,
+};
+use gaspi_types::{Bytes, Coll, NoMemory, Refusal, Reply};
 use std::alloc::Global;
+
+/// Adds a collective behind a space: its kind and its arguments. Without memory the text keeps its front.
+fn append_coll(text: &mut Bytes, coll: Coll) -> Result<(), NoMemory>
+    ensures ok { OnOk result (text.new ≡ text.old ++ spaced (coll_words coll)) }
+    ensures err { OnErr result (take (length text.old) text.new ≡ text.old) }
+{
+    match coll {
+        Coll::Barrier => append_word(text, b"barrier"),
+        Coll::Allreduce(op, num_type, count) => {
+            append_word(text, b"allreduce")?;
+            append_word(text, op_word(op))?;
+            append_word(text, type_word(num_type))?;
+            append_numbers(text, &[u64::from(count)])
+        }
+        Coll::Create(segment, size) => {
+            append_word(text, b"create")?;
+            append_numbers(text, &[u64::from(segment), u64::from(size)])
+        }
+        Coll::Commit(mask) => {
+            append_word(text, b"commit")?;
+            append_numbers(text, &[u64::from(mask)])
+        }
+    }
+}
+
+/// Adds the fields of a refusal, each behind a space. Without memory the text keeps its front.
+fn append_fields(text: &mut Bytes, refusal: Refusal) -> Result<(), NoMemory>
+    ensures ok { OnOk result (text.new ≡ text.old ++ spaced (field_words refusal)) }
+    ensures err { OnErr result (take (length text.old) text.new ≡ text.old) }
+{
+    match refusal {
+        Refusal::BadRange { size } => append_numbers(text, &[u64::from(size)]),
+        Refusal::QueueFull { count, need } => {
+            append_numbers(text, &[u64::from(count), u64::from(need)])
+        }
+        Refusal::QueueBroken { rank } => append_numbers(text, &[u64::from(rank)]),
+        Refusal::PassiveSize { waiting } => append_numbers(text, &[u64::from(waiting)]),
+        Refusal::GroupStage { stage } => append_word(text, stage_word(stage)),
+        Refusal::GroupMismatch { kept } => append_numbers(text, &[u64::from(kept)]),
+        Refusal::ActiveCollective { thread } => append_numbers(text, &[u64::from(thread)]),
+        Refusal::ResumeOther { kept } | Refusal::CollectiveMismatch { kept } => {
+            append_coll(text, kept)
+        }
+        Refusal::SegmentBusy { queue } => append_numbers(text, &[u64::from(queue)]),
+        Refusal::BadRank
+        | Refusal::NoSegment
+        | Refusal::SegmentThere
+        | Refusal::Unregistered
+        | Refusal::BadSize
+        | Refusal::BadQueue
+        | Refusal::BadNote
+        | Refusal::ZeroValue
+        | Refusal::BadAlign
+        | Refusal::NoGroup
+        | Refusal::NotMember
+        | Refusal::BadCount
+        | Refusal::FloatType
+        | Refusal::GroupsFull
+        | Refusal::CallerEnded => Ok(()),
+    }
+}
+
+/// Adds the text of a reply. Without memory the text keeps its front.
+#[tactic(auto, unfolding(crate::specs::ReplyText::words_of_reply))]
+fn append_reply(text: &mut Bytes, reply: &Reply) -> Result<(), NoMemory>
+    ensures ok { OnOk result (text.new ≡ text.old ++ reply_text reply.now) }
+    ensures err { OnErr result (take (length text.old) text.new ≡ text.old) }
+{
+    match reply {
+        Reply::Done => text.append(b"done"),
+        Reply::Value(n) => append_line(text, b"value", &[*n]),
+        Reply::Id(n) => append_line(text, b"id", &[u64::from(*n)]),
+        Reply::Bytes(bytes) => {
+            text.append(b"bytes")?;
+            append_bytes(text, bytes.as_slice())
+        }
+        Reply::Mask(mask) => append_line(text, b"mask", &[u64::from(*mask)]),
+        Reply::List(numbers) => {
+            text.append(b"list")?;
+            append_word(text, type_word(numbers.num_type))?;
+            append_elements(text, numbers.items.as_slice())
+        }
+        Reply::Timeout => text.append(b"timeout"),
+        Reply::Refused(refusal) => {
+            append_line(text, b"refused", &[u64::from(refusal.number())])?;
+            append_fields(text, *refusal)
+        }
+    }
+}
 
 /// Adds the text of a reply, in the one form that is written. Without memory nothing changes.
 pub fn write_reply(text: &mut Bytes, reply: &Reply) -> Result<(), NoMemory>
     ensures ok { OnOk result (text.new ≡ text.old ++ reply_text reply.now) }
     ensures err { OnErr result (text.new ≡ text.old) }
 {
-    let _reply = reply;
-    let _count = text.len();
-    Err(NoMemory)
+    let start = text.len();
+    let written = append_reply(text, reply);
+    if written.is_err() {
+        text.truncate(start);
+    }
+    written
 }
 
 /// The reply that words spell: numbers may have leading zeros, bytes digits of either case, and zero a sign.
+#[tactic(auto, unfolding(crate::specs::ReplyText::reply_of))]
 pub fn read_reply_words(alloc: Global, words: &[&[u8]]) -> Result<Option<Reply>, NoMemory>
     ensures { IfOk result (λ reply. reply ≡ reply_of (map (λ word. word.now) words.now)) }
 {
-    let _alloc = alloc;
-    let _words = words;
-    Err(NoMemory)
+    let [word, arguments @ ..] = words else {
+        return Ok(None);
+    };
+    let Some(kind) = ReplyWord::of(word) else {
+        return Ok(None);
+    };
+    read_arguments(alloc, kind, arguments)
 }
 
 /// The reply that a text spells, its words apart by spaces and tabs.
 pub fn read_reply(alloc: Global, text: &[u8]) -> Result<Option<Reply>, NoMemory>
     ensures { IfOk result (λ reply. reply ≡ reply_of (words_of text.now)) }
 {
-    let _alloc = alloc;
-    let _text = text;
-    Err(NoMemory)
+    let words = words(alloc, text)?;
+    read_reply_words(alloc, words.as_slice())
 }

@@ -1,7 +1,9 @@
-//! The words that replies begin with.
+//! The words of replies.
 
 ghost use Rattle.std.specs.Prelude.{◌≡◌};
-ghost use Rattle.gaspi_texts.specs.ReplyText.{reply_spelling, reply_word_of};
+ghost use Rattle.gaspi_texts.specs.ReplyText.{reply_spelling, reply_word_of, type_word, op_word, stage_word, type_of, op_of, stage_of};
+
+use gaspi_types::{NumType, Op, Stage};
 
 /// The word that a reply's text begins with.
 #[derive(Clone, Copy, Debug, PartialEq, Eq)]
@@ -52,4 +54,79 @@ impl ReplyWord {
         .copied()
         .find(|reply| reply.spelling() == word)
     }
+}
+
+/// The word for a type of numbers.
+pub(crate) fn type_word(num_type: NumType) -> &'static [u8]
+    ensures { result.now ≡ type_word num_type }
+{
+    match num_type {
+        NumType::Int => b"INT",
+        NumType::Uint => b"UINT",
+        NumType::Long => b"LONG",
+        NumType::Ulong => b"ULONG",
+        NumType::Float => b"FLOAT",
+        NumType::Double => b"DOUBLE",
+    }
+}
+
+/// The word for an operation.
+pub(crate) fn op_word(op: Op) -> &'static [u8]
+    ensures { result.now ≡ op_word op }
+{
+    match op {
+        Op::Min => b"MIN",
+        Op::Max => b"MAX",
+        Op::Sum => b"SUM",
+    }
+}
+
+/// The word for a stage.
+pub(crate) fn stage_word(stage: Stage) -> &'static [u8]
+    ensures { result.now ≡ stage_word stage }
+{
+    match stage {
+        Stage::Building => b"building",
+        Stage::Committed => b"committed",
+    }
+}
+
+/// The type of numbers that a word stands for.
+#[tactic(auto, unfolding(crate::specs::ReplyText::type_of))]
+pub(crate) fn read_type(word: &[u8]) -> Option<NumType>
+    ensures { result ≡ type_of word.now }
+{
+    [
+        NumType::Int,
+        NumType::Uint,
+        NumType::Long,
+        NumType::Ulong,
+        NumType::Float,
+        NumType::Double,
+    ]
+    .iter()
+    .copied()
+    .find(|num_type| type_word(*num_type) == word)
+}
+
+/// The operation that a word stands for.
+#[tactic(auto, unfolding(crate::specs::ReplyText::op_of))]
+pub(crate) fn read_op(word: &[u8]) -> Option<Op>
+    ensures { result ≡ op_of word.now }
+{
+    [Op::Min, Op::Max, Op::Sum]
+        .iter()
+        .copied()
+        .find(|op| op_word(*op) == word)
+}
+
+/// The stage that a word stands for.
+#[tactic(auto, unfolding(crate::specs::ReplyText::stage_of))]
+pub(crate) fn read_stage(word: &[u8]) -> Option<Stage>
+    ensures { result ≡ stage_of word.now }
+{
+    [Stage::Building, Stage::Committed]
+        .iter()
+        .copied()
+        .find(|stage| stage_word(*stage) == word)
 }

@@ -1,29 +1,26 @@
 -- What the arguments of a line tell of its faults, and what it adds.
-use Rattle.std.proofs.Common.{◌≡◌, ℕ, zero, suc, ◌-◌, length-append, Bool, true, false, cond, not, ◌||◌, List, [], ◌∷◌, ◌++◌, length, map, Option, Some, None, Ok, Err, refl, sym, ap, ◌∙◌, arith, is_none}
+use Rattle.std.proofs.Common.{◌≡◌, ℕ, zero, suc, ◌-◌, length-append, Bool, true, false, cond, not, ◌&&◌, ◌||◌, List, [], ◌∷◌, ◌++◌, length, map, Option, Some, None, Ok, Err, refl, sym, ap, ◌∙◌, arith, is_none}
 use Rattle.std.specs.Option.{option_map_or}
 use Rattle.std.specs.List.{slice_get}
 use Rattle.gaspi_texts.specs.CallText.{call_word_of, call_of}
 use Rattle.gaspi_types.specs.World.{World, are_limits, world_of, segment_added, caller_added, Declares}
-use Rattle.gaspi_types.specs.declared.calls.Call.{Call}
 use Rattle.gaspi_texts.specs.declared.call_words.CallWord.{CallWord}
 use Rattle.gaspi_types.specs.declared.shapes.CallerId.{CallerId}
 use Rattle.gaspi_types.specs.declared.shapes.Limits.{Limits}
 use Rattle.gaspi_types.specs.declared.shapes.ShapeFault.{ShapeFault}
 use Rattle.gaspi_types.specs.declared.shapes.ShapeFault.TheVariants as shape_faults
-use Rattle.rank_script.specs.WorldText.{Said, first_word, later_words, all_numbers, number_at, limits_of, declared, segment_declared, caller_declared, is_section_line, is_malformed, is_outside, is_repeated, is_crowded, is_limit_fault, is_twice_fault, is_threads_fault, call_words_of, line_timeout, is_timeout_within, as_timeout, script_line, said_after, with_line, with_section}
+use Rattle.rank_script.specs.WorldText.{Said, first_word, is_call_line, line_tries, are_tries_within, line_expected, later_words, all_numbers, number_at, limits_of, declared, segment_declared, caller_declared, is_section_line, is_malformed, is_outside, is_repeated, is_crowded, is_limit_fault, is_twice_fault, is_threads_fault, call_words_of, line_timeout, is_timeout_within, script_line, said_after, with_line, with_section}
 use Rattle.rank_script.specs.Kinds.{IsKind}
-use Rattle.rank_script.specs.Readings.{late_fault, fault_for, ReadsWords, Accords}
+use Rattle.rank_script.specs.Readings.{late_fault, call_fault, fault_for, ReadsWords, GivesLine, Accords}
 use Rattle.rank_script.specs.declared.kinds.LineKind.TheVariants as kinds
 use Rattle.rank_script.specs.declared.scripts.Script.{Script}
 use Rattle.rank_script.specs.declared.scripts.ScriptLine.{ScriptLine}
+use Rattle.rank_script.specs.declared.scripts.ScriptFault.{ScriptFault}
+use Rattle.rank_script.specs.declared.scripts.ScriptFault.TheVariants as faults
 
 pub some-where : {A : Type 0} (b : Bool) (x y : A) → Some x ≡ cond b (Some y) None → (b ≡ true) × (x ≡ y)
 some-where true x y h = (refl, cc)
 some-where false x y h = absurd (let no : ⊥ = cc in no)
-
-pub none-where : {A : Type 0} (b : Bool) (y : A) → None ≡ cond b (Some y) None → b ≡ false
-none-where true y h = absurd (let no : ⊥ = cc in no)
-none-where false y h = refl
 
 -- The world line.
 
@@ -35,18 +32,18 @@ made-world : {E : Type 0} (b : Bool) (made w : World) (e : E) → Ok made ≡ co
 made-world true made w e h = (refl, cc)
 made-world false made w e h = absurd (let no : ⊥ = cc in no)
 
-malformed-world : (words : List (List ℕ)) → IsKind kinds.World (first_word words) → is_malformed words ≡ not (all_numbers (later_words words))
+malformed-world : (words : List (List ℕ)) → IsKind kinds.World words → is_malformed words ≡ not (all_numbers (later_words words))
 malformed-world words is = rw is refl
 
-outside-world : (said : Said) (words : List (List ℕ)) → IsKind kinds.World (first_word words) → is_outside said words ≡ not (are_limits (limits_of words))
+outside-world : (said : Said) (words : List (List ℕ)) → IsKind kinds.World words → is_outside said words ≡ not (are_limits (limits_of words))
 outside-world said words is = rw is refl
 
-pub world-malformed : (said : Said) (words : List (List ℕ)) → IsKind kinds.World (first_word words) → all_numbers (later_words words) ≡ false → late_fault said words ≡ Some 6
+pub world-malformed : (said : Said) (words : List (List ℕ)) → IsKind kinds.World words → all_numbers (later_words words) ≡ false → late_fault said words ≡ Some 6
 world-malformed said words is numbers =
     let malformed : is_malformed words ≡ true = malformed-world words is ∙ ap not numbers in
     rw malformed refl
 
-pub world-refused : (said new : Said) (number : ℕ) (words : List (List ℕ)) (fault : ShapeFault) → IsKind kinds.World (first_word words) → all_numbers (later_words words) ≡ true
+pub world-refused : (said new : Said) (number : ℕ) (words : List (List ℕ)) (fault : ShapeFault) → IsKind kinds.World words → all_numbers (later_words words) ≡ true
     → Err fault ≡ world_of (limits_of words) → ReadsWords (Err (fault_for fault number)) said new number words
 world-refused said new number words fault is numbers refused =
     let parts = refused-limits (are_limits (limits_of words)) _ fault refused in
@@ -54,7 +51,7 @@ world-refused said new number words fault is numbers refused =
     let outside : is_outside said words ≡ true = outside-world said words is ∙ ap not parts.0 in
     rw parts.1 (rw (malformed, outside) refl, refl)
 
-pub world-made : (said : Said) (number : ℕ) (words : List (List ℕ)) (w : World) → IsKind kinds.World (first_word words) → all_numbers (later_words words) ≡ true
+pub world-made : (said : Said) (number : ℕ) (words : List (List ℕ)) (w : World) → IsKind kinds.World words → all_numbers (later_words words) ≡ true
     → said.world ≡ None → Ok w ≡ world_of (limits_of words) → ReadsWords (Ok tt) said (record { world = Some w; scripts = said.scripts }) number words
 world-made said number words w is numbers first made =
     let parts = made-world (are_limits (limits_of words)) w _ _ made in
@@ -76,7 +73,7 @@ record Declaring (said : Said) (words : List (List ℕ)) (w : World) : Type 0 wh
   world : said.world ≡ Some w
   formed : is_malformed words ≡ false
   first : Rattle.rank_script.specs.WorldText.is_world_word (first_word words) ≡ false
-  call : call_word_of (first_word words) ≡ None
+  call : is_call_line words ≡ false
 
 refused : (said new : Said) (number : ℕ) (words : List (List ℕ)) (w after : World) (fault : ShapeFault) → Declaring said words w
     → Declares (Err fault) w after (declared w words) → ReadsWords (Err (fault_for fault number)) said new number words
@@ -93,13 +90,13 @@ accepted said words w after d h = rw (d.formed, d.first, d.call, d.world) (rw h 
 
 -- Segment lines.
 
-malformed-segment : (words : List (List ℕ)) → IsKind kinds.Segment (first_word words) → is_malformed words ≡ not (all_numbers (later_words words))
+malformed-segment : (words : List (List ℕ)) → IsKind kinds.Segment words → is_malformed words ≡ not (all_numbers (later_words words))
 malformed-segment words is = rw is refl
 
-declared-segment : (w : World) (words : List (List ℕ)) → IsKind kinds.Segment (first_word words) → declared w words ≡ segment_declared w words
+declared-segment : (w : World) (words : List (List ℕ)) → IsKind kinds.Segment words → declared w words ≡ segment_declared w words
 declared-segment w words is = rw is refl
 
-segment-declaring : (said : Said) (words : List (List ℕ)) (w : World) → IsKind kinds.Segment (first_word words) → all_numbers (later_words words) ≡ true → said.world ≡ Some w → Declaring said words w
+segment-declaring : (said : Said) (words : List (List ℕ)) (w : World) → IsKind kinds.Segment words → all_numbers (later_words words) ≡ true → said.world ≡ Some w → Declaring said words w
 unfolding call_word_of
 segment-declaring said words w is numbers world = record {
   world = world;
@@ -108,17 +105,17 @@ segment-declaring said words w is numbers world = record {
   call = rw is refl;
 }
 
-pub segment-malformed : (said : Said) (words : List (List ℕ)) → IsKind kinds.Segment (first_word words) → all_numbers (later_words words) ≡ false → late_fault said words ≡ Some 6
+pub segment-malformed : (said : Said) (words : List (List ℕ)) → IsKind kinds.Segment words → all_numbers (later_words words) ≡ false → late_fault said words ≡ Some 6
 segment-malformed said words is numbers =
     let malformed : is_malformed words ≡ true = malformed-segment words is ∙ ap not numbers in
     rw malformed refl
 
-pub segment-refused : (said new : Said) (number : ℕ) (words : List (List ℕ)) (w after : World) (fault : ShapeFault) → IsKind kinds.Segment (first_word words) → all_numbers (later_words words) ≡ true → said.world ≡ Some w
+pub segment-refused : (said new : Said) (number : ℕ) (words : List (List ℕ)) (w after : World) (fault : ShapeFault) → IsKind kinds.Segment words → all_numbers (later_words words) ≡ true → said.world ≡ Some w
     → Declares (Err fault) w after (segment_declared w words) → ReadsWords (Err (fault_for fault number)) said new number words
 segment-refused said new number words w after fault is numbers world h =
     refused said new number words w after fault (segment-declaring said words w is numbers world) (rw (declared-segment w words is) h)
 
-pub segment-accepted : (said : Said) (number : ℕ) (words : List (List ℕ)) (w after : World) → IsKind kinds.Segment (first_word words) → all_numbers (later_words words) ≡ true → said.world ≡ Some w
+pub segment-accepted : (said : Said) (number : ℕ) (words : List (List ℕ)) (w after : World) → IsKind kinds.Segment words → all_numbers (later_words words) ≡ true → said.world ≡ Some w
     → segment_declared w words ≡ Ok after → ReadsWords (Ok tt) said (record { world = Some after; scripts = said.scripts }) number words
 segment-accepted said number words w after is numbers world h =
     (accepted said words w after (segment-declaring said words w is numbers world) (declared-segment w words is ∙ h), rw world (rw is (rw h refl)))
@@ -133,13 +130,13 @@ segment-numbers words w rank segment size h =
 
 -- Section lines.
 
-malformed-section : (words : List (List ℕ)) → IsKind kinds.Section (first_word words) → is_malformed words ≡ not (is_section_line (later_words words))
+malformed-section : (words : List (List ℕ)) → IsKind kinds.Section words → is_malformed words ≡ not (is_section_line (later_words words))
 malformed-section words is = rw is refl
 
-declared-section : (w : World) (words : List (List ℕ)) → IsKind kinds.Section (first_word words) → declared w words ≡ caller_declared w words
+declared-section : (w : World) (words : List (List ℕ)) → IsKind kinds.Section words → declared w words ≡ caller_declared w words
 declared-section w words is = rw is refl
 
-section-declaring : (said : Said) (words : List (List ℕ)) (w : World) → IsKind kinds.Section (first_word words) → is_section_line (later_words words) ≡ true → said.world ≡ Some w → Declaring said words w
+section-declaring : (said : Said) (words : List (List ℕ)) (w : World) → IsKind kinds.Section words → is_section_line (later_words words) ≡ true → said.world ≡ Some w → Declaring said words w
 unfolding call_word_of
 section-declaring said words w is formed world = record {
   world = world;
@@ -148,12 +145,12 @@ section-declaring said words w is formed world = record {
   call = rw is refl;
 }
 
-pub section-malformed : (said : Said) (words : List (List ℕ)) → IsKind kinds.Section (first_word words) → is_section_line (later_words words) ≡ false → late_fault said words ≡ Some 6
+pub section-malformed : (said : Said) (words : List (List ℕ)) → IsKind kinds.Section words → is_section_line (later_words words) ≡ false → late_fault said words ≡ Some 6
 section-malformed said words is formed =
     let malformed : is_malformed words ≡ true = malformed-section words is ∙ ap not formed in
     rw malformed refl
 
-pub section-refused : (said new : Said) (number : ℕ) (words : List (List ℕ)) (w after : World) (fault : ShapeFault) → IsKind kinds.Section (first_word words) → is_section_line (later_words words) ≡ true → said.world ≡ Some w
+pub section-refused : (said new : Said) (number : ℕ) (words : List (List ℕ)) (w after : World) (fault : ShapeFault) → IsKind kinds.Section words → is_section_line (later_words words) ≡ true → said.world ≡ Some w
     → Declares (Err fault) w after (caller_declared w words) → ReadsWords (Err (fault_for fault number)) said new number words
 section-refused said new number words w after fault is formed world h =
     refused said new number words w after fault (section-declaring said words w is formed world) (rw (declared-section w words is) h)
@@ -178,69 +175,56 @@ section-numbers words w rank thread h =
 pub section-callers : (words : List (List ℕ)) (w after : World) → caller_declared w words ≡ Ok after → after.callers ≡ w.callers ++ section_caller words ∷ []
 section-callers words w after h = ap (λ (v : World). v.callers) (added-caller _ _ _ after _ h)
 
-pub section-accepted : (said : Said) (number : ℕ) (words : List (List ℕ)) (w after : World) (scripts : List Script) → IsKind kinds.Section (first_word words) → is_section_line (later_words words) ≡ true → said.world ≡ Some w
+pub section-accepted : (said : Said) (number : ℕ) (words : List (List ℕ)) (w after : World) (scripts : List Script) → IsKind kinds.Section words → is_section_line (later_words words) ≡ true → said.world ≡ Some w
     → caller_declared w words ≡ Ok after → scripts ≡ with_section said.scripts (section_caller words) → ReadsWords (Ok tt) said (record { world = Some after; scripts = scripts }) number words
 section-accepted said number words w after scripts is formed world h opened =
     (accepted said words w after (section-declaring said words w is formed world) (declared-section w words is ∙ h), rw opened (rw world (rw is (rw h refl))))
 
 -- Call lines.
 
-malformed-call : (words : List (List ℕ)) (call : CallWord) → IsKind (kinds.Call call) (first_word words)
-    → is_malformed words ≡ (is_none (call_of (call_words_of words)) || is_none (line_timeout words))
-malformed-call words call is = rw (is.0, is.1, is.2) refl
+declared-call : (w : World) (words : List (List ℕ)) (call : CallWord) → IsKind (kinds.Call call) words → declared w words ≡ Ok w
+declared-call w words call is = rw (is.0.1, is.0.2) refl
 
-outside-call : (said : Said) (words : List (List ℕ)) (call : CallWord) → IsKind (kinds.Call call) (first_word words)
-    → is_outside said words ≡ not (option_map_or is_timeout_within (line_timeout words) false)
-outside-call said words call is = rw (is.0, is.3) refl
-
-declared-call : (w : World) (words : List (List ℕ)) (call : CallWord) → IsKind (kinds.Call call) (first_word words) → declared w words ≡ Ok w
-declared-call w words call is = rw (is.1, is.2) refl
-
-repeated-call : (said : Said) (o : Option World) (words : List (List ℕ)) (call : CallWord) → IsKind (kinds.Call call) (first_word words) → said.world ≡ o → is_repeated said words ≡ false
+repeated-call : (said : Said) (o : Option World) (words : List (List ℕ)) (call : CallWord) → IsKind (kinds.Call call) words → said.world ≡ o → is_repeated said words ≡ false
 repeated-call said None words call is world = rw world refl
 repeated-call said (Some w) words call is world = rw world (rw (declared-call w words call is) refl)
 
-crowded-call : (said : Said) (o : Option World) (words : List (List ℕ)) (call : CallWord) → IsKind (kinds.Call call) (first_word words) → said.world ≡ o → is_crowded said words ≡ false
+crowded-call : (said : Said) (o : Option World) (words : List (List ℕ)) (call : CallWord) → IsKind (kinds.Call call) words → said.world ≡ o → is_crowded said words ≡ false
 crowded-call said None words call is world = rw world refl
 crowded-call said (Some w) words call is world = rw world (rw (declared-call w words call is) refl)
 
-or-true : (b : Bool) → (b || true) ≡ true
-or-true true = refl
-or-true false = refl
+malformed-call : (words : List (List ℕ)) (call : CallWord) → IsKind (kinds.Call call) words
+    → is_malformed words ≡ (is_none (line_tries words) || (is_none (call_of (call_words_of words)) || (is_none (line_timeout words) || is_none (line_expected words))))
+malformed-call words call is = rw (is.0.0, is.0.1, is.0.2) refl
 
-pub call-malformed : (said : Said) (words : List (List ℕ)) (call : CallWord) → IsKind (kinds.Call call) (first_word words) → call_of (call_words_of words) ≡ None → late_fault said words ≡ Some 6
-call-malformed said words call is none =
-    let malformed : is_malformed words ≡ true = malformed-call words call is ∙ rw none refl in
-    rw malformed refl
+outside-call : (said : Said) (words : List (List ℕ)) (call : CallWord) → IsKind (kinds.Call call) words
+    → is_outside said words ≡ not (option_map_or are_tries_within (line_tries words) false && option_map_or is_timeout_within (line_timeout words) false)
+outside-call said words call is = rw (is.0.0, is.1.0) refl
 
-pub timeout-malformed : (said : Said) (words : List (List ℕ)) (call : CallWord) → IsKind (kinds.Call call) (first_word words) → line_timeout words ≡ None → late_fault said words ≡ Some 6
-timeout-malformed said words call is none =
-    let malformed : is_malformed words ≡ true = malformed-call words call is ∙ rw none (or-true (is_none (call_of (call_words_of words)))) in
-    rw malformed refl
+same-fault : (malformed within : Bool) (first second : Option ℕ) → cond malformed first (cond (not within) second None) ≡ cond malformed first (cond within None second)
+same-fault true within first second = refl
+same-fault false true first second = refl
+same-fault false false first second = refl
 
-formed-call : (words : List (List ℕ)) (word : CallWord) (call : Call) (looks : Option ℕ) → IsKind (kinds.Call word) (first_word words) → call_of (call_words_of words) ≡ Some call → line_timeout words ≡ Some looks
-    → is_malformed words ≡ false
-formed-call words word call looks is there timeout = malformed-call words word is ∙ rw (there, timeout) refl
+-- the faults in the arguments of a call line
+late-call : (said : Said) (words : List (List ℕ)) (call : CallWord) → IsKind (kinds.Call call) words → late_fault said words ≡ call_fault words
+late-call said words call is =
+    let repeated = repeated-call said said.world words call is refl in
+    let crowded = crowded-call said said.world words call is refl in
+    rw (malformed-call words call is, outside-call said words call is, repeated, crowded) (same-fault _ _ (Some 6) (Some 7))
 
-pub timeout-outside : (said : Said) (words : List (List ℕ)) (word : CallWord) (call : Call) (looks : Option ℕ) → IsKind (kinds.Call word) (first_word words) → call_of (call_words_of words) ≡ Some call
-    → line_timeout words ≡ Some looks → is_timeout_within looks ≡ false → late_fault said words ≡ Some 7
-timeout-outside said words word call looks is there timeout past =
-    let malformed = formed-call words word call looks is there timeout in
-    let outside : is_outside said words ≡ true = outside-call said words word is ∙ rw timeout (rw past refl) in
-    rw (malformed, outside) refl
+pub line-refused : (fault : ScriptFault) (said new : Said) (number : ℕ) (words : List (List ℕ)) (call : CallWord) → IsKind (kinds.Call call) words
+    → GivesLine (Err fault) number words → ReadsWords (Err fault) said new number words
+line-refused (faults.At fault at) said new number words call is h = (late-call said words call is ∙ h.0, h.1)
+line-refused faults.NoMemory said new number words call is h = tt
 
-pub call-accepted : (said : Said) (number : ℕ) (words : List (List ℕ)) (word : CallWord) (call : Call) (looks : Option ℕ) (line : ScriptLine) (scripts : List Script) → IsKind (kinds.Call word) (first_word words)
-    → call_of (call_words_of words) ≡ Some call → line_timeout words ≡ Some looks → is_timeout_within looks ≡ true
-    → line ≡ record { number = number; call = call; timeout = as_timeout looks } → scripts ≡ with_line said.scripts (Some line)
+pub line-accepted : (line : ScriptLine) (scripts : List Script) (said : Said) (number : ℕ) (words : List (List ℕ)) (call : CallWord) → IsKind (kinds.Call call) words
+    → GivesLine (Ok line) number words → scripts ≡ with_line said.scripts (Some line)
     → ReadsWords (Ok tt) said (record { world = said.world; scripts = scripts }) number words
-call-accepted said number words word call looks line scripts is there timeout within shape added =
-    let malformed = formed-call words word call looks is there timeout in
-    let outside : is_outside said words ≡ false = outside-call said words word is ∙ rw timeout (rw within refl) in
-    let repeated = repeated-call said said.world words word is refl in
-    let crowded = crowded-call said said.world words word is refl in
-    let made : script_line number words ≡ Some (record { number = number; call = call; timeout = as_timeout looks }) = rw (there, timeout) refl in
-    let after : said_after said number words ≡ record { world = said.world; scripts = with_line said.scripts (script_line number words) } = rw (is.0, is.1, is.2) refl in
-    (rw (malformed, outside, repeated, crowded) refl, rw (added, shape) (sym (after ∙ ap (λ (l : Option ScriptLine). record { world = said.world; scripts = with_line said.scripts l }) made)))
+line-accepted line scripts said number words call is h added =
+    let after : said_after said number words ≡ record { world = said.world; scripts = with_line said.scripts (script_line number words) } = rw (is.0.0, is.0.1, is.0.2) refl in
+    let made : scripts ≡ with_line said.scripts (script_line number words) = added ∙ ap (λ (l : Option ScriptLine). with_line said.scripts l) h.1 in
+    (late-call said words call is ∙ h.0, ap (λ (ss : List Script). record { world = said.world; scripts = ss }) made ∙ sym after)
 
 with_line-callers : (scripts : List Script) (line : Option ScriptLine) → map (λ (s : Script). s.caller) (with_line scripts line) ≡ map (λ (s : Script). s.caller) scripts
 with_line-callers [] line = refl

@@ -1,5 +1,6 @@
 pub mod AddedLines
 pub mod Following
+pub mod JournalLines
 pub mod KindFaults
 pub mod LateFaults
 pub mod LineFeeds

@@ -3,6 +3,7 @@ use Rattle.std.proofs.Common.{◌≡◌, ℕ, suc, ◌≢◌, ◌+◌, ◌<◌, 
 use Rattle.std.specs.List.{position, prefix_len, list_all}
 use Rattle.std.proofs.lemmas.Bool.{eqb-true}
 use Rattle.std.proofs.lemmas.Bool.Decides.{nat_tests}
+use Rattle.gaspi_texts.specs.Lines.{fed_lines}
 use Rattle.rank_script.specs.Lines.{begins_line_feed, onto_first_line, lines_of, without_return}
 
 abbrev is_other : ℕ → Bool
@@ -48,9 +49,26 @@ before-feed (byte ∷ next ∷ front) rest h =
     let back : ((byte == 13) && (next == 10)) ≡ false = rw feed (and-false (byte == 13)) in
     onto-first byte (next ∷ front ++ 10 ∷ rest) (without_return (next ∷ front) ∷ lines_of rest) (not-false _ parts.0) back (before-feed (next ∷ front) rest parts.1)
 
+-- the same of the lines with their line feeds
+fed-whole : (byte : ℕ) (bytes : List ℕ) → list_all is_other (byte ∷ bytes) ≡ true → fed_lines (byte ∷ bytes) ≡ (byte ∷ bytes) ∷ []
+fed-whole byte [] h = let feed : (byte == 10) ≡ false = not-false _ (and-parts _ _ h).0 in rw feed refl
+fed-whole byte (next ∷ bytes) h =
+    let parts = and-parts (is_other byte) (list_all is_other (next ∷ bytes)) h in
+    let feed : (byte == 10) ≡ false = not-false _ parts.0 in
+    let rest = fed-whole next bytes parts.1 in
+    rw (feed, rest) refl
+
+fed-before : (front rest : List ℕ) → list_all is_other front ≡ true → fed_lines (front ++ 10 ∷ rest) ≡ (front ++ 10 ∷ []) ∷ fed_lines rest
+fed-before [] rest h = refl
+fed-before (byte ∷ front) rest h =
+    let parts = and-parts (is_other byte) (list_all is_other front) h in
+    let feed : (byte == 10) ≡ false = not-false _ parts.0 in
+    let later = fed-before front rest parts.1 in
+    rw (feed, later) refl
+
 -- the place of the first line feed, or the length
 record FirstFeed (text : List ℕ) (n : ℕ) : Type 0 where
-  there : n < length text → (list_all is_other (take n text) ≡ true) × (text ≡ take n text ++ 10 ∷ drop (suc n) text)
+  there : n < length text → (list_all is_other (take n text) ≡ true) × (text ≡ take n text ++ 10 ∷ drop (suc n) text) × (take (suc n) text ≡ take n text ++ 10 ∷ [])
   absent : length text ≤ n → list_all is_other text ≡ true
 
 first-feed : (text : List ℕ) → FirstFeed text (prefix_len is_other text)
@@ -60,7 +78,7 @@ first-feed (byte ∷ bytes) = go (byte == 10) refl (first-feed bytes)
     go : (feed : Bool) → (byte == 10) ≡ feed → FirstFeed bytes (prefix_len is_other bytes) → FirstFeed (byte ∷ bytes) (cond (not (byte == 10)) (1 + prefix_len is_other bytes) 0)
     go true is rest =
         let here : FirstFeed (byte ∷ bytes) 0 = record {
-          there = λ h. (refl, ap (λ (b : ℕ). b ∷ bytes) (eqb-true byte 10 is));
+          there = λ h. (refl, ap (λ (b : ℕ). b ∷ bytes) (eqb-true byte 10 is), ap (λ (b : ℕ). b ∷ []) (eqb-true byte 10 is));
           absent = λ h. absurd (let long : suc (length bytes) ≤ 0 = h in omega (arith, long));
         } in
         rw is here
@@ -69,7 +87,7 @@ first-feed (byte ∷ bytes) = go (byte == 10) refl (first-feed bytes)
           there = λ h.
               let short : suc (prefix_len is_other bytes) < suc (length bytes) = h in
               let found = rest.there (omega (arith, short)) in
-              (rw is found.0, ap (λ (bs : List ℕ). byte ∷ bs) found.1);
+              (rw is found.0, ap (λ (bs : List ℕ). byte ∷ bs) found.1, ap (λ (bs : List ℕ). byte ∷ bs) found.2);
           absent = λ h.
               let long : suc (length bytes) ≤ suc (prefix_len is_other bytes) = h in
               rw is (rest.absent (omega (arith, long)));
@@ -102,6 +120,27 @@ lines_of-last (byte ∷ bytes) h filled =
     let past = place-none (nat_lt (prefix_len is_other (byte ∷ bytes)) (length (byte ∷ bytes))) (prefix_len is_other (byte ∷ bytes)) h in
     let long : length (byte ∷ bytes) ≤ prefix_len is_other (byte ∷ bytes) = test-past _ _ past in
     whole byte bytes ((first-feed (byte ∷ bytes)).absent long)
+  where
+    test-past : (n m : ℕ) → nat_lt n m ≡ false → m ≤ n
+    test-past n m h = grind (arith, nat_tests)
+
+pub fed_lines-feed : (text : List ℕ) (end : ℕ) → Some end ≡ position (λ byte. byte == 10) text
+    → (end + 1 ≤ length text) × (fed_lines text ≡ take (end + 1) text ∷ fed_lines (drop (end + 1) text))
+fed_lines-feed text end h =
+    let place = place-some (nat_lt (prefix_len is_other text) (length text)) (prefix_len is_other text) end h in
+    let within : prefix_len is_other text < length text = grind (arith, nat_tests, place.0) in
+    let found = (first-feed text).there within in
+    let here : fed_lines text ≡ take (suc (prefix_len is_other text)) text ∷ fed_lines (drop (suc (prefix_len is_other text)) text) =
+    ap fed_lines found.1 ∙ fed-before (take (prefix_len is_other text) text) (drop (suc (prefix_len is_other text)) text) found.0
+    ∙ ap (λ (fed : List ℕ). fed ∷ fed_lines (drop (suc (prefix_len is_other text)) text)) (sym found.2) in
+    rw (place.1, add-one) (omega (arith, within), here)
+
+pub fed_lines-last : (text : List ℕ) → None ≡ position (λ byte. byte == 10) text → 0 < length text → fed_lines text ≡ text ∷ []
+fed_lines-last [] h filled = absurd (omega arith)
+fed_lines-last (byte ∷ bytes) h filled =
+    let past = place-none (nat_lt (prefix_len is_other (byte ∷ bytes)) (length (byte ∷ bytes))) (prefix_len is_other (byte ∷ bytes)) h in
+    let long : length (byte ∷ bytes) ≤ prefix_len is_other (byte ∷ bytes) = test-past _ _ past in
+    fed-whole byte bytes ((first-feed (byte ∷ bytes)).absent long)
   where
     test-past : (n m : ℕ) → nat_lt n m ≡ false → m ≤ n
     test-past n m h = grind (arith, nat_tests)

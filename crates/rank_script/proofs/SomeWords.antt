@@ -1,9 +1,11 @@
 -- Some of the words of a line.
-use Rattle.std.proofs.Common.{◌≡◌, ℕ, ◌+◌, take, Some, sym, List, [], ◌∷◌, ◌++◌, map, Bor, refl, ap}
+use Rattle.std.proofs.Common.{◌≡◌, ℕ, suc, ◌+◌, ◌-◌, ◌∙◌, Option, ◌<◌, ◌≤◌, Bool, true, false, cond, not, nat_lt, take, drop, Some, None, sym, List, [], ◌∷◌, ◌++◌, length, map, Bor, refl, ap, subst, arith, add-one}
+use Rattle.std.specs.List.{position, prefix_len}
+use Rattle.std.specs.Option.{option_map}
+use Rattle.std.proofs.lemmas.Grind.{common_steps}
+use Rattle.std.proofs.lemmas.Bool.Decides.{nat_tests}
 use Rattle.std.proofs.lemmas.List.{take-map}
-use Rattle.gaspi_texts.specs.CallText.{call_word_of, arguments_of}
-use Rattle.gaspi_texts.specs.declared.call_words.CallWord.{CallWord}
-use Rattle.rank_script.specs.WorldText.{first_word, last_word, call_words_of}
+use Rattle.rank_script.specs.WorldText.{later_words, from_call, expected_words, is_equals_word, before_equals, after_equals, asked_words, last_word}
 
 last_word-push : (front : List (List ℕ)) (word : List ℕ) → last_word (front ++ word ∷ []) ≡ word
 last_word-push [] word = refl
@@ -17,7 +19,103 @@ map-push (first ∷ front) word = ap (λ (ws : List (List ℕ)). first.now ∷ w
 pub last_word-split : (words front : List (Bor (List ℕ))) (word : Bor (List ℕ)) → words ≡ front ++ word ∷ [] → word.now ≡ last_word (map (λ w. w.now) words)
 last_word-split words front word is = rw is (rw map-push (rw last_word-push refl))
 
--- a call's words are the first of its line
-pub call_words-taken : (words : List (Bor (List ℕ))) (call : CallWord) (n : ℕ) → call_word_of (first_word (map (λ w. w.now) words)) ≡ Some call → n ≡ arguments_of call + 1
-    → map (λ w. w.now) (take n words) ≡ call_words_of (map (λ w. w.now) words)
-call_words-taken words call n is count = rw is (rw count (sym (take-map (λ (w : Bor (List ℕ)). w.now) (arguments_of call + 1) words)))
+-- where the first `=` stands, or the length
+record FirstEquals (words : List (Bor (List ℕ))) (n : ℕ) : Type 0 where
+  there : n < length words → (before_equals (map (λ w. w.now) words) ≡ map (λ w. w.now) (take n words))
+      × (after_equals (map (λ w. w.now) words) ≡ Some (map (λ w. w.now) (drop (suc n) words)))
+  absent : length words ≤ n → (before_equals (map (λ w. w.now) words) ≡ map (λ w. w.now) words) × (after_equals (map (λ w. w.now) words) ≡ None)
+
+abbrev is_other : Bor (List ℕ) → Bool
+is_other word = not (is_equals_word word.now)
+
+first-equals : (words : List (Bor (List ℕ))) → FirstEquals words (prefix_len is_other words)
+first-equals [] = record { there = λ h. absurd (omega arith); absent = λ h. (refl, refl) }
+first-equals (word ∷ words) = go (is_equals_word word.now) refl (first-equals words)
+  where
+    go : (equals : Bool) → is_equals_word word.now ≡ equals → FirstEquals words (prefix_len is_other words)
+        → FirstEquals (word ∷ words) (cond (not (is_equals_word word.now)) (1 + prefix_len is_other words) 0)
+    go true is rest =
+        let here : FirstEquals (word ∷ words) 0 = record {
+          there = λ h. (rw is refl, rw is refl);
+          absent = λ h. absurd (let long : suc (length words) ≤ 0 = h in omega (arith, long));
+        } in
+        rw is here
+    go false is rest =
+        let later : FirstEquals (word ∷ words) (suc (prefix_len is_other words)) = record {
+          there = λ h.
+              let short : suc (prefix_len is_other words) < suc (length words) = h in
+              let found = rest.there (omega (arith, short)) in
+              (rw is (ap (λ (ws : List (List ℕ)). word.now ∷ ws) found.0), rw is found.1);
+          absent = λ h.
+              let long : suc (length words) ≤ suc (prefix_len is_other words) = h in
+              let none = rest.absent (omega (arith, long)) in
+              (rw is (ap (λ (ws : List (List ℕ)). word.now ∷ ws) none.0), rw is none.1);
+        } in
+        let one : suc (prefix_len is_other words) ≡ 1 + prefix_len is_other words = omega arith in
+        rw is (subst (λ (n : ℕ). FirstEquals (word ∷ words) n) one later)
+
+place-some : (b : Bool) (n place : ℕ) → Some place ≡ cond b (Some n) None → (b ≡ true) × (place ≡ n)
+place-some true n place h = (refl, cc)
+place-some false n place h = absurd (let no : ⊥ = cc in no)
+
+place-none : (b : Bool) (n : ℕ) → None ≡ cond b (Some n) None → b ≡ false
+place-none true n h = absurd (let no : ⊥ = cc in no)
+place-none false n h = refl
+
+-- what a search for the first `=` tells
+pub equals-there : (words : List (Bor (List ℕ))) (place : ℕ) → Some place ≡ position (λ word. is_equals_word word.now) words
+    → (before_equals (map (λ w. w.now) words) ≡ map (λ w. w.now) (take place words))
+    × (after_equals (map (λ w. w.now) words) ≡ Some (map (λ w. w.now) (drop (place + 1) words)))
+equals-there words place h =
+    let found = place-some (nat_lt (prefix_len is_other words) (length words)) (prefix_len is_other words) place h in
+    let within : prefix_len is_other words < length words = grind (arith, nat_tests, found.0) in
+    let there = (first-equals words).there within in
+    rw (found.1, add-one) there
+
+pub equals-absent : (words : List (Bor (List ℕ))) → None ≡ position (λ word. is_equals_word word.now) words
+    → (before_equals (map (λ w. w.now) words) ≡ map (λ w. w.now) words) × (after_equals (map (λ w. w.now) words) ≡ None)
+equals-absent words h =
+    let past = place-none (nat_lt (prefix_len is_other words) (length words)) (prefix_len is_other words) h in
+    let long : length words ≤ prefix_len is_other words = test-past _ _ past in
+    (first-equals words).absent long
+  where
+    test-past : (n m : ℕ) → nat_lt n m ≡ false → m ≤ n
+    test-past n m h = grind (arith, nat_tests)
+
+-- the words of a call
+pub asked-there : (words : List (Bor (List ℕ))) (place : ℕ) → 1 ≤ length words → Some place ≡ position (λ word. is_equals_word word.now) (drop 1 words)
+    → map (λ w. w.now) (take (place + 1) words) ≡ asked_words (map (λ w. w.now) words)
+asked-there [] place filled h = absurd (omega arith)
+asked-there (word ∷ words) place filled h =
+    rw add-one (ap (λ (ws : List (List ℕ)). word.now ∷ ws) (sym (equals-there words place h).0))
+
+pub asked-absent : (words : List (Bor (List ℕ))) → 1 ≤ length words → None ≡ position (λ word. is_equals_word word.now) (drop 1 words)
+    → map (λ w. w.now) words ≡ asked_words (map (λ w. w.now) words)
+asked-absent [] filled h = refl
+asked-absent (word ∷ words) filled h = ap (λ (ws : List (List ℕ)). word.now ∷ ws) (sym (equals-absent words h).0)
+
+pub later-mapped : (words : List (Bor (List ℕ))) → later_words (map (λ w. w.now) words) ≡ map (λ w. w.now) (drop 1 words)
+later-mapped [] = refl
+later-mapped (word ∷ words) = refl
+
+pub later-taken : (words : List (Bor (List ℕ))) → take (length words - 1) (drop 1 words) ≡ drop 1 words
+later-taken words = grind (arith, common_steps)
+
+-- the words of a reply
+pub expected-absent : (found : Option (Bor (List (Bor (List ℕ))))) (words : List (List ℕ)) (call : List (Bor (List ℕ))) → map (λ w. w.now) call ≡ from_call words → None ≡ position (λ word. is_equals_word word.now) (drop 1 call)
+    → found ≡ None → option_map (λ (reply : Bor (List (Bor (List ℕ)))). map (λ (w : Bor (List ℕ)). w.now) reply.now) found ≡ expected_words words
+expected-absent found words call is h none =
+    rw none (sym (ap (λ (ws : List (List ℕ)). after_equals (later_words ws)) (sym is) ∙ ap after_equals (later-mapped call) ∙ (equals-absent (drop 1 call) h).1))
+
+pub expected-there : (words : List (List ℕ)) (call : List (Bor (List ℕ))) (place : ℕ) → map (λ w. w.now) call ≡ from_call words → Some place ≡ position (λ word. is_equals_word word.now) (drop 1 call)
+    → Some (map (λ w. w.now) (drop (place + 1) (drop 1 call))) ≡ expected_words words
+expected-there words call place is h =
+    sym (ap (λ (ws : List (List ℕ)). after_equals (later_words ws)) (sym is) ∙ ap after_equals (later-mapped call) ∙ (equals-there (drop 1 call) place h).1)
+
+pub dropped : (words : List (Bor (List ℕ))) (n : ℕ) → take (length words - n) (drop n words) ≡ drop n words
+dropped words n = grind (arith, common_steps)
+
+-- some of a call's words
+pub call_words-taken : (words : List (Bor (List ℕ))) (count n : ℕ) → n ≡ count + 1
+    → map (λ w. w.now) (take n words) ≡ take (count + 1) (map (λ w. w.now) words)
+call_words-taken words count n is = rw is (sym (take-map (λ (w : Bor (List ℕ)). w.now) (count + 1) words))

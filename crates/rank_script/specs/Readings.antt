@@ -1,13 +1,16 @@
 -- What reading a line does to what was said before it. (own choice)
-use Rattle.std.specs.Prelude.{◌≡◌, map, ℕ, List, [], Option, None, Some, Result, Ok, Err, if◌then◌else◌}
+use Rattle.std.specs.Prelude.{◌≡◌, map, ℕ, ◌&&◌, ◌||◌, false, is_none, List, [], Option, None, Some, Result, Ok, Err, if◌then◌else◌}
+use Rattle.std.specs.Option.{option_map_or}
 use Rattle.gaspi_types.specs.World.{World}
 use Rattle.gaspi_types.specs.declared.shapes.CallerId.{CallerId}
 use Rattle.gaspi_types.specs.declared.shapes.ShapeFault.{ShapeFault}
 use Rattle.gaspi_types.specs.declared.shapes.ShapeFault.TheVariants as shape_faults
-use Rattle.rank_script.specs.WorldText.{Said, lacks_world, is_unknown, is_misplaced, is_miscounted, is_malformed, is_outside, is_repeated, is_crowded, fault_of, after_line, said_after}
+use Rattle.rank_script.specs.WorldText.{Said, lacks_world, is_unknown, is_misplaced, is_miscounted, is_malformed, is_outside, is_repeated, is_crowded, fault_of, after_line, said_after, line_tries, are_tries_within, call_words_of, line_timeout, is_timeout_within, line_expected, script_line}
+use Rattle.gaspi_texts.specs.CallText.{call_of}
 use Rattle.rank_script.specs.Lines.{is_bad_line}
 use Rattle.rank_script.specs.declared.readings.Reading.{Reading}
 use Rattle.rank_script.specs.declared.scripts.ScriptFault.{ScriptFault}
+use Rattle.rank_script.specs.declared.scripts.ScriptLine.{ScriptLine}
 use Rattle.rank_script.specs.declared.scripts.ScriptFault.TheVariants as faults
 
 abbrev pub said_of : Reading → Said
@@ -41,6 +44,20 @@ abbrev pub ReadsWords : Result (Unit {0}) ScriptFault → Said → Said → ℕ 
 ReadsWords (Ok done) old new number words = (late_fault old words ≡ None) × (new ≡ said_after old number words)
 ReadsWords (Err (faults.At fault at)) old new number words = (late_fault old words ≡ Some fault) × (at ≡ number)
 ReadsWords (Err faults.NoMemory) old new number words = Unit {0}
+
+-- a fault of a call line that shows in its arguments
+abbrev pub call_fault : List (List ℕ) → Option ℕ
+call_fault words =
+    if is_none (line_tries words) || (is_none (call_of (call_words_of words)) || (is_none (line_timeout words) || is_none (line_expected words)))
+    then Some 6
+    else (if option_map_or are_tries_within (line_tries words) false && option_map_or is_timeout_within (line_timeout words) false then None
+    else Some 7)
+
+-- the line of a script that the words of a call line give, or their fault
+abbrev pub GivesLine : Result ScriptLine ScriptFault → ℕ → List (List ℕ) → Type 0
+GivesLine (Ok line) number words = (call_fault words ≡ None) × (Some line ≡ script_line number words)
+GivesLine (Err (faults.At fault at)) number words = (call_fault words ≡ Some fault) × (at ≡ number)
+GivesLine (Err faults.NoMemory) number words = Unit {0}
 
 -- the fault that a refused declaration is
 abbrev pub fault_for : ShapeFault → ℕ → ScriptFault

@@ -1,5 +1,6 @@
 -- Runs of a script. (own choice)
-use Rattle.std.specs.Prelude.{◌≡◌, ℕ, Bool, true, false, ◌&&◌, List, [], ◌∷◌, Option, None, Some, if◌then◌else◌, ◌⊎◌, MatchBool}
+use Rattle.std.specs.Prelude.{◌≡◌, ℕ, ◌+◌, Bool, true, false, ◌&&◌, not, nat_lt, List, [], ◌∷◌, Option, None, Some, if◌then◌else◌, ◌⊎◌, MatchBool}
+use Rattle.gaspi_types.specs.Replies.{same_reply}
 use Rattle.gaspi_types.specs.declared.calls.Call.{Call}
 use Rattle.gaspi_types.specs.declared.calls.Call.TheVariants.{End}
 use Rattle.gaspi_types.specs.declared.calls.Timeout.{Timeout}
@@ -21,6 +22,8 @@ is_timeout replies.Done = false
 is_timeout (replies.Value n) = false
 is_timeout (replies.Id n) = false
 is_timeout (replies.Bytes bytes) = false
+is_timeout (replies.Mask mask) = false
+is_timeout (replies.List numbers) = false
 is_timeout replies.Timeout = true
 is_timeout (replies.Refused refusal) = false
 
@@ -28,29 +31,44 @@ is_timeout (replies.Refused refusal) = false
 abbrev pub is_stuck : ScriptLine → Reply → Bool
 is_stuck line reply = is_block line.timeout && is_timeout reply
 
--- How far a run has come: the lines whose calls are still to be made, or how it ended.
+-- a call that timed out is made again while its line has tries left
+abbrev pub is_repeated : ScriptLine → ℕ → Reply → Bool
+is_repeated line made reply = is_timeout reply && nat_lt (made + 1) line.tries
+
+-- the last reply of a line is not the one that it says
+abbrev pub is_failed : ScriptLine → Reply → Bool
+is_failed line reply = differs line.expected
+  where
+    differs : Option Reply → Bool
+    differs None = false
+    differs (Some expected) = not (same_reply reply expected)
+
+-- How far a run has come: the present line with how often its call was made, and the lines behind it, or how it ended.
 pub data Progress : Type 0 where
-  Going : (line : ScriptLine) (lines : List ScriptLine) → Progress
+  Going : (line : ScriptLine) (made : ℕ) (lines : List ScriptLine) → Progress
   Over : (outcome : RunOutcome) → Progress
 
 -- a run that goes on with these lines
 abbrev pub going_on : List ScriptLine → Progress
 going_on [] = Over outcomes.Ended
-going_on (line ∷ lines) = Going line lines
+going_on (line ∷ lines) = Going line 0 lines
 
 -- after the reply of the present call
 abbrev pub advanced : Progress → Reply → Progress
 advanced (Over outcome) reply = Over outcome
-advanced (Going line lines) reply = if is_stuck line reply then Over (outcomes.Stuck line.number) else going_on lines
+advanced (Going line made lines) reply =
+    if is_stuck line reply then Over (outcomes.Stuck line.number)
+    else (if is_repeated line made reply then Going line (made + 1) lines
+    else (if is_failed line reply then Over (outcomes.Failed line.number) else going_on lines))
 
 -- ended before the present call, which is not made
 abbrev pub stopped : Progress → Halted → Progress
 stopped (Over outcome) halted = Over outcome
-stopped (Going line lines) halts.Limit = Over (outcomes.Limit line.number)
-stopped (Going line lines) halts.NoMemory = Over (outcomes.NoMemory line.number)
+stopped (Going line made lines) halts.Limit = Over (outcomes.Limit line.number)
+stopped (Going line made lines) halts.NoMemory = Over (outcomes.NoMemory line.number)
 
 abbrev pub outcome_of : Progress → Option RunOutcome
-outcome_of (Going line lines) = None
+outcome_of (Going line made lines) = None
 outcome_of (Over outcome) = Some outcome
 
 -- the outcome of a run that ended before the call of a line
@@ -61,35 +79,44 @@ IsStopped number outcome = (outcome ≡ outcomes.Limit number) ⊎ (outcome ≡ 
 abbrev pub end_pair : List (Call × Reply)
 end_pair = (End, replies.Done) ∷ []
 
--- A whole run: the calls of a caller with their replies are a run of the script with that outcome. At each line the
--- next pair has the line's call; a timeout on a line that blocks ends the run at once; a run may stop before a line's
--- call; after the last line it has ended. In each case the last pair is the end.
-abbrev pub IsRun : List ScriptLine → List (Call × Reply) → RunOutcome → Type 0
-IsRun [] pairs outcome = (pairs ≡ end_pair) × (outcome ≡ outcomes.Ended)
-IsRun (line ∷ lines) [] outcome = ⊥
-IsRun (line ∷ lines) (pair ∷ pairs) outcome =
+-- A run from a point on, at which the call of the first line was made so often: the calls of a caller with their replies
+-- are the rest of a run of these lines with that outcome. The next pair has the line's call. A timeout on a line that
+-- blocks ends the run at once; after another one the call is made again while the line has tries left; then the reply
+-- must be the one that the line says, if it says one. A run may stop before a call. After the last line it has ended. In
+-- each case the last pair is the end.
+abbrev pub IsRunFrom : ℕ → List ScriptLine → List (Call × Reply) → RunOutcome → Type 0
+IsRunFrom made [] pairs outcome = (pairs ≡ end_pair) × (outcome ≡ outcomes.Ended)
+IsRunFrom made (line ∷ lines) [] outcome = ⊥
+IsRunFrom made (line ∷ lines) (pair ∷ pairs) outcome =
     ((pair ∷ pairs ≡ end_pair) × IsStopped line.number outcome)
     ⊎ ((pair.0 ≡ line.call)
-    × MatchBool (is_stuck line pair.1) ((pairs ≡ end_pair) × (outcome ≡ outcomes.Stuck line.number)) (IsRun lines pairs outcome))
+    × MatchBool (is_stuck line pair.1) ((pairs ≡ end_pair) × (outcome ≡ outcomes.Stuck line.number))
+    (MatchBool (is_repeated line made pair.1) (IsRunFrom (made + 1) (line ∷ lines) pairs outcome)
+    (MatchBool (is_failed line pair.1) ((pairs ≡ end_pair) × (outcome ≡ outcomes.Failed line.number))
+    (IsRunFrom 0 lines pairs outcome))))
+
+-- a whole run
+abbrev pub IsRun : List ScriptLine → List (Call × Reply) → RunOutcome → Type 0
+IsRun lines pairs outcome = IsRunFrom 0 lines pairs outcome
 
 -- What a run so far says.
 
 -- the present call, with its timeout
 abbrev pub present_of : Progress → Option (Call × Timeout)
-present_of (Going line lines) = Some (line.call, line.timeout)
+present_of (Going line made lines) = Some (line.call, line.timeout)
 present_of (Over outcome) = None
 
 -- the line of the present call; 0 where the run is over
 abbrev pub line_of : Progress → ℕ
-line_of (Going line lines) = line.number
+line_of (Going line made lines) = line.number
 line_of (Over outcome) = 0
 
 abbrev pub is_going : Progress → Bool
-is_going (Going line lines) = true
+is_going (Going line made lines) = true
 is_going (Over outcome) = false
 
 -- pairs that lead from one point of a run to another: each has the call that is present then
 abbrev pub Follows : Progress → List (Call × Reply) → Progress → Type 0
 Follows p [] q = q ≡ p
 Follows (Over outcome) (pair ∷ pairs) q = ⊥
-Follows (Going line lines) (pair ∷ pairs) q = (pair.0 ≡ line.call) × Follows (advanced (Going line lines) pair.1) pairs q
+Follows (Going line made lines) (pair ∷ pairs) q = (pair.0 ≡ line.call) × Follows (advanced (Going line made lines) pair.1) pairs q

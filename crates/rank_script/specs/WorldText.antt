@@ -1,17 +1,19 @@
 -- World texts: the shape and the scripts that a text gives, or its first fault. (own choice)
-use Rattle.std.specs.Prelude.{◌≡◌, map, ℕ, ◌+◌, Bool, true, false, ◌==◌, ◌&&◌, ◌||◌, not, nat_lt, List, [], ◌∷◌, ◌++◌, length, Option, None, Some, Result, Ok, Err, if◌then◌else◌, codes, is_none, is_some, take, option_and_then}
+use Rattle.std.specs.Prelude.{◌≡◌, map, ℕ, ◌+◌, Bool, true, false, ◌==◌, ◌&&◌, ◌||◌, not, nat_lt, List, [], ◌∷◌, ◌++◌, length, Option, None, Some, Result, Ok, Err, if◌then◌else◌, codes, is_none, is_some, take, drop, option_and_then}
 use Rattle.std.specs.Str.{bytes_eq}
-use Rattle.std.specs.Option.{option_map_or}
+use Rattle.std.specs.Option.{option_map, option_map_or}
 use Rattle.gaspi_types.specs.Ranges.{is_between}
 use Rattle.gaspi_texts.specs.Words.{words_of}
+use Rattle.gaspi_texts.specs.Lines.{fed_lines}
 use Rattle.gaspi_texts.specs.Numbers.{number_of}
-use Rattle.gaspi_texts.specs.CallText.{is_call_word, argument_count, takes_timeout, call_of}
+use Rattle.gaspi_texts.specs.CallText.{◌>>=◌, is_call_word, argument_count, takes_timeout, call_of}
+use Rattle.gaspi_texts.specs.ReplyText.{reply_of}
 use Rattle.gaspi_types.specs.World.{World, are_limits, world_of, segment_added, caller_added, is_caller}
 use Rattle.gaspi_types.specs.declared.shapes.Limits.{Limits}
 use Rattle.gaspi_types.specs.declared.shapes.CallerId.{CallerId}
 use Rattle.gaspi_types.specs.declared.shapes.ShapeFault.{ShapeFault}
 use Rattle.gaspi_types.specs.declared.shapes.ShapeFault.TheVariants as shape_faults
-use Rattle.gaspi_types.specs.declared.calls.Call.{Call}
+use Rattle.gaspi_types.specs.declared.replies.Reply.{Reply}
 use Rattle.gaspi_types.specs.declared.calls.Timeout.{Timeout}
 use Rattle.gaspi_types.specs.declared.calls.Timeout.TheVariants.{Looks, Block}
 use Rattle.rank_script.specs.Lines.{lines_of, is_bad_line}
@@ -58,6 +60,60 @@ is_comment (word ∷ words) = begins_hash word
     begins_hash [] = false
     begins_hash (byte ∷ bytes) = byte == 35
 
+-- The words of a call line: `again` and a number may stand before the call's own word, and `=` and a reply behind its
+-- arguments.
+
+abbrev pub is_again_word : List ℕ → Bool
+is_again_word word = bytes_eq (codes "again") word
+
+abbrev pub is_equals_word : List ℕ → Bool
+is_equals_word word = bytes_eq (codes "=") word
+
+abbrev pub second_word : List (List ℕ) → List ℕ
+second_word words = first_word (later_words words)
+
+-- the words from the call's own word on
+abbrev pub from_call : List (List ℕ) → List (List ℕ)
+from_call words = if is_again_word (first_word words) then drop 2 words else words
+
+-- the words before the first `=`
+abbrev pub before_equals : List (List ℕ) → List (List ℕ)
+before_equals [] = []
+before_equals (word ∷ words) = if is_equals_word word then [] else word ∷ before_equals words
+
+-- the words behind the first `=`, where there is one
+abbrev pub after_equals : List (List ℕ) → Option (List (List ℕ))
+after_equals [] = None
+after_equals (word ∷ words) = if is_equals_word word then Some words else after_equals words
+
+-- the call's word, its arguments and its timeout
+abbrev pub asked_words : List (List ℕ) → List (List ℕ)
+asked_words [] = []
+asked_words (word ∷ words) = word ∷ before_equals words
+
+-- the words of the reply that is expected, where there is an `=`
+abbrev pub expected_words : List (List ℕ) → Option (List (List ℕ))
+expected_words words = after_equals (later_words (from_call words))
+
+-- a line of a call: it begins with `again` or with the call's word
+abbrev pub is_call_line : List (List ℕ) → Bool
+is_call_line words = is_again_word (first_word words) || is_call_word (first_word words)
+
+-- how often a line's call is made at most
+abbrev pub line_tries : List (List ℕ) → Option ℕ
+line_tries words = if is_again_word (first_word words) then number_of (second_word words) else Some 1
+
+abbrev pub are_tries_within : ℕ → Bool
+are_tries_within tries = is_between 1 1000000 tries
+
+-- what a line expects: nothing, or a reply; none where the words behind `=` spell no reply
+abbrev pub line_expected : List (List ℕ) → Option (Option Reply)
+line_expected words = read_expected (expected_words words)
+  where
+    read_expected : Option (List (List ℕ)) → Option (Option Reply)
+    read_expected None = Some None
+    read_expected (Some reply) = option_map Some (reply_of reply)
+
 -- Timeouts.
 
 -- a timeout as a word: one look, looks without end, or a number of looks
@@ -80,13 +136,14 @@ last_word [] = []
 last_word (word ∷ []) = word
 last_word (word ∷ next ∷ words) = last_word (next ∷ words)
 
--- the words of a call line without its timeout
+-- the call's word and its arguments
 abbrev pub call_words_of : List (List ℕ) → List (List ℕ)
-call_words_of words = take (argument_count (first_word words) + 1) words
+call_words_of words = take (argument_count (first_word (from_call words)) + 1) (asked_words (from_call words))
 
 -- what a line's timeout is; a call that takes none makes one look
 abbrev pub line_timeout : List (List ℕ) → Option (Option ℕ)
-line_timeout words = if takes_timeout (first_word words) then timeout_of (last_word words) else Some (Some 1)
+line_timeout words =
+    if takes_timeout (first_word (from_call words)) then timeout_of (last_word (asked_words (from_call words))) else Some (Some 1)
 
 -- Numbers of a line.
 
@@ -156,10 +213,11 @@ is_threads_fault (Err shape_faults.NoMemory) = false
 abbrev pub lacks_world : Said → List (List ℕ) → Bool
 lacks_world said words = is_none said.world && not (is_world_word (first_word words))
 
--- S3: the first word is no word of a line or call
+-- S3: the first word is no word of a line or call; behind `again` and one word more stands no word of a call
 abbrev pub is_unknown : List (List ℕ) → Bool
 is_unknown words =
-    not (is_world_word (first_word words) || (is_segment_word (first_word words)
+    if is_again_word (first_word words) then nat_lt 2 (length words) && not (is_call_word (first_word (from_call words)))
+    else not (is_world_word (first_word words) || (is_segment_word (first_word words)
     || (is_rank_word (first_word words) || is_call_word (first_word words))))
 
 -- S4: a second world line, a segment line after a section, or a call before any section
@@ -167,18 +225,29 @@ abbrev pub is_misplaced : Said → List (List ℕ) → Bool
 is_misplaced said words =
     (is_world_word (first_word words) && is_some said.world)
     || ((is_segment_word (first_word words) && not (length said.scripts == 0))
-    || (is_call_word (first_word words) && (length said.scripts == 0)))
+    || (is_call_line words && (length said.scripts == 0)))
 
--- how many words a line has
-abbrev pub word_count : List ℕ → ℕ
-word_count word =
-    if is_world_word word then 7
-    else (if is_segment_word word || is_rank_word word then 4
-    else argument_count word + 1 + (if takes_timeout word then 1 else 0))
+-- how many words a call has, with its own and its timeout
+abbrev pub call_word_count : List ℕ → ℕ
+call_word_count word = argument_count word + 1 + (if takes_timeout word then 1 else 0)
+
+-- a call line has its call, with all its words, and something behind `=`
+abbrev pub is_miscounted_call : List (List ℕ) → Bool
+is_miscounted_call words =
+    (length (from_call words) == 0)
+    || (not (length (asked_words (from_call words)) == call_word_count (first_word (from_call words)))
+    || is_empty_reply (expected_words words))
+  where
+    is_empty_reply : Option (List (List ℕ)) → Bool
+    is_empty_reply None = false
+    is_empty_reply (Some reply) = length reply == 0
 
 -- S5: the number of words is wrong for the line
 abbrev pub is_miscounted : List (List ℕ) → Bool
-is_miscounted words = not (length words == word_count (first_word words))
+is_miscounted words =
+    if is_world_word (first_word words) then not (length words == 7)
+    else (if is_segment_word (first_word words) || is_rank_word (first_word words) then not (length words == 4)
+    else is_miscounted_call words)
 
 -- a number, the word `thread` and a number
 abbrev pub is_section_line : List (List ℕ) → Bool
@@ -192,13 +261,15 @@ abbrev pub is_malformed : List (List ℕ) → Bool
 is_malformed words =
     if is_world_word (first_word words) || is_segment_word (first_word words) then not (all_numbers (later_words words))
     else (if is_rank_word (first_word words) then not (is_section_line (later_words words))
-    else is_none (call_of (call_words_of words)) || is_none (line_timeout words))
+    else is_none (line_tries words)
+    || (is_none (call_of (call_words_of words)) || (is_none (line_timeout words) || is_none (line_expected words))))
 
--- S7: a number of a world, segment or rank line, or of a timeout, is outside its limits
+-- S7: a number of a world, segment or rank line, of `again` or of a timeout is outside its limits
 abbrev pub is_outside : Said → List (List ℕ) → Bool
 is_outside said words =
     if is_world_word (first_word words) then not (are_limits (limits_of words))
-    else (if is_call_word (first_word words) then not (option_map_or is_timeout_within (line_timeout words) false)
+    else (if is_call_line words
+    then not (option_map_or are_tries_within (line_tries words) false && option_map_or is_timeout_within (line_timeout words) false)
     else option_map_or (λ w. is_limit_fault (declared w words)) said.world false)
 
 -- S8: a segment or a caller is declared twice
@@ -233,12 +304,12 @@ fault_of said line =
 
 -- the line of a script
 abbrev pub script_line : ℕ → List (List ℕ) → Option ScriptLine
-script_line number words = with_call (call_of (call_words_of words)) (line_timeout words)
-  where
-    with_call : Option Call → Option (Option ℕ) → Option ScriptLine
-    with_call None timeout = None
-    with_call (Some call) None = None
-    with_call (Some call) (Some timeout) = Some (record { number = number; call = call; timeout = as_timeout timeout })
+script_line number words = do
+  tries ← line_tries words
+  call ← call_of (call_words_of words)
+  timeout ← line_timeout words
+  expected ← line_expected words
+  Some (record { number = number; call = call; timeout = as_timeout timeout; tries = tries; expected = expected })
 
 -- a line added to the newest section
 abbrev pub with_line : List Script → Option ScriptLine → List Script
@@ -308,3 +379,18 @@ AreScriptsOf w scripts = map (λ s. s.caller) scripts ≡ w.callers
 
 abbrev pub is_script_of : CallerId → Script → Bool
 is_script_of caller script = is_caller caller.rank caller.thread script.caller
+
+-- Where a journal begins in an input: at the first line whose first word is `journal`.
+
+abbrev pub is_journal_line : List ℕ → Bool
+is_journal_line line = bytes_eq (codes "journal") (first_word (words_of line))
+
+-- where the first such line of these begins, where the first of them begins at a byte and has a number
+abbrev pub journal_from : ℕ → ℕ → List (List ℕ) → List (List ℕ) → Option (ℕ × ℕ)
+journal_from byte number (line ∷ lines) (fed ∷ others) =
+    if is_journal_line line then Some (byte, number) else journal_from (byte + length fed) (number + 1) lines others
+journal_from byte number lines others = None
+
+-- the byte at which that line begins, and its number
+abbrev pub journal_place : List ℕ → Option (ℕ × ℕ)
+journal_place bytes = journal_from 0 1 (lines_of bytes) (fed_lines bytes)

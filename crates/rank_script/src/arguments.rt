@@ -1,18 +1,20 @@
 //! The arguments of lines.
 
-ghost use Rattle.std.specs.Prelude.{◌≡◌, ◌<◌, ◌+◌, map, length, true, Some, None, if◌then◌else◌, IfOk};
-ghost use Rattle.gaspi_texts.specs.CallText.{arguments_of, call_of, call_word_of};
+ghost use Rattle.std.specs.Prelude.{◌≡◌, ◌<◌, ◌+◌, map, take, length, true, Some, None, if◌then◌else◌, IfOk};
+ghost use Rattle.gaspi_texts.specs.CallText.{arguments_of, has_timeout, call_of};
 ghost use Rattle.gaspi_types.specs.World.{world_of};
-ghost use Rattle.rank_script.specs.WorldText.{first_word, later_words, all_numbers, number_at, limits_of, timeout_of, line_timeout, is_timeout_within, as_timeout, is_section_line, last_word, call_words_of};
+ghost use Rattle.rank_script.specs.WorldText.{later_words, all_numbers, number_at, limits_of, timeout_of, is_timeout_within, as_timeout, are_tries_within, is_section_line, last_word};
 
 use crate::kinds::is_word;
-use gaspi_types::{
-    Call, CallWord, NoMemory, Shape, ShapeFault, Timeout, read_call_words, read_number,
-};
+use gaspi_texts::{CallWord, read_call_words, read_number};
+use gaspi_types::{Call, NoMemory, Shape, ShapeFault, Timeout};
 use std::alloc::Global;
 
 /// The most looks that a timeout may have.
 const MOST_LOOKS: u64 = 100_000_000;
+
+/// How often a line may have its call made at most.
+const MOST_TRIES: u64 = 1_000_000;
 
 /// The shape that a world line declares; none where a word is no number.
 pub(crate) fn read_shape(alloc: Global, words: &[&[u8]]) -> Option<Result<Shape, ShapeFault>>
@@ -75,17 +77,16 @@ pub(crate) fn read_section(words: &[&[u8]]) -> Option<(u64, u64)>
     Some((rank, thread))
 }
 
-/// The call that a call line gives, its timeout aside; none where its words spell none.
+/// The call that a call's words give, its timeout aside; none where they spell none.
 pub(crate) fn read_call(
     alloc: Global,
     call: CallWord,
-    words: &[&[u8]],
+    asked: &[&[u8]],
 ) -> Result<Option<Call>, NoMemory>
-    requires word { call_word_of (first_word (map (λ word. word.now) words.now)) ≡ Some call }
-    requires count { arguments_of call < length words.now }
-    ensures { IfOk result (λ call. call ≡ call_of (call_words_of (map (λ word. word.now) words.now))) }
+    requires { arguments_of call < length asked.now }
+    ensures { IfOk result (λ read. read ≡ call_of (take (arguments_of call + 1) (map (λ word. word.now) asked.now))) }
 {
-    read_call_words(alloc, &words[..call.argument_count() + 1])
+    read_call_words(alloc, &asked[..call.argument_count() + 1])
 }
 
 /// How many looks a word allows, where it is a timeout: a number of looks, or looks without end.
@@ -102,13 +103,12 @@ fn read_looks(word: &[u8]) -> Option<Option<u64>>
     Some(Some(looks))
 }
 
-/// How many looks a call line allows, where its timeout is one. A call that takes no timeout makes one look.
-pub(crate) fn read_line_looks(call: CallWord, words: &[&[u8]]) -> Option<Option<u64>>
-    requires { call_word_of (first_word (map (λ word. word.now) words.now)) ≡ Some call }
-    ensures { result ≡ line_timeout (map (λ word. word.now) words.now) }
+/// How many looks a call's words allow, where its timeout is one. A call that takes no timeout makes one look.
+pub(crate) fn read_line_looks(call: CallWord, asked: &[&[u8]]) -> Option<Option<u64>>
+    ensures { result ≡ (if has_timeout call then timeout_of (last_word (map (λ word. word.now) asked.now)) else Some (Some 1)) }
 {
     if call.takes_timeout() {
-        read_looks(last_word(words))
+        read_looks(last_word(asked))
     } else {
         Some(Some(1))
     }
@@ -132,5 +132,16 @@ pub(crate) fn timeout_of(looks: Option<u64>) -> Option<Timeout>
         None => Some(Timeout::Block),
         Some(looks) if 1 <= looks && looks <= MOST_LOOKS => Some(Timeout::Looks(looks as u32)),
         Some(_) => None,
+    }
+}
+
+/// That many tries, where they are within the limits.
+pub(crate) fn tries_of(tries: u64) -> Option<u32>
+    ensures { result ≡ (if are_tries_within tries then Some tries else None) }
+{
+    if 1 <= tries && tries <= MOST_TRIES {
+        Some(tries as u32)
+    } else {
+        None
     }
 }

@@ -1,11 +1,11 @@
 //! Walking a script, call by call.
 
-ghost use Rattle.std.specs.Prelude.{◌≡◌};
+ghost use Rattle.std.specs.Prelude.{◌≡◌, ◌+◌, ◌<◌, ◌^◌, true};
 ghost use Rattle.std.specs.Option.{option_map};
-ghost use Rattle.rank_script.specs.Runs.{going_on, advanced, stopped, present_of, line_of, outcome_of, is_stuck};
+ghost use Rattle.rank_script.specs.Runs.{Over, going_on, advanced, stopped, present_of, line_of, outcome_of, is_stuck, is_repeated, is_failed, is_timeout};
 
 use crate::scripts::{Halted, RunOutcome, Script, ScriptLine};
-use gaspi_types::{Call, Reply, Timeout};
+use gaspi_types::{Call, Reply, Timeout, same_reply};
 use std::marker::Model;
 
 /// How far a run of a script has come: the lines whose calls are still to be made, or how the run ended.
@@ -13,6 +13,8 @@ use std::marker::Model;
 pub struct Cursor<'a> {
     /// The lines that are left, the present one first.
     lines: &'a [ScriptLine],
+    /// How often the present line's call was made.
+    made: u32,
     /// How the run ended, where no line is left.
     ending: RunOutcome,
 }
@@ -24,7 +26,7 @@ impl<'a> Model for Cursor<'a> {
 
     ghost use Rattle.rank_script.specs.Cursors.{going_or_over};
 
-    ghost view = { λ c. going_or_over c.lines.now c.ending };
+    ghost view = { λ c. going_or_over c.lines.now c.made c.ending };
 }
 
 impl<'a> Cursor<'a> {
@@ -34,6 +36,7 @@ impl<'a> Cursor<'a> {
     {
         Cursor {
             lines: script.lines.as_slice(),
+            made: 0,
             ending: RunOutcome::Ended,
         }
     }
@@ -48,7 +51,8 @@ impl<'a> Cursor<'a> {
         }
     }
 
-    /// Goes on after the reply of the present call: to the next line, unless a line that blocks has timed out.
+    /// Goes on after the reply of the present call: the same call again where it timed out and its line has tries left,
+    /// and else the next line, unless a line that blocks has timed out or the reply is not the expected one.
     pub fn advance(&mut self, reply: &Reply)
         ensures { self.new ≡ advanced self.old reply.now }
     {
@@ -56,12 +60,24 @@ impl<'a> Cursor<'a> {
             return;
         };
         if is_stuck(line, reply) {
-            self.lines = &[];
-            self.ending = RunOutcome::Stuck { line: line.number };
+            self.end(RunOutcome::Stuck { line: line.number });
+        } else if is_repeated(line, self.made, reply) {
+            self.made += 1;
+        } else if is_failed(line, reply) {
+            self.end(RunOutcome::Failed { line: line.number });
         } else {
             self.lines = later;
+            self.made = 0;
             self.ending = RunOutcome::Ended;
         }
+    }
+
+    /// Ends the run.
+    fn end(&mut self, outcome: RunOutcome)
+        ensures { self.new ≡ Over outcome }
+    {
+        self.lines = &[];
+        self.ending = outcome;
     }
 
     /// Ends the run before the present call. A run that has ended stays as it is.
@@ -72,11 +88,10 @@ impl<'a> Cursor<'a> {
             return;
         };
         let line = line.number;
-        self.lines = &[];
-        self.ending = match halted {
+        self.end(match halted {
             Halted::Limit => RunOutcome::Limit { line },
             Halted::NoMemory => RunOutcome::NoMemory { line },
-        };
+        });
     }
 
     /// The number of the line whose call is to be made next; 0 where the run has ended.
@@ -102,8 +117,34 @@ impl<'a> Cursor<'a> {
 }
 
 /// Whether a reply ends the run at its line: a timeout on a line that blocks.
-pub fn is_stuck(line: &ScriptLine, reply: &Reply) -> bool
+fn is_stuck(line: &ScriptLine, reply: &Reply) -> bool
     ensures { result ≡ is_stuck line.now reply.now }
 {
-    matches!(line.timeout, Timeout::Block) && matches!(reply, Reply::Timeout)
+    matches!(line.timeout, Timeout::Block) && is_timeout(reply)
+}
+
+/// Whether a line's call is made again after a reply, where it was made so often before that reply's call: it timed out,
+/// and the line has tries left.
+fn is_repeated(line: &ScriptLine, made: u32, reply: &Reply) -> bool
+    ensures exact { result ≡ is_repeated line.now made reply.now }
+    ensures room { result ≡ true → made + 1 < 2 ^ 32 }
+{
+    is_timeout(reply) && made < line.tries && made + 1 < line.tries
+}
+
+/// Whether a line expects another last reply.
+fn is_failed(line: &ScriptLine, reply: &Reply) -> bool
+    ensures { result ≡ is_failed line.now reply.now }
+{
+    match &line.expected {
+        Some(expected) => !same_reply(reply, expected),
+        None => false,
+    }
+}
+
+/// Whether a reply is a timeout.
+fn is_timeout(reply: &Reply) -> bool
+    ensures { result ≡ is_timeout reply.now }
+{
+    matches!(reply, Reply::Timeout)
 }

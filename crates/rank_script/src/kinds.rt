@@ -1,12 +1,14 @@
 //! The kinds of lines.
 
-ghost use Rattle.std.specs.Prelude.{◌≡◌, MatchOption};
+ghost use Rattle.std.specs.Prelude.{◌≡◌, ◌<◌, map, length, codes, MatchOption};
 ghost use Rattle.std.specs.Str.{bytes_eq};
-ghost use Rattle.rank_script.specs.Kinds.{IsKind, IsNoKind, kind_word_count};
+ghost use Rattle.rank_script.specs.WorldText.{first_word};
+ghost use Rattle.rank_script.specs.Kinds.{IsKind, IsNoKind, asked_count, is_miscounted_kind};
 
-use gaspi_types::CallWord;
+use crate::call_lines::{asked_words, expected_words, from_call};
+use gaspi_texts::CallWord;
 
-/// What a line is, by its first word.
+/// What a line is.
 #[derive(Clone, Copy, Debug, PartialEq, Eq)]
 pub(crate) enum LineKind {
     /// The limits of the world.
@@ -17,13 +19,17 @@ pub(crate) enum LineKind {
     Section,
     /// A call of the present caller.
     Call(CallWord),
+    /// `again` with at most one word behind it, so without its call.
+    Again,
 }
 
 impl LineKind {
-    /// The kind of the lines that begin with a word.
-    pub(crate) fn of(word: &[u8]) -> Option<LineKind>
-        ensures { MatchOption result (IsNoKind word.now) (λ kind. IsKind kind word.now) }
+    /// The kind of a line of these words.
+    pub(crate) fn of(words: &[&[u8]]) -> Option<LineKind>
+        requires { 0 < length words.now }
+        ensures { let words = map (λ word. word.now) words.now in MatchOption result (IsNoKind words) (λ kind. IsKind kind words) }
     {
+        let [word, ..] = words else { unreachable!() };
         if is_word(word, b"world") {
             return Some(LineKind::World);
         }
@@ -33,23 +39,47 @@ impl LineKind {
         if is_word(word, b"rank") {
             return Some(LineKind::Section);
         }
+        if is_word(word, b"again") {
+            return LineKind::of_again(words);
+        }
         let call = CallWord::of(word)?;
         Some(LineKind::Call(call))
     }
 
-    /// How many words such a line has.
-    pub(crate) fn word_count(self) -> usize
-        ensures { result ≡ kind_word_count self }
+    /// The kind of a line that begins with `again`.
+    fn of_again(words: &[&[u8]]) -> Option<LineKind>
+        requires { first_word (map (λ word. word.now) words.now) ≡ codes "again" }
+        ensures { let words = map (λ word. word.now) words.now in MatchOption result (IsNoKind words) (λ kind. IsKind kind words) }
+    {
+        let [_, _, word, ..] = words else {
+            return Some(LineKind::Again);
+        };
+        let call = CallWord::of(word)?;
+        Some(LineKind::Call(call))
+    }
+
+    /// Whether a line of this kind has another number of words.
+    pub(crate) fn is_miscounted(self, words: &[&[u8]]) -> bool
+        ensures { result ≡ is_miscounted_kind self (map (λ word. word.now) words.now) }
     {
         match self {
-            LineKind::World => 7,
-            LineKind::Segment => 4,
-            LineKind::Section => 4,
+            LineKind::World => words.len() != 7,
+            LineKind::Segment => words.len() != 4,
+            LineKind::Section => words.len() != 4,
             LineKind::Call(call) => {
-                call.argument_count() + 1 + if call.takes_timeout() { 1 } else { 0 }
+                asked_words(from_call(words)).len() != asked_count(call)
+                    || expected_words(words).is_some_and(|reply| reply.is_empty())
             }
+            LineKind::Again => true,
         }
     }
+}
+
+/// How many words a call has, with its own and its timeout.
+fn asked_count(call: CallWord) -> usize
+    ensures { result ≡ asked_count call }
+{
+    call.argument_count() + 1 + if call.takes_timeout() { 1 } else { 0 }
 }
 
 /// Whether a word is spelled so.

@@ -2,17 +2,20 @@
 #![tactic(auto)]
 
 mod arguments;
+mod call_lines;
 mod cursors;
 mod kinds;
 mod lines;
 mod readings;
 mod run_laws;
 mod scripts;
+mod split;
 mod world_texts;
 
-pub use cursors::{Cursor, is_stuck};
+pub use cursors::Cursor;
 pub use run_laws::runs;
 pub use scripts::{Halted, RunOutcome, Script, ScriptFault, ScriptLine, Scripts};
+pub use split::split_input;
 pub use world_texts::read_world;
 
 #[cfg(test)]

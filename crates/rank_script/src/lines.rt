@@ -1,7 +1,8 @@
 //! The lines of a text.
 
-ghost use Rattle.std.specs.Prelude.{◌≡◌, ◌<◌, ◌∷◌, ◌==◌, length, not};
+ghost use Rattle.std.specs.Prelude.{◌≡◌, ◌<◌, ◌-◌, ◌∷◌, ◌==◌, length, take, not};
 ghost use Rattle.std.specs.List.{position, list_any};
+ghost use Rattle.gaspi_texts.specs.Lines.{fed_lines};
 ghost use Rattle.rank_script.specs.Lines.{is_line_byte, is_bad_line, lines_of, without_return};
 
 /// How many bytes a line may have.
@@ -11,6 +12,7 @@ const MOST_BYTES_OF_A_LINE: usize = 140_000;
 pub(crate) fn first_line(text: &[u8]) -> (&[u8], &[u8])
     requires { 0 < length text.now }
     ensures lines { lines_of text.now ≡ result.0.now ∷ lines_of result.1.now }
+    ensures fed { fed_lines text.now ≡ take (length text.now - length result.1.now) text.now ∷ fed_lines result.1.now }
     ensures shorter { length result.1.now < length text.now }
 {
     match line_feed_in(text) {

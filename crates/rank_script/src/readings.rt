@@ -1,18 +1,22 @@
 //! Reading a world text line by line.
 
-ghost use Rattle.std.specs.Prelude.{◌≡◌, ◌<◌, ◌+◌, map, length, true, false, None, Some, IsSome, MatchResult, OnOk, is_none, not, ◌&&◌};
+ghost use Rattle.std.specs.Prelude.{◌≡◌, ◌<◌, ◌+◌, map, length, true, false, None, Some, IsSome, MatchResult, OnOk, IfOk, is_none, not, ◌&&◌};
 ghost use Rattle.std.specs.Option.{option_map_or};
-ghost use Rattle.rank_script.specs.Kinds.{IsKind, IsNoKind, is_world_kind, is_misplaced_kind, kind_word_count};
-ghost use Rattle.rank_script.specs.WorldText.{first_word, is_comment};
-ghost use Rattle.rank_script.specs.Readings.{fault_for};
+ghost use Rattle.rank_script.specs.Kinds.{IsKind, IsLineOf, is_world_kind, is_misplaced_kind, is_miscounted_kind};
+ghost use Rattle.rank_script.specs.WorldText.{is_comment};
+ghost use Rattle.rank_script.specs.Readings.{fault_for, GivesLine};
+ghost use Rattle.rank_script.specs.PlainScripts.{IsPlain};
+ghost use Rattle.rank_script.specs.declared.scripts.ScriptFault.TheVariants.{At};
 
 use crate::arguments::{
-    read_call, read_line_looks, read_section, read_segment, read_shape, timeout_of,
+    read_call, read_line_looks, read_section, read_segment, read_shape, timeout_of, tries_of,
 };
+use crate::call_lines::{asked_words, from_call, read_expected, read_tries};
 use crate::kinds::LineKind;
 use crate::lines::is_bad_line;
 use crate::scripts::{ScriptFault, ScriptLine, Scripts};
-use gaspi_types::{CallWord, Shape, ShapeFault, words};
+use gaspi_texts::{CallWord, words};
+use gaspi_types::{Shape, ShapeFault};
 use std::alloc::Global;
 
 /// What the lines so far have said: the world, where its line has come, and the scripts, the newest last.
@@ -75,10 +79,10 @@ impl Reading {
         requires { 0 < length words.now }
         ensures { let words = map (λ word. word.now) words.now in MatchResult result
             (λ kind. (early_fault (said_of self.now) line.now words ≡ None)
-            × IsKind kind (first_word words) × (length words ≡ kind_word_count kind))
+            × IsKind kind words × (is_miscounted_kind kind words ≡ false))
             (λ fault. early_fault (said_of self.now) line.now words ≡ Some fault) }
     {
-        let kind = LineKind::of(words[0]);
+        let kind = LineKind::of(words);
         if self.lacks_world(kind) {
             return Err(1);
         }
@@ -91,7 +95,7 @@ impl Reading {
         if self.is_misplaced(kind) {
             return Err(4);
         }
-        if words.len() != kind.word_count() {
+        if kind.is_miscounted(words) {
             return Err(5);
         }
         Ok(kind)
@@ -112,7 +116,7 @@ impl Reading {
             LineKind::World => self.shape.is_some(),
             LineKind::Segment => !self.scripts.is_empty(),
             LineKind::Section => false,
-            LineKind::Call(_) => self.scripts.is_empty(),
+            LineKind::Call(_) | LineKind::Again => self.scripts.is_empty(),
         }
     }
 
@@ -124,8 +128,8 @@ impl Reading {
         number: u64,
         words: &[&[u8]],
     ) -> Result<(), ScriptFault>
-        requires kind { IsKind kind (first_word (map (λ word. word.now) words.now)) }
-        requires count { length words.now ≡ kind_word_count kind }
+        requires kind { IsKind kind (map (λ word. word.now) words.now) }
+        requires count { is_miscounted_kind kind (map (λ word. word.now) words.now) ≡ false }
         requires placed { is_misplaced_kind (said_of self.old) kind ≡ false }
         requires world { (is_none self.old.shape && not (is_world_kind kind)) ≡ false }
         ensures exact { ReadsWords result (said_of self.old) (said_of self.new) number (map (λ word. word.now) words.now) }
@@ -136,6 +140,7 @@ impl Reading {
             LineKind::Segment => self.read_segment_line(number, words),
             LineKind::Section => self.read_section_line(alloc, number, words),
             LineKind::Call(call) => self.read_call_line(alloc, call, number, words),
+            LineKind::Again => unreachable!(),
         }
     }
 
@@ -146,17 +151,14 @@ impl Reading {
         number: u64,
         words: &[&[u8]],
     ) -> Result<(), ScriptFault>
-        requires kind { IsKind LineKind.World (first_word (map (λ word. word.now) words.now)) }
+        requires kind { IsKind LineKind.World (map (λ word. word.now) words.now) }
         requires count { length words.now ≡ 7 }
         requires first { self.old.shape ≡ None }
         ensures exact { ReadsWords result (said_of self.old) (said_of self.new) number (map (λ word. word.now) words.now) }
         ensures accords { Accords (said_of self.old) → OnOk result (Accords (said_of self.new)) }
     {
         match read_shape(alloc, words) {
-            None => Err(ScriptFault::At {
-                number: 6,
-                line: number,
-            }),
+            None => Err(malformed(number)),
             Some(Err(fault)) => Err(fault_for(fault, number)),
             Some(Ok(shape)) => {
                 self.shape = Some(shape);
@@ -167,7 +169,7 @@ impl Reading {
 
     /// Reads a declared segment.
     fn read_segment_line(&mut self, number: u64, words: &[&[u8]]) -> Result<(), ScriptFault>
-        requires kind { IsKind LineKind.Segment (first_word (map (λ word. word.now) words.now)) }
+        requires kind { IsKind LineKind.Segment (map (λ word. word.now) words.now) }
         requires count { length words.now ≡ 4 }
         requires world { IsSome self.old.shape }
         ensures exact { ReadsWords result (said_of self.old) (said_of self.new) number (map (λ word. word.now) words.now) }
@@ -177,10 +179,7 @@ impl Reading {
             unreachable!()
         };
         let Some((rank, segment, size)) = read_segment(words) else {
-            return Err(ScriptFault::At {
-                number: 6,
-                line: number,
-            });
+            return Err(malformed(number));
         };
         match shape.add_segment(rank, segment, size) {
             Ok(()) => Ok(()),
@@ -195,7 +194,7 @@ impl Reading {
         number: u64,
         words: &[&[u8]],
     ) -> Result<(), ScriptFault>
-        requires kind { IsKind LineKind.Section (first_word (map (λ word. word.now) words.now)) }
+        requires kind { IsKind LineKind.Section (map (λ word. word.now) words.now) }
         requires count { length words.now ≡ 4 }
         requires world { IsSome self.old.shape }
         ensures exact { ReadsWords result (said_of self.old) (said_of self.new) number (map (λ word. word.now) words.now) }
@@ -205,10 +204,7 @@ impl Reading {
             unreachable!()
         };
         let Some((rank, thread)) = read_section(words) else {
-            return Err(ScriptFault::At {
-                number: 6,
-                line: number,
-            });
+            return Err(malformed(number));
         };
         match shape.add_caller(rank, thread) {
             Ok(()) => {}
@@ -229,37 +225,63 @@ impl Reading {
         number: u64,
         words: &[&[u8]],
     ) -> Result<(), ScriptFault>
-        requires kind { IsKind (LineKind.Call word) (first_word (map (λ word. word.now) words.now)) }
-        requires count { length words.now ≡ kind_word_count (LineKind.Call word) }
+        requires kind { IsKind (LineKind.Call word) (map (λ word. word.now) words.now) }
+        requires count { is_miscounted_kind (LineKind.Call word) (map (λ word. word.now) words.now) ≡ false }
         requires section { 0 < length self.old.scripts }
         ensures exact { ReadsWords result (said_of self.old) (said_of self.new) number (map (λ word. word.now) words.now) }
         ensures accords { Accords (said_of self.old) → OnOk result (Accords (said_of self.new)) }
     {
-        let Some(call) = read_call(alloc, word, words)? else {
-            return Err(ScriptFault::At {
-                number: 6,
-                line: number,
-            });
-        };
-        let Some(looks) = read_line_looks(word, words) else {
-            return Err(ScriptFault::At {
-                number: 6,
-                line: number,
-            });
-        };
-        let Some(timeout) = timeout_of(looks) else {
-            return Err(ScriptFault::At {
-                number: 7,
-                line: number,
-            });
-        };
-        self.scripts.add_line(ScriptLine {
-            number,
-            call,
-            timeout,
-        })?;
+        let line = read_script_line(alloc, word, number, words)?;
+        self.scripts.add_line(line)?;
         Ok(())
     }
+}
+
+/// The line of a script that a call line gives.
+fn read_script_line(
+    alloc: Global,
+    word: CallWord,
+    number: u64,
+    words: &[&[u8]],
+) -> Result<ScriptLine, ScriptFault>
+    requires kind { IsLineOf word (map (λ word. word.now) words.now) }
+    requires count { is_miscounted_kind (LineKind.Call word) (map (λ word. word.now) words.now) ≡ false }
+    ensures exact { GivesLine result number (map (λ word. word.now) words.now) }
+    ensures plain { IfOk result IsPlain }
+{
+    let asked = asked_words(from_call(words));
+    let Some(tries) = read_tries(words) else {
+        return Err(malformed(number));
+    };
+    let Some(call) = read_call(alloc, word, asked)? else {
+        return Err(malformed(number));
+    };
+    let Some(looks) = read_line_looks(word, asked) else {
+        return Err(malformed(number));
+    };
+    let Some(expected) = read_expected(alloc, words)? else {
+        return Err(malformed(number));
+    };
+    let (Some(tries), Some(timeout)) = (tries_of(tries), timeout_of(looks)) else {
+        return Err(ScriptFault::At {
+            number: 7,
+            line: number,
+        });
+    };
+    Ok(ScriptLine {
+        number,
+        call,
+        timeout,
+        tries,
+        expected,
+    })
+}
+
+/// The fault of a line with a word that is not of its form.
+fn malformed(line: u64) -> ScriptFault
+    ensures { result ≡ At 6 line }
+{
+    ScriptFault::At { number: 6, line }
 }
 
 /// Whether words are those of a comment.

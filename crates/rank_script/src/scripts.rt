@@ -3,18 +3,22 @@
 ghost use Rattle.std.specs.Prelude.{◌≡◌, ◌<◌, ◌++◌, ◌∷◌, [], length, ◌==◌, find, option_copied, slice_get, Some, OnOk, OnErr};
 ghost use Rattle.rank_script.specs.declared.scripts.ScriptFault.TheVariants.{NoMemory};
 
-use gaspi_types::{Call, CallerId, NoMemory, Rows, Timeout};
+use gaspi_types::{Call, CallerId, NoMemory, Reply, Rows, Timeout};
 use std::alloc::Global;
 use std::marker::Model;
 use thiserror::Error;
 
-/// A line of a script: one call.
+/// A line of a script: one call, which may be made again while it times out.
 #[derive(Debug, PartialEq, Eq, Drop)]
 pub struct ScriptLine {
     /// Its number in the text, from 1.
     pub number: u64,
     pub call: Call,
     pub timeout: Timeout,
+    /// How often the call is made at most, from 1.
+    pub tries: u32,
+    /// The reply that the last of these calls must have, where the line says one.
+    pub expected: Option<Reply>,
 }
 
 /// The script of a caller.
@@ -29,6 +33,8 @@ pub struct Script {
 pub enum RunOutcome {
     /// After its last line.
     Ended,
+    /// At a line whose last reply is not the expected one.
+    Failed { line: u64 },
     /// By a timeout on a line that blocks.
     Stuck { line: u64 },
     /// Before a line whose call had no room.

@@ -1,7 +1,9 @@
 ghost use Rattle.std.specs.Prelude.{◌≡◌, ◌<◌};
 
-use crate::{Cursor, Halted, RunOutcome, ScriptFault, Scripts, read_world};
-use gaspi_types::{Call, CallerId, RankId, Reply, Rows, Shape, ThreadId, Timeout};
+use crate::{
+    Cursor, Halted, RunOutcome, Script, ScriptFault, ScriptLine, Scripts, read_world, split_input,
+};
+use gaspi_types::{Call, CallerId, NoMemory, RankId, Reply, Rows, Shape, ThreadId, Timeout};
 use std::alloc::Global;
 use std::process::Abort;
 use std::test::Fail;
@@ -99,6 +101,111 @@ fn call_lines_are_tested(rt: HostRuntime) {
         3,
         3,
     );
+}
+
+/// The text of a world of one rank, with a section.
+const SECTION: &[u8] = b"world 1 1 1 1 1 1\nrank 0 thread 0\n";
+
+/// Asserts the number of the fault of the last line of a text, which has that number; 0 is for no fault.
+fn assert_last(
+    rt: &impl Abort,
+    alloc: Global,
+    before: &[u8],
+    line: &[u8],
+    place: u64,
+    number: u32,
+) -> Result<(), NoMemory> {
+    let mut text = Rows::copied_from(alloc, before)?;
+    text.append(line)?;
+    let found = match read_world(alloc, text.as_slice()) {
+        Ok(_) => Some((0, place)),
+        Err(ScriptFault::At { number, line }) => Some((number, line)),
+        Err(ScriptFault::NoMemory) => None,
+    };
+    assert_eq!(rt; found, Some((number, place)));
+    Ok(())
+}
+
+#[test]
+fn again_is_tested(rt: HostRuntime) -> Result<(), Fail> {
+    let alloc = rt.alloc();
+    let rows: [(&[u8], u32); 18] = [
+        (b"again", 5),
+        (b"again 2", 5),
+        (b"again x", 5),
+        (b"again 2 end", 3),
+        (b"again 2 foo", 3),
+        (b"again 2 =", 3),
+        (b"again 2 again 2 reset 0 0", 3),
+        (b"again 2 reset 0", 5),
+        (b"again x reset 0", 5),
+        (b"again 2 reset 0 0 0", 5),
+        (b"again x reset 0 0", 6),
+        (b"again = reset 0 0", 6),
+        (b"again 18446744073709551616 reset 0 0", 6),
+        (b"again 0 reset 0 0", 7),
+        (b"again 1000001 wait 0 test", 7),
+        (b"again 2 wait 0 0", 7),
+        (b"again 1000000 wait 0 test", 0),
+        (b"again 02 reset 0 0", 0),
+    ];
+    for (line, number) in rows {
+        assert_last(&rt, alloc, SECTION, line, 3, number)?;
+    }
+    Ok(())
+}
+
+#[test]
+fn again_has_its_place(rt: HostRuntime) -> Result<(), Fail> {
+    let alloc = rt.alloc();
+    let world = b"world 1 1 1 1 1 1\n";
+    assert_last(&rt, alloc, world, b"again 2 reset 0 0", 2, 4)?;
+    assert_last(&rt, alloc, world, b"again x reset 0 0", 2, 4)?;
+    assert_last(&rt, alloc, world, b"again 2 foo", 2, 3)?;
+    assert_last(&rt, alloc, world, b"again", 2, 4)?;
+    assert_last(&rt, alloc, b"", b"again 2 reset 0 0", 1, 1)?;
+    Ok(())
+}
+
+#[test]
+fn equals_signs_are_tested(rt: HostRuntime) -> Result<(), Fail> {
+    let alloc = rt.alloc();
+    let rows: [(&[u8], u32); 8] = [
+        (b"= value 1", 3),
+        (b"reset 0 0 =", 5),
+        (b"reset 0 x =", 5),
+        (b"reset 0 = value 1", 5),
+        (b"reset = 0 0", 5),
+        (b"wait 0 = done", 5),
+        (b"wait 0 block =", 5),
+        (b"reset 0 x = value 1", 6),
+    ];
+    for (line, number) in rows {
+        assert_last(&rt, alloc, SECTION, line, 3, number)?;
+    }
+    Ok(())
+}
+
+#[test]
+fn expected_replies_are_read(rt: HostRuntime) -> Result<(), Fail> {
+    let alloc = rt.alloc();
+    let rows: [(&[u8], u32); 11] = [
+        (b"reset 0 0 = value", 6),
+        (b"reset 0 0 = value x", 6),
+        (b"reset 0 0 = = value 1", 6),
+        (b"reset 0 0 = value 1 = value 1", 6),
+        (b"reset 0 0 = value 18446744073709551616", 6),
+        (b"reset 0 0 = id 4294967296", 6),
+        (b"again 0 wait 0 test = nothing", 6),
+        (b"again 0 wait 0 test = done", 7),
+        (b"reset 0 0 = refused 025", 0),
+        (b"wait 0 block = done", 0),
+        (b"again 3 wait 0 test = timeout", 0),
+    ];
+    for (line, number) in rows {
+        assert_last(&rt, alloc, SECTION, line, 3, number)?;
+    }
+    Ok(())
 }
 
 /// Asserts that a text declares a world of one rank, and no script.
@@ -224,8 +331,92 @@ fn a_run_is_stopped(rt: HostRuntime) -> Result<(), Fail> {
     assert_eq!(rt; shape.ranks(), 2);
     assert_eq!(rt; scripts.len(), 2);
     assert_eq!(rt; scripts.at(1).lines.len(), 3);
+    assert_eq!(rt; scripts.at(1).lines.at(0).tries, 1);
+    assert!(rt; scripts.at(1).lines.at(0).expected.is_none());
     let mut run = first_thread(&rt, &scripts, 1);
     run.stop(Halted::NoMemory);
     assert_eq!(rt; run.outcome(), Some(RunOutcome::NoMemory { line: 9 }));
     Ok(())
+}
+
+/// A script of a `wait` with one look, with that number of tries and that expectation, and a `reset` behind it.
+fn waiting(alloc: Global, tries: u32, expected: Option<Reply>) -> Result<Script, NoMemory> {
+    let mut lines = Rows::new(alloc);
+    lines.push(ScriptLine {
+        number: 3,
+        call: Call::Wait { queue: 0 },
+        timeout: Timeout::Looks(1),
+        tries,
+        expected,
+    })?;
+    lines.push(ScriptLine {
+        number: 5,
+        call: Call::Reset { seg: 0, note: 1 },
+        timeout: Timeout::Looks(1),
+        tries: 1,
+        expected: None,
+    })?;
+    Ok(Script {
+        caller: CallerId {
+            rank: RankId::of(0),
+            thread: ThreadId::of(0),
+        },
+        lines,
+    })
+}
+
+#[test]
+fn a_call_is_made_again(rt: HostRuntime) -> Result<(), Fail> {
+    let script = waiting(rt.alloc(), 3, None)?;
+    let mut run = Cursor::new(&script);
+    run.advance(&Reply::Timeout);
+    assert_eq!(rt; run.line(), 3);
+    run.advance(&Reply::Timeout);
+    assert_eq!(rt; run.line(), 3);
+    run.advance(&Reply::Timeout);
+    assert_eq!(rt; run.line(), 5);
+    run.advance(&Reply::Timeout);
+    assert_eq!(rt; run.outcome(), Some(RunOutcome::Ended));
+    let mut run = Cursor::new(&script);
+    run.advance(&Reply::Timeout);
+    run.advance(&Reply::Done);
+    assert_eq!(rt; run.line(), 5);
+    Ok(())
+}
+
+#[test]
+fn the_last_reply_is_compared(rt: HostRuntime) -> Result<(), Fail> {
+    let script = waiting(rt.alloc(), 2, Some(Reply::Done))?;
+    let mut run = Cursor::new(&script);
+    run.advance(&Reply::Timeout);
+    assert_eq!(rt; run.line(), 3);
+    run.advance(&Reply::Done);
+    assert_eq!(rt; run.line(), 5);
+    let mut run = Cursor::new(&script);
+    run.advance(&Reply::Timeout);
+    run.advance(&Reply::Timeout);
+    assert_eq!(rt; run.outcome(), Some(RunOutcome::Failed { line: 3 }));
+    let mut run = Cursor::new(&script);
+    run.advance(&Reply::Value(0));
+    assert_eq!(rt; run.outcome(), Some(RunOutcome::Failed { line: 3 }));
+    assert_eq!(rt; run.present(), None);
+    Ok(())
+}
+
+#[test]
+fn journals_are_found(rt: HostRuntime) {
+    let rows: [(&[u8], Option<(u64, u64)>); 9] = [
+        (b"", None),
+        (b"journal 1\nend 0\n", Some((0, 1))),
+        (b"world 1\r\n\n \tjournal\t1\njournal 1\n", Some((10, 3))),
+        (b"# journal\njournal", Some((10, 2))),
+        (b"journals\n\x80\njournal\r\n", Some((11, 3))),
+        (b"\n\njournal", Some((2, 3))),
+        (b"journals\nthe journal\n", None),
+        (b"journal\r", None),
+        (b"Journal 1\n", None),
+    ];
+    for (text, place) in rows {
+        assert_eq!(rt; split_input(text), place);
+    }
 }

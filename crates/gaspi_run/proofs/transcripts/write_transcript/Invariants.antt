@@ -1,5 +1,6 @@
+use Rattle.rank_script.specs.Runs.{going_on}
 use Rattle.gaspi_run.proofs.Transcribing.{HasTold}
 use Rattle.gaspi_run.proofs.transcripts.write_transcript.Given as goal
 
-abbrev pub invariant-loop-done : goal.invariant-loop-done
-invariant-loop-done l = HasTold l.script.caller l.script.lines l.calls l.fn.text l.text l.done
+abbrev pub invariant-loop-own : goal.invariant-loop-own
+invariant-loop-own l = HasTold l.script.caller (going_on l.script.lines) l.cursor l.calls l.fn.text l.text l.own-index

@@ -3,6 +3,7 @@ use Rattle.std.proofs.lemmas.List.{length-map}
 use Rattle.gaspi_texts.specs.Words.{words_of}
 use Rattle.rank_script.specs.WorldText.{is_comment}
 use Rattle.rank_script.specs.Readings.{said_of}
+use Rattle.rank_script.proofs.KindFaults.{kind-placed}
 use Rattle.rank_script.proofs.ReadLines.{reads-words, early-fault}
 use Rattle.rank_script.proofs.readings.Reading.read_line.Goals as goal
 
@@ -21,3 +22,8 @@ returns-clause-exact c =
     let comment : is_comment words ≡ false = sym c.is_comment.ensures ∙ c.if-is_comment.false in
     let filled : (length words == 0) ≡ false = rw length-map (sym c.is_empty.ensures ∙ c.if-is_empty.false) in
     (early-fault (said_of c.args.self.now) c.args.line.now words c.in-Err.fault is comment filled c.in-Err.ensures, refl)
+
+pub read_words-requires-clause-placed : goal.read_words-requires-clause-placed
+read_words-requires-clause-placed c =
+    let words : List (List ℕ) = map (λ word. word.now) c.as_slice-words.result.now in
+    (kind-placed (said_of c.args.self.now) c.args.line.now words c.in-Ok.kind c.in-Ok.ensures.1 c.in-Ok.ensures.0).0

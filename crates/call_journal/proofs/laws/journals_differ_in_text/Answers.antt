@@ -1,0 +1,5 @@
+use Rattle.call_journal.proofs.JournalLines.{same-journals}
+use Rattle.call_journal.proofs.laws.journals_differ_in_text.Goals as goal
+
+pub returns : goal.returns
+returns c = same-journals

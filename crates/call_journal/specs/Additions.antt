@@ -1,0 +1,6 @@
+-- Texts that are added to. (own choice)
+use Rattle.std.specs.Prelude.{◌≡◌, ℕ, List, length, take}
+
+-- the first text begins the second one
+abbrev pub KeepsFront : List ℕ → List ℕ → Type 0
+KeepsFront old new = take (length old) new ≡ old

@@ -1,0 +1,240 @@
+//! What the commands tell of their inputs.
+
+ghost use Rattle.std.specs.Prelude.{◌≡◌, ◌<◌, ◌≤◌, ◌+◌, ◌^◌, ℕ, length, [], IfOk, IsErrOf, Err, true, false};
+ghost use Rattle.rank_script.specs.WorldText.{world_text};
+ghost use Rattle.rank_script.specs.declared.scripts.ScriptFault.TheVariants as script_faults;
+ghost use Rattle.gaspi_texts.specs.Lines.{fed_lines};
+ghost use Rattle.gaspi_run.specs.Command.{is_any_wrong, is_any_limit, run_status, run_text, IsStepped, IsChecked, IsTold, IsRead, IsNoJournal, HasVerdict, checked_world, world_read, why_word, no_journal_text, verdict_text, verdict_status};
+
+use crate::scheduling::schedule;
+use crate::transcripts::write_transcripts;
+use crate::turns::Finished;
+use crate::words::Command;
+use call_journal::{Journal, JournalFault, Verdict, check, read, write};
+use gaspi_model::Why;
+use gaspi_texts::write_number;
+use gaspi_types::{Bytes, NoMemory, Rows, Shape};
+use rank_script::{RunOutcome, ScriptFault, Scripts, read_world, split_input};
+use std::alloc::Global;
+
+/// What a command tells of its input: the history, the status, and the text.
+#[derive(Debug, Drop)]
+pub struct Told {
+    pub journal: Journal,
+    pub status: u8,
+    pub text: Bytes,
+}
+
+/// The most bytes that an input may have.
+const MOST_BYTES: usize = 268_435_456;
+
+/// The looks of a call that blocks.
+const LIMIT: u32 = 1_000_000;
+
+/// The generator's first number.
+const SEED: u32 = 0;
+
+/// Whether a caller has failed or is stuck.
+fn is_any_wrong(finished: &[Finished]) -> bool
+    ensures { result ≡ is_any_wrong finished.now }
+{
+    finished.iter().any(|f| {
+        matches!(
+            f.outcome,
+            RunOutcome::Failed { .. } | RunOutcome::Stuck { .. }
+        )
+    })
+}
+
+/// Whether a caller ended at the event limit.
+fn is_any_limit(finished: &[Finished]) -> bool
+    ensures { result ≡ is_any_limit finished.now }
+{
+    finished
+        .iter()
+        .any(|f| matches!(f.outcome, RunOutcome::Limit { .. }))
+}
+
+/// The status of a run.
+fn run_status(finished: &[Finished]) -> u8
+    ensures { result ≡ run_status finished.now }
+{
+    if is_any_wrong(finished) {
+        3
+    } else if is_any_limit(finished) {
+        8
+    } else {
+        0
+    }
+}
+
+/// The text of a run: what each caller was told, or the journal.
+fn run_text(
+    alloc: Global,
+    brief: bool,
+    shape: &Shape,
+    scripts: &Scripts,
+    journal: &Journal,
+) -> Result<Bytes, NoMemory>
+    ensures { IfOk result (λ text. text ≡ run_text brief shape.now scripts.now journal.now) }
+{
+    let mut text = Bytes::new(alloc);
+    if brief {
+        write_transcripts(&mut text, shape, scripts, journal)?;
+    } else {
+        write(&mut text, journal)?;
+    }
+    Ok(text)
+}
+
+/// Runs a world text.
+fn tell_run(alloc: Global, brief: bool, input: &[u8]) -> Result<Told, ScriptFault>
+    ensures told { IfOk result (λ told. IsStepped brief input.now told.journal told.status told.text) }
+    ensures fault { (number line : ℕ) → IsErrOf result (script_faults.At number line)
+        → world_text input.now ≡ Err (record { number = number; line = line }) }
+{
+    let (shape, scripts) = read_world(alloc, input)?;
+    let ran = schedule(alloc, &shape, &scripts, SEED, LIMIT)?;
+    let text = run_text(alloc, brief, &shape, &scripts, &ran.journal)?;
+    let status = run_status(ran.outcomes.as_slice());
+    Ok(Told {
+        journal: ran.journal,
+        status,
+        text,
+    })
+}
+
+/// The word of why an event is no step.
+fn why_word(why: Why) -> &'static [u8]
+    ensures { result.now ≡ why_word why }
+{
+    match why {
+        Why::Caller => b"caller",
+        Why::Limit => b"limit",
+        Why::Join => b"join",
+        Why::Reply => b"reply",
+        Why::Take => b"take",
+        Why::Put => b"put",
+    }
+}
+
+/// The text of a verdict on so many events.
+fn verdict_text(alloc: Global, count: u64, verdict: Verdict) -> Result<Bytes, NoMemory>
+    ensures { IfOk result (λ text. text ≡ verdict_text count verdict) }
+{
+    let mut text = Bytes::new(alloc);
+    match verdict {
+        Verdict::Legal => {
+            text.append(b"legal ")?;
+            write_number(&mut text, count)?;
+        }
+        Verdict::Illegal { place, why } => {
+            text.append(b"illegal ")?;
+            write_number(&mut text, place)?;
+            text.append(b" ")?;
+            text.append(why_word(why))?;
+        }
+    }
+    text.append(b"\n")?;
+    Ok(text)
+}
+
+/// The status of a verdict.
+fn verdict_status(verdict: Verdict) -> u8
+    ensures { result ≡ verdict_status verdict }
+{
+    match verdict {
+        Verdict::Legal => 0,
+        Verdict::Illegal { .. } => 4,
+    }
+}
+
+/// Tells that an input has no journal, and at which of its lines.
+fn tell_no_journal(alloc: Global, line: u64) -> Result<Told, NoMemory>
+    ensures { IfOk result (λ told. IsNoJournal line told.journal told.status told.text) }
+{
+    let mut text = Bytes::new(alloc);
+    text.append(b"not a journal ")?;
+    write_number(&mut text, line)?;
+    text.append(b"\n")?;
+    Ok(Told {
+        journal: Rows::new(alloc),
+        status: 4,
+        text,
+    })
+}
+
+/// Tells the verdict on a journal.
+fn tell_verdict(alloc: Global, shape: &Shape, journal: Journal) -> Result<Told, NoMemory>
+    ensures verdict { IfOk result (λ told. HasVerdict shape.now told.journal told.status told.text) }
+    ensures journal { IfOk result (λ told. told.journal ≡ journal) }
+{
+    let verdict = check(alloc, shape, &journal)?;
+    let text = verdict_text(alloc, journal.len() as u64, verdict)?;
+    Ok(Told {
+        journal,
+        status: verdict_status(verdict),
+        text,
+    })
+}
+
+/// How many lines a text has. The last may lack its line feed.
+fn line_count(text: &[u8]) -> u64
+    ensures count { result ≡ length (fed_lines text.now) }
+    ensures bound { result ≤ length text.now }
+{
+    let mut count: u64 = 0;
+    let mut begun = false;
+    for byte in text {
+        count += u64::from(!begun);
+        begun = *byte != b'\n';
+    }
+    count
+}
+
+/// Reads the journal of an input, which begins at a line of that number, and tells the verdict on it.
+fn tell_journal(alloc: Global, shape: &Shape, text: &[u8], number: u64) -> Result<Told, NoMemory>
+    requires { (1 ≤ number) × (number + length text.now < 2 ^ 63) }
+    ensures { IfOk result (λ told. IsRead shape.now text.now number told.journal told.status told.text) }
+{
+    match read(alloc, text) {
+        Ok(journal) => tell_verdict(alloc, shape, journal),
+        Err(JournalFault::At { line }) => tell_no_journal(alloc, number - 1 + line),
+        Err(JournalFault::NoMemory) => Err(NoMemory),
+    }
+}
+
+/// Checks the journal of an input against the world text before it.
+fn tell_check(alloc: Global, input: &[u8]) -> Result<Told, ScriptFault>
+    ensures told { IfOk result (λ told. IsChecked input.now told.journal told.status told.text) }
+    ensures fault { (number line : ℕ) → IsErrOf result (script_faults.At number line)
+        → checked_world input.now ≡ Err (record { number = number; line = line }) }
+{
+    if input.len() > MOST_BYTES {
+        return Err(ScriptFault::At { number: 1, line: 0 });
+    }
+    match split_input(input) {
+        None => {
+            read_world(alloc, input)?;
+            Ok(tell_no_journal(alloc, line_count(input) + 1)?)
+        }
+        Some((place, number)) => {
+            let (world, journal) = input.split_at(place as usize);
+            let (shape, _scripts) = read_world(alloc, world)?;
+            Ok(tell_journal(alloc, &shape, journal, number)?)
+        }
+    }
+}
+
+/// What a command tells of an input, or the first fault of the world text in it.
+pub fn tell(alloc: Global, command: Command, input: &[u8]) -> Result<Told, ScriptFault>
+    ensures told { IfOk result (λ told. IsTold command input.now told.journal told.status told.text) }
+    ensures fault { (number line : ℕ) → IsErrOf result (script_faults.At number line)
+        → world_read command input.now ≡ Err (record { number = number; line = line }) }
+{
+    match command {
+        Command::Step => tell_run(alloc, false, input),
+        Command::Brief => tell_run(alloc, true, input),
+        Command::Check => tell_check(alloc, input),
+    }
+}

@@ -1,0 +1,73 @@
+-- Words joined by spaces, and the same words each behind a space.
+use Rattle.std.proofs.Common.{◌≡◌, ℕ, ◌<◌, List, [], ◌∷◌, ◌++◌, length, map, codes, refl, sym, ap, ◌∙◌, append-nil, arith}
+use Rattle.std.proofs.lemmas.Grind.{flat_map-append}
+use Rattle.std.specs.Fmt.{decimal}
+use Rattle.std.specs.List.{flat_map, join_with_byte}
+use Rattle.gaspi_types.specs.declared.calls.Call.{Call}
+use Rattle.gaspi_types.specs.declared.calls.Call.TheVariants as calls
+use Rattle.gaspi_types.specs.declared.events.Event.TheVariants.{Called}
+use Rattle.gaspi_types.specs.declared.replies.Reply.{Reply}
+use Rattle.gaspi_types.specs.declared.replies.Reply.TheVariants as replies
+use Rattle.gaspi_types.specs.declared.shapes.CallerId.{CallerId}
+use Rattle.gaspi_texts.specs.CallText.{words_of_call, call_text}
+use Rattle.gaspi_texts.specs.EventText.{arrow, caller_word, words_of_event, event_text}
+use Rattle.gaspi_texts.specs.ReplyText.{words_of_reply, reply_text}
+use Rattle.gaspi_texts.specs.Written.{spaced, spaced_numbers}
+
+pub join_spaced : (word : List ℕ) (words : List (List ℕ)) → join_with_byte 32 (word ∷ words) ≡ word ++ spaced words
+join_spaced word [] = sym (append-nil word)
+join_spaced word (next ∷ words) = ap (λ (rest : List ℕ). word ++ (32 ∷ rest)) (join_spaced next words)
+
+spaced-map : {A : Type 0} (f : A → List ℕ) (items : List A) → spaced (map f items) ≡ flat_map (λ x. 32 ∷ f x) items
+spaced-map f [] = refl
+spaced-map f (item ∷ items) = ap (λ (rest : List ℕ). 32 ∷ (f item ++ rest)) (spaced-map f items)
+
+pub join_map : {A : Type 0} (f : A → List ℕ) (word : List ℕ) (items : List A)
+    → join_with_byte 32 (word ∷ map f items) ≡ word ++ flat_map (λ x. 32 ∷ f x) items
+join_map f word items = join_spaced word (map f items) ∙ ap (λ (rest : List ℕ). word ++ rest) (spaced-map f items)
+
+pub join_numbers : (word : List ℕ) (numbers : List ℕ) → join_with_byte 32 (word ∷ map decimal numbers) ≡ word ++ spaced_numbers numbers
+join_numbers word numbers = join_map decimal word numbers
+
+-- words behind a space are the words joined, behind a space
+spaced_filled : (words : List (List ℕ)) → 0 < length words → spaced words ≡ 32 ∷ join_with_byte 32 words
+spaced_filled [] filled = absurd (omega arith)
+spaced_filled (word ∷ words) filled = ap (λ (text : List ℕ). 32 ∷ text) (sym (join_spaced word words))
+
+call_filled : (call : Call) → 0 < length (words_of_call call)
+call_filled (calls.Store seg offset bytes) = omega arith
+call_filled (calls.Load seg offset size) = omega arith
+call_filled (calls.Write seg offset rank rseg roffset size queue) = omega arith
+call_filled (calls.Notify rseg rank note value queue) = omega arith
+call_filled (calls.WriteNotify seg offset rank rseg roffset size note value queue) = omega arith
+call_filled (calls.Wait queue) = omega arith
+call_filled (calls.Waitsome seg begin num) = omega arith
+call_filled (calls.Reset seg note) = omega arith
+call_filled calls.End = omega arith
+
+reply_filled : (reply : Reply) → 0 < length (words_of_reply reply)
+unfolding words_of_reply
+reply_filled replies.Done = omega arith
+reply_filled (replies.Value n) = omega arith
+reply_filled (replies.Id n) = omega arith
+reply_filled (replies.Bytes bytes) = omega arith
+reply_filled (replies.Mask mask) = omega arith
+reply_filled (replies.List numbers) = omega arith
+reply_filled replies.Timeout = omega arith
+reply_filled (replies.Refused refusal) = omega arith
+
+spaced_call : (call : Call) → spaced (words_of_call call) ≡ 32 ∷ call_text call
+spaced_call call = spaced_filled (words_of_call call) (call_filled call)
+
+spaced_reply : (reply : Reply) → spaced (words_of_reply reply) ≡ 32 ∷ reply_text reply
+spaced_reply reply = spaced_filled (words_of_reply reply) (reply_filled reply)
+
+-- the text of a call's event by its parts
+pub called_text : (c : CallerId) (call : Call) (reply : Reply)
+    → event_text (Called c call reply) ≡ codes "called" ++ (32 ∷ (caller_word c ++ (32 ∷ (call_text call ++ (codes " -> " ++ reply_text reply)))))
+unfolding words_of_event
+called_text c call reply =
+    join_spaced (codes "called") (caller_word c ∷ (words_of_call call ++ arrow ∷ words_of_reply reply))
+    ∙ ap (λ (rest : List ℕ). codes "called" ++ (32 ∷ (caller_word c ++ rest))) (flat_map-append (λ (word : List ℕ). 32 ∷ word) (words_of_call call) (arrow ∷ words_of_reply reply))
+    ∙ ap (λ (rest : List ℕ). codes "called" ++ (32 ∷ (caller_word c ++ (rest ++ spaced (arrow ∷ words_of_reply reply))))) (spaced_call call)
+    ∙ ap (λ (rest : List ℕ). codes "called" ++ (32 ∷ (caller_word c ++ (32 ∷ (call_text call ++ (codes " ->" ++ rest)))))) (spaced_reply reply)

@@ -1,0 +1,71 @@
+-- The event that words spell, as the reader finds it before it compares the text with the event's own. No public
+-- contract speaks of it.
+use Rattle.std.specs.Prelude.{ℕ, ◌+◌, ◌==◌, nat_lt, List, [], ◌∷◌, take, drop, position, Option, Some, None, find, if◌then◌else◌, codes}
+use Rattle.std.specs.Option.{option_map}
+use Rattle.std.specs.Str.{bytes_eq}
+use Rattle.gaspi_types.specs.declared.shapes.CallerId.{CallerId}
+use Rattle.gaspi_types.specs.declared.events.Outcome.{Outcome}
+use Rattle.gaspi_types.specs.declared.events.Outcome.TheVariants.{Applied, Failed}
+use Rattle.gaspi_types.specs.declared.events.Event.{Event}
+use Rattle.gaspi_types.specs.declared.events.Event.TheVariants.{Called, Take, Put}
+use Rattle.gaspi_texts.specs.CallText.{◌>>=◌, recorded_call_of}
+use Rattle.gaspi_texts.specs.EventText.{arrow, outcome_word}
+use Rattle.gaspi_texts.specs.Numbers.{value_of}
+use Rattle.gaspi_texts.specs.ReplyText.{reply_of}
+use Rattle.gaspi_texts.specs.declared.event_reading.Moved.{Moved}
+
+-- a number below a limit
+abbrev pub number_below : ℕ → List ℕ → Option ℕ
+number_below limit word = do
+  n ← value_of word
+  if nat_lt n limit then Some n else None
+
+unfoldable pub outcome_of : List ℕ → Option Outcome
+outcome_of word = find (λ outcome. bytes_eq (outcome_word outcome) word) (Applied ∷ Failed ∷ [])
+
+-- a caller: a rank, and a thread behind the first dot
+unfoldable pub caller_of : List ℕ → Option CallerId
+caller_of word = do
+  dot ← position (λ byte. byte == 46) word
+  rank ← number_below 16 (take dot word)
+  thread ← number_below 4 (drop (dot + 1) word)
+  Some (record { rank = rank; thread = thread })
+
+-- a caller's call with its reply, each from its words
+abbrev pub called_with : CallerId → List (List ℕ) → List (List ℕ) → Option Event
+called_with caller call_words reply_words = do
+  call ← recorded_call_of call_words
+  reply ← reply_of reply_words
+  Some (Called caller call reply)
+
+-- a caller, its call, and behind the first arrow its reply
+unfoldable pub called_of : List (List ℕ) → Option Event
+called_of [] = None
+called_of (word ∷ words) = do
+  caller ← caller_of word
+  place ← position (λ word. bytes_eq arrow word) words
+  called_with caller (take place words) (drop (place + 1) words)
+
+-- the entry that is moved, and how that ends
+unfoldable pub moved_of : List (List ℕ) → Option Moved
+moved_of (first ∷ second ∷ third ∷ fourth ∷ fifth ∷ []) = do
+  origin ← number_below 16 first
+  queue ← number_below 8 second
+  target ← number_below 16 third
+  number ← value_of fourth
+  outcome ← outcome_of fifth
+  Some (record { origin = origin; queue = queue; target = target; number = number; outcome = outcome })
+moved_of other = None
+
+abbrev pub taken : Moved → Event
+taken m = Take m.origin m.queue m.target m.number m.outcome
+
+abbrev pub put : Moved → Event
+put m = Put m.origin m.queue m.target m.number m.outcome
+
+unfoldable pub event_of : List (List ℕ) → Option Event
+event_of [] = None
+event_of (word ∷ arguments) =
+    if bytes_eq (codes "called") word then called_of arguments
+    else (if bytes_eq (codes "take") word then option_map taken (moved_of arguments)
+    else (if bytes_eq (codes "put") word then option_map put (moved_of arguments) else None))

@@ -1,0 +1,217 @@
+//! Events read from words.
+
+ghost use Rattle.std.specs.Prelude.{◌≡◌, ◌<◌, ◌==◌, map, length, position, IfOk, IfSome};
+ghost use Rattle.std.specs.Option.{option_map};
+ghost use Rattle.std.specs.Str.{bytes_eq};
+ghost use Rattle.gaspi_texts.specs.EventText.{arrow, outcome_word};
+ghost use Rattle.gaspi_texts.specs.Words.{words_of};
+ghost use Rattle.gaspi_texts.specs.EventReading.{number_below, outcome_of, caller_of, called_with, called_of, moved_of, taken, put, event_of};
+
+use crate::blanks::words;
+use crate::call_texts::read_recorded_call;
+use crate::numbers::read_value;
+use crate::reply_texts::read_reply_words;
+use gaspi_types::{CallerId, Event, NoMemory, Outcome, QueueId, RankId, ThreadId};
+use std::alloc::Global;
+
+/// An entry that is moved, and how that ends.
+#[derive(Clone, Copy)]
+pub(crate) struct Moved {
+    origin: RankId,
+    queue: QueueId,
+    target: RankId,
+    number: u32,
+    outcome: Outcome,
+}
+
+fn read_rank(word: &[u8]) -> Option<RankId>
+    ensures { result ≡ number_below 16 word.now }
+{
+    let number = read_value(word)?;
+    if number < 16 {
+        Some(RankId::of(number))
+    } else {
+        None
+    }
+}
+
+fn read_thread(word: &[u8]) -> Option<ThreadId>
+    ensures { result ≡ number_below 4 word.now }
+{
+    let number = read_value(word)?;
+    if number < 4 {
+        Some(ThreadId::of(number))
+    } else {
+        None
+    }
+}
+
+fn read_queue(word: &[u8]) -> Option<QueueId>
+    ensures { result ≡ number_below 8 word.now }
+{
+    let number = read_value(word)?;
+    if number < 8 {
+        Some(QueueId::of(number))
+    } else {
+        None
+    }
+}
+
+/// The word for an outcome.
+pub(crate) fn outcome_word(outcome: Outcome) -> &'static [u8]
+    ensures { result.now ≡ outcome_word outcome }
+{
+    match outcome {
+        Outcome::Applied => b"ok",
+        Outcome::Failed => b"failed",
+    }
+}
+
+/// The outcome that a word stands for.
+#[tactic(auto, unfolding(crate::specs::EventReading::outcome_of))]
+fn read_outcome(word: &[u8]) -> Option<Outcome>
+    ensures { result ≡ outcome_of word.now }
+{
+    [Outcome::Applied, Outcome::Failed]
+        .iter()
+        .copied()
+        .find(|outcome| outcome_word(*outcome) == word)
+}
+
+/// Where the first dot of a word stands.
+fn place_of_dot(word: &[u8]) -> Option<usize>
+    ensures value { result ≡ position (λ byte. byte == 46) word.now }
+    ensures bound { IfSome result (λ place. place < length word.now) }
+{
+    word.iter().position(|byte| *byte == b'.')
+}
+
+/// Where the first arrow among words stands.
+fn place_of_arrow(words: &[&[u8]]) -> Option<usize>
+    ensures value { result ≡ position (λ word. bytes_eq arrow word) (map (λ word. word.now) words.now) }
+    ensures bound { IfSome result (λ place. place < length words.now) }
+{
+    words.iter().position(|word| b"->".as_slice() == *word)
+}
+
+/// The caller that a word spells: its rank, and its thread behind the first dot.
+#[tactic(auto, unfolding(crate::specs::EventReading::caller_of))]
+fn read_caller(word: &[u8]) -> Option<CallerId>
+    ensures { result ≡ caller_of word.now }
+{
+    let dot = place_of_dot(word)?;
+    let rank = read_rank(&word[..dot])?;
+    let thread = read_thread(&word[dot + 1..])?;
+    Some(CallerId { rank, thread })
+}
+
+/// A caller's call with its reply, each from its words.
+fn read_call_and_reply(
+    alloc: Global,
+    caller: CallerId,
+    call: &[&[u8]],
+    reply: &[&[u8]],
+) -> Result<Option<Event>, NoMemory>
+    ensures { IfOk result (λ event. event ≡ called_with caller (map (λ word. word.now) call.now) (map (λ word. word.now) reply.now)) }
+{
+    let Some(call) = read_recorded_call(alloc, call)? else {
+        return Ok(None);
+    };
+    let Some(reply) = read_reply_words(alloc, reply)? else {
+        return Ok(None);
+    };
+    Ok(Some(Event::Called(caller, call, reply)))
+}
+
+/// A caller, its call, and its reply behind the first arrow.
+#[tactic(auto, unfolding(crate::specs::EventReading::called_of))]
+fn read_called(alloc: Global, arguments: &[&[u8]]) -> Result<Option<Event>, NoMemory>
+    ensures { IfOk result (λ event. event ≡ called_of (map (λ word. word.now) arguments.now)) }
+{
+    let [word, words @ ..] = arguments else {
+        return Ok(None);
+    };
+    let Some(caller) = read_caller(word) else {
+        return Ok(None);
+    };
+    let Some(place) = place_of_arrow(words) else {
+        return Ok(None);
+    };
+    read_call_and_reply(alloc, caller, &words[..place], &words[place + 1..])
+}
+
+/// An entry's origin, queue, target and number, and an outcome.
+#[tactic(auto, unfolding(crate::specs::EventReading::moved_of))]
+fn read_moved(arguments: &[&[u8]]) -> Option<Moved>
+    ensures { result ≡ moved_of (map (λ word. word.now) arguments.now) }
+{
+    let [origin, queue, target, number, outcome] = arguments else {
+        return None;
+    };
+    let origin = read_rank(origin)?;
+    let queue = read_queue(queue)?;
+    let target = read_rank(target)?;
+    let number = read_value(number)?;
+    let outcome = read_outcome(outcome)?;
+    Some(Moved {
+        origin,
+        queue,
+        target,
+        number,
+        outcome,
+    })
+}
+
+fn read_take(arguments: &[&[u8]]) -> Option<Event>
+    ensures { result ≡ option_map taken (moved_of (map (λ word. word.now) arguments.now)) }
+{
+    let moved = read_moved(arguments)?;
+    Some(Event::Take(
+        moved.origin,
+        moved.queue,
+        moved.target,
+        moved.number,
+        moved.outcome,
+    ))
+}
+
+fn read_put(arguments: &[&[u8]]) -> Option<Event>
+    ensures { result ≡ option_map put (moved_of (map (λ word. word.now) arguments.now)) }
+{
+    let moved = read_moved(arguments)?;
+    Some(Event::Put(
+        moved.origin,
+        moved.queue,
+        moved.target,
+        moved.number,
+        moved.outcome,
+    ))
+}
+
+/// The event that words spell. Only bytes and lists take memory.
+#[tactic(auto, unfolding(crate::specs::EventReading::event_of))]
+fn read_event_words(alloc: Global, words: &[&[u8]]) -> Result<Option<Event>, NoMemory>
+    ensures { IfOk result (λ event. event ≡ event_of (map (λ word. word.now) words.now)) }
+{
+    let [word, arguments @ ..] = words else {
+        return Ok(None);
+    };
+    if b"called".as_slice() == *word {
+        return read_called(alloc, arguments);
+    }
+    if b"take".as_slice() == *word {
+        return Ok(read_take(arguments));
+    }
+    if b"put".as_slice() == *word {
+        return Ok(read_put(arguments));
+    }
+    Ok(None)
+}
+
+/// The event that a text spells, its words apart by spaces and tabs.
+pub(crate) fn read_spelled_event(alloc: Global, text: &[u8]) -> Result<Option<Event>, NoMemory>
+    ensures { IfOk result (λ event. event ≡ event_of (words_of text.now)) }
+{
+    let words = words(alloc, text)?;
+    read_event_words(alloc, words.as_slice())
+}

@@ -1,0 +1,87 @@
+//! The elements of a list of numbers, read from words.
+
+ghost use Rattle.std.specs.Prelude.{◌≡◌, map, IfOk};
+ghost use Rattle.gaspi_texts.specs.ReplyText.{lowest, highest, is_in_type, signed_of, element_of, elements_of};
+
+use crate::numbers::read_number;
+use gaspi_types::{NoMemory, NumType, Rows};
+use std::alloc::Global;
+
+/// The least number of a type.
+fn lowest(num_type: NumType) -> i128
+    ensures { result ≡ lowest num_type }
+{
+    match num_type {
+        NumType::Int => -2147483648,
+        NumType::Uint | NumType::Ulong => 0,
+        NumType::Long | NumType::Float | NumType::Double => -9223372036854775808,
+    }
+}
+
+/// The greatest number of a type.
+fn highest(num_type: NumType) -> i128
+    ensures { result ≡ highest num_type }
+{
+    match num_type {
+        NumType::Int => 2147483647,
+        NumType::Uint => 4294967295,
+        NumType::Long | NumType::Float | NumType::Double => 9223372036854775807,
+        NumType::Ulong => 18446744073709551615,
+    }
+}
+
+/// Whether a number is in the range of a type.
+fn is_in_type(num_type: NumType, number: i128) -> bool
+    ensures { result ≡ is_in_type num_type number }
+{
+    lowest(num_type) <= number && number <= highest(num_type)
+}
+
+/// The number that a word spells, with an optional `-` before it.
+#[tactic(auto, unfolding(crate::specs::ReplyText::signed_of))]
+fn read_signed(word: &[u8]) -> Option<i128>
+    ensures { result ≡ signed_of word.now }
+{
+    match word {
+        [] => None,
+        [b'-', digits @ ..] => {
+            let number = read_number(digits)?;
+            Some(-i128::from(number))
+        }
+        _ => {
+            let number = read_number(word)?;
+            Some(i128::from(number))
+        }
+    }
+}
+
+/// The element of a type that a word spells.
+#[tactic(auto, unfolding(crate::specs::ReplyText::element_of))]
+fn read_element(num_type: NumType, word: &[u8]) -> Option<i128>
+    ensures { result ≡ element_of num_type word.now }
+{
+    let number = read_signed(word)?;
+    if is_in_type(num_type, number) {
+        Some(number)
+    } else {
+        None
+    }
+}
+
+/// The elements of a type that words spell.
+pub(crate) fn read_elements(
+    alloc: Global,
+    num_type: NumType,
+    words: &[&[u8]],
+) -> Result<Option<Rows<i128>>, NoMemory>
+    ensures { IfOk result (λ elements. elements ≡ elements_of num_type (map (λ word. word.now) words.now)) }
+{
+    let mut elements = Rows::with_room(alloc, words.len())?;
+    for word in words {
+        let Some(element) = read_element(num_type, word) else {
+            return Ok(None);
+        };
+        elements.push(element)?;
+    }
+    Ok(Some(elements))
+}

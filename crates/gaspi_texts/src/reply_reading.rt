@@ -1,0 +1,238 @@
+//! Replies read from words.
+
+ghost use Rattle.std.specs.Prelude.{◌≡◌, map, IfOk};
+ghost use Rattle.std.specs.Option.{option_map};
+ghost use Rattle.gaspi_types.specs.declared.replies.Reply.TheVariants.{Id, Mask};
+ghost use Rattle.gaspi_texts.specs.ReplyText.{bare, one_field, queue_full_of, group_stage_of, allreduce_of, create_of, barrier_of, coll_of, refusal_of, plain_reply, value_reply, bytes_reply, list_reply, refused_reply, reply_with};
+
+use crate::hexes::read_bytes;
+use crate::numbers::{read_number, read_value};
+use crate::reply_elements::read_elements;
+use crate::reply_words::{ReplyWord, read_op, read_stage, read_type};
+use gaspi_types::{Coll, NoMemory, Numbers, Refusal, Reply};
+use std::alloc::Global;
+
+/// The number that is the only field.
+fn read_field(fields: &[&[u8]]) -> Option<u32>
+    ensures { result ≡ one_field (map (λ word. word.now) fields.now) }
+{
+    let [field] = fields else {
+        return None;
+    };
+    read_value(field)
+}
+
+/// An operation, a type and a number of elements.
+fn read_allreduce(arguments: &[&[u8]]) -> Option<Coll>
+    ensures { result ≡ allreduce_of (map (λ word. word.now) arguments.now) }
+{
+    let [op, num_type, count] = arguments else {
+        return None;
+    };
+    let op = read_op(op)?;
+    let num_type = read_type(num_type)?;
+    let count = read_value(count)?;
+    Some(Coll::Allreduce(op, num_type, count))
+}
+
+/// A segment and its size.
+fn read_create(arguments: &[&[u8]]) -> Option<Coll>
+    ensures { result ≡ create_of (map (λ word. word.now) arguments.now) }
+{
+    let [segment, size] = arguments else {
+        return None;
+    };
+    let segment = read_value(segment)?;
+    let size = read_value(size)?;
+    Some(Coll::Create(segment, size))
+}
+
+/// The collective that words spell.
+#[tactic(auto, unfolding(crate::specs::ReplyText::coll_of))]
+fn read_coll(fields: &[&[u8]]) -> Option<Coll>
+    ensures { result ≡ coll_of (map (λ word. word.now) fields.now) }
+{
+    let [word, arguments @ ..] = fields else {
+        return None;
+    };
+    if b"barrier".as_slice() == *word {
+        return if arguments.is_empty() {
+            Some(Coll::Barrier)
+        } else {
+            None
+        };
+    }
+    if b"allreduce".as_slice() == *word {
+        return read_allreduce(arguments);
+    }
+    if b"create".as_slice() == *word {
+        return read_create(arguments);
+    }
+    if b"commit".as_slice() == *word {
+        let mask = read_field(arguments)?;
+        return Some(Coll::Commit(mask));
+    }
+    None
+}
+
+/// A refusal without a field.
+fn read_bare(refusal: Refusal, fields: &[&[u8]]) -> Option<Refusal>
+    ensures { result ≡ bare refusal (map (λ word. word.now) fields.now) }
+{
+    if fields.is_empty() {
+        Some(refusal)
+    } else {
+        None
+    }
+}
+
+/// A full queue's refusal.
+fn read_queue_full(fields: &[&[u8]]) -> Option<Refusal>
+    ensures { result ≡ queue_full_of (map (λ word. word.now) fields.now) }
+{
+    let [count, need] = fields else {
+        return None;
+    };
+    let count = read_value(count)?;
+    let need = read_value(need)?;
+    Some(Refusal::QueueFull { count, need })
+}
+
+/// The refusal of a call that the group's stage does not have.
+fn read_group_stage(fields: &[&[u8]]) -> Option<Refusal>
+    ensures { result ≡ group_stage_of (map (λ word. word.now) fields.now) }
+{
+    let [stage] = fields else {
+        return None;
+    };
+    let stage = read_stage(stage)?;
+    Some(Refusal::GroupStage { stage })
+}
+
+/// The refusal of a number with its fields.
+#[tactic(auto, unfolding(crate::specs::ReplyText::refusal_of))]
+fn read_refusal(number: u64, fields: &[&[u8]]) -> Option<Refusal>
+    ensures { result ≡ refusal_of number (map (λ word. word.now) fields.now) }
+{
+    match number {
+        1 => read_bare(Refusal::BadRank, fields),
+        2 => read_bare(Refusal::NoSegment, fields),
+        3 => read_bare(Refusal::SegmentThere, fields),
+        4 => read_bare(Refusal::Unregistered, fields),
+        5 => read_field(fields).map(|size| Refusal::BadRange { size }),
+        6 => read_bare(Refusal::BadSize, fields),
+        7 => read_bare(Refusal::BadQueue, fields),
+        8 => read_queue_full(fields),
+        9 => read_field(fields).map(|rank| Refusal::QueueBroken { rank }),
+        10 => read_bare(Refusal::BadNote, fields),
+        11 => read_bare(Refusal::ZeroValue, fields),
+        12 => read_bare(Refusal::BadAlign, fields),
+        13 => read_field(fields).map(|waiting| Refusal::PassiveSize { waiting }),
+        14 => read_bare(Refusal::NoGroup, fields),
+        15 => read_group_stage(fields),
+        16 => read_bare(Refusal::NotMember, fields),
+        17 => read_field(fields).map(|kept| Refusal::GroupMismatch { kept }),
+        18 => read_field(fields).map(|thread| Refusal::ActiveCollective { thread }),
+        19 => read_coll(fields).map(|kept| Refusal::ResumeOther { kept }),
+        20 => read_coll(fields).map(|kept| Refusal::CollectiveMismatch { kept }),
+        21 => read_bare(Refusal::BadCount, fields),
+        22 => read_bare(Refusal::FloatType, fields),
+        23 => read_field(fields).map(|queue| Refusal::SegmentBusy { queue }),
+        24 => read_bare(Refusal::GroupsFull, fields),
+        25 => read_bare(Refusal::CallerEnded, fields),
+        _ => None,
+    }
+}
+
+/// A reply without an argument.
+fn read_plain(reply: Reply, arguments: &[&[u8]]) -> Option<Reply>
+    ensures { result ≡ plain_reply reply (map (λ word. word.now) arguments.now) }
+{
+    if arguments.is_empty() {
+        Some(reply)
+    } else {
+        None
+    }
+}
+
+fn read_value_reply(arguments: &[&[u8]]) -> Option<Reply>
+    ensures { result ≡ value_reply (map (λ word. word.now) arguments.now) }
+{
+    let [word] = arguments else {
+        return None;
+    };
+    let number = read_number(word)?;
+    Some(Reply::Value(number))
+}
+
+fn read_bytes_reply(alloc: Global, arguments: &[&[u8]]) -> Result<Option<Reply>, NoMemory>
+    ensures { IfOk result (λ reply. reply ≡ bytes_reply (map (λ word. word.now) arguments.now)) }
+{
+    let [word] = arguments else {
+        return Ok(None);
+    };
+    let Some(bytes) = read_bytes(alloc, word)? else {
+        return Ok(None);
+    };
+    Ok(Some(Reply::Bytes(bytes)))
+}
+
+fn read_list_reply(alloc: Global, arguments: &[&[u8]]) -> Result<Option<Reply>, NoMemory>
+    ensures { IfOk result (λ reply. reply ≡ list_reply (map (λ word. word.now) arguments.now)) }
+{
+    let [word, elements @ ..] = arguments else {
+        return Ok(None);
+    };
+    let Some(num_type) = read_type(word) else {
+        return Ok(None);
+    };
+    let Some(items) = read_elements(alloc, num_type, elements)? else {
+        return Ok(None);
+    };
+    Ok(Some(Reply::List(Numbers { num_type, items })))
+}
+
+fn read_refused_reply(arguments: &[&[u8]]) -> Option<Reply>
+    ensures { result ≡ refused_reply (map (λ word. word.now) arguments.now) }
+{
+    let [word, fields @ ..] = arguments else {
+        return None;
+    };
+    let number = read_number(word)?;
+    let refusal = read_refusal(number, fields)?;
+    Some(Reply::Refused(refusal))
+}
+
+fn read_id_reply(arguments: &[&[u8]]) -> Option<Reply>
+    ensures { result ≡ option_map Id (one_field (map (λ word. word.now) arguments.now)) }
+{
+    let number = read_field(arguments)?;
+    Some(Reply::Id(number))
+}
+
+fn read_mask_reply(arguments: &[&[u8]]) -> Option<Reply>
+    ensures { result ≡ option_map Mask (one_field (map (λ word. word.now) arguments.now)) }
+{
+    let mask = read_field(arguments)?;
+    Some(Reply::Mask(mask))
+}
+
+/// The reply of a word and the words behind it. Only bytes and lists take memory.
+pub(crate) fn read_arguments(
+    alloc: Global,
+    kind: ReplyWord,
+    arguments: &[&[u8]],
+) -> Result<Option<Reply>, NoMemory>
+    ensures { IfOk result (λ reply. reply ≡ reply_with kind (map (λ word. word.now) arguments.now)) }
+{
+    match kind {
+        ReplyWord::Done => Ok(read_plain(Reply::Done, arguments)),
+        ReplyWord::Value => Ok(read_value_reply(arguments)),
+        ReplyWord::Id => Ok(read_id_reply(arguments)),
+        ReplyWord::Bytes => read_bytes_reply(alloc, arguments),
+        ReplyWord::Mask => Ok(read_mask_reply(arguments)),
+        ReplyWord::List => read_list_reply(alloc, arguments),
+        ReplyWord::Timeout => Ok(read_plain(Reply::Timeout, arguments)),
+        ReplyWord::Refused => Ok(read_refused_reply(arguments)),
+    }
+}
