@@ -6,8 +6,8 @@ use Rattle.std.proofs.lemmas.List.{length-replicate}
 use Rattle.gaspi_io.specs.Faults.{HasCause}
 use Rattle.gaspi_io.specs.Sink.{with_more, AddsFront}
 use Rattle.gaspi_io.specs.Source.{without}
-use Rattle.rank_script.specs.WorldText.{TextFault, world_text, journal_place}
-use Rattle.gaspi_run.specs.Command.{fault_text, world_part, checked_world, world_read, Answers}
+use Rattle.rank_script.specs.WorldText.{TextFault}
+use Rattle.gaspi_run.specs.Command.{fault_text, world_read, Answers}
 use Rattle.gaspi_run.specs.declared.words.Command.{Command}
 use Rattle.gaspi_run.specs.declared.words.Command.TheVariants.{Step, Brief, Check}
 use Rattle.gaspi_run.specs.declared.commands.Answer.{Answer}

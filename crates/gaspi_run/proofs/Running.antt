@@ -14,7 +14,7 @@ use Rattle.gaspi_types.specs.declared.events.Event.TheVariants.{Called, Take, Pu
 use Rattle.gaspi_model.specs.Step.{reached, room_taken, own_calls, is_active}
 use Rattle.gaspi_model.specs.declared.states.State.{State}
 use Rattle.gaspi_model.proofs.Tables.{slice_get-set_same, slice_get-set_other}
-use Rattle.rank_script.specs.Runs.{Progress, Going, Over, going_on, advanced, stopped, is_stuck, is_repeated, is_failed, Follows, IsRun}
+use Rattle.rank_script.specs.Runs.{Progress, Going, Over, going_on, advanced, stopped, is_stuck, is_retried, is_failed, Follows, IsRun}
 use Rattle.rank_script.specs.WorldText.{is_script_of}
 use Rattle.rank_script.specs.declared.scripts.Script.{Script}
 use Rattle.rank_script.specs.declared.scripts.ScriptLine.{ScriptLine}
@@ -125,11 +125,11 @@ left-before (Going first tried lines) reply line place at = stuck-or (is_stuck f
     repeated-or true e = (place, e)
     repeated-or false e = failed-or (is_failed first reply) e
 
-    stuck-or : (b : Bool) → slice_get (lines-left (if b then Over (outcomes.Stuck first.number) else (if is_repeated first tried reply then Going first (tried + 1) lines
+    stuck-or : (b : Bool) → slice_get (lines-left (if b then Over (outcomes.Stuck first.number) else (if is_retried first tried reply then Going first (tried + 1) lines
         else (if is_failed first reply then Over (outcomes.Failed first.number) else going_on lines)))) place ≡ Some line
         → (before : ℕ) × (slice_get (first ∷ lines) before ≡ Some line)
     stuck-or true e = none (outcomes.Stuck first.number) e
-    stuck-or false e = repeated-or (is_repeated first tried reply) e
+    stuck-or false e = repeated-or (is_retried first tried reply) e
 
 -- a line that a run comes to is one that it could come to
 line-left : (p : Progress) (pairs : List (Call × Reply)) (line : ScriptLine) (tried : ℕ) (rest : List ScriptLine) → Follows p pairs (Going line tried rest)

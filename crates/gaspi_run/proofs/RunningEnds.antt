@@ -14,7 +14,7 @@ use Rattle.gaspi_types.specs.declared.events.Event.TheVariants.{Called}
 use Rattle.gaspi_model.specs.Step.{step, own_calls, is_active, ends_caller}
 use Rattle.gaspi_model.specs.declared.states.State.{State}
 use Rattle.gaspi_model.proofs.Tables.{append-parts}
-use Rattle.rank_script.specs.Runs.{Progress, Going, Over, going_on, advanced, is_stuck, is_repeated, is_failed, Follows, IsRun, IsStopped, end_pair}
+use Rattle.rank_script.specs.Runs.{Progress, Going, Over, going_on, advanced, is_stuck, is_retried, is_failed, Follows, IsRun, IsStopped, end_pair}
 use Rattle.rank_script.specs.declared.scripts.Script.{Script}
 use Rattle.rank_script.specs.declared.scripts.ScriptLine.{ScriptLine}
 use Rattle.rank_script.specs.declared.scripts.RunOutcome.{RunOutcome}
@@ -79,10 +79,10 @@ free-advanced line tried lines reply = stuck-or (is_stuck line reply)
     repeated-or true = tt
     repeated-or false = failed-or (is_failed line reply)
 
-    stuck-or : (b : Bool) → GoesFree (if b then Over (outcomes.Stuck line.number) else (if is_repeated line tried reply then Going line (tried + 1) lines
+    stuck-or : (b : Bool) → GoesFree (if b then Over (outcomes.Stuck line.number) else (if is_retried line tried reply then Going line (tried + 1) lines
         else (if is_failed line reply then Over (outcomes.Failed line.number) else going_on lines)))
     stuck-or true = tt
-    stuck-or false = repeated-or (is_repeated line tried reply)
+    stuck-or false = repeated-or (is_retried line tried reply)
 
 -- a run that pairs alone led to its end was not stopped
 free-end : (p : Progress) (pairs : List (Call × Reply)) (outcome : RunOutcome) → GoesFree p → Follows p pairs (Over outcome) → IsFree outcome

@@ -22,12 +22,11 @@ use Rattle.gaspi_model.specs.declared.states.ThreadState.{ThreadState}
 use Rattle.gaspi_model.specs.declared.states.ThreadState.TheVariants.{Absent, Running, Ended}
 use Rattle.gaspi_model.specs.declared.states.State.{State}
 use Rattle.rank_script.specs.PlainScripts.{ArePlain}
-use Rattle.rank_script.specs.Runs.{is_stuck, is_repeated, is_failed, end_pair, IsRunFrom, IsRun}
+use Rattle.rank_script.specs.Runs.{is_stuck, is_retried, is_failed, end_pair, IsRunFrom, IsRun}
 use Rattle.rank_script.specs.WorldText.{AreScriptsOf}
 use Rattle.rank_script.specs.declared.scripts.Script.{Script}
 use Rattle.rank_script.specs.declared.scripts.ScriptLine.{ScriptLine}
 use Rattle.rank_script.specs.declared.scripts.RunOutcome.{RunOutcome}
-use Rattle.rank_script.specs.declared.scripts.RunOutcome.TheVariants as outcomes
 use Rattle.gaspi_run.specs.Schedule.{started, turn, turns, candidates, AreDeclared, IsScheduled, HasSettled, HaveEnded}
 use Rattle.gaspi_run.specs.declared.turns.Finished.{Finished}
 use Rattle.gaspi_run.specs.declared.turns.Waiting.{Waiting}
@@ -175,7 +174,7 @@ run-has-end tried [] pairs outcome h = end-first pairs h.0
 run-has-end tried (line ∷ lines) [] outcome h = absurd h
 run-has-end tried (line ∷ lines) (pair ∷ pairs) outcome (inl h) = end-first (pair ∷ pairs) h.0
 run-has-end tried (line ∷ lines) (pair ∷ pairs) outcome (inr h) =
-    let found = end-after (is_stuck line pair.1) (is_repeated line tried pair.1) (is_failed line pair.1) pairs _ _ _ _ (run-has-end (tried + 1) (line ∷ lines) pairs outcome) (run-has-end 0 lines pairs outcome) h.1 in
+    let found = end-after (is_stuck line pair.1) (is_retried line tried pair.1) (is_failed line pair.1) pairs _ _ _ _ (run-has-end (tried + 1) (line ∷ lines) pairs outcome) (run-has-end 0 lines pairs outcome) h.1 in
     (suc found.0, found.1)
 
 run-ends : (lines : List ScriptLine) (pairs : List (Call × Reply)) (outcome : RunOutcome) → IsRun lines pairs outcome → (k : ℕ) × (slice_get pairs k ≡ Some (End, replies.Done))

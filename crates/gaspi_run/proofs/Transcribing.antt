@@ -1,5 +1,5 @@
 -- A transcript told call by call.
-use Rattle.std.proofs.Common.{◌≡◌, ℕ, zero, suc, ◌+◌, ◌<◌, ◌≤◌, length, get_or, Bool, true, false, ◌||◌, is_some, List, [], ◌∷◌, ◌++◌, None, Some, Result, Ok, Err, OnOk, refl, sym, ap, ◌∙◌, arith, append_assoc, add-one}
+use Rattle.std.proofs.Common.{◌≡◌, ℕ, zero, suc, ◌+◌, ◌<◌, ◌≤◌, length, get_or, true, false, ◌||◌, is_some, List, [], ◌∷◌, ◌++◌, Some, Result, Ok, Err, OnOk, refl, sym, ap, ◌∙◌, arith, append_assoc, add-one}
 use Rattle.std.proofs.Math.ListN.{drop}
 use Rattle.std.specs.List.{slice_get}
 use Rattle.std.proofs.lemmas.Option.{slice_get-get_or}

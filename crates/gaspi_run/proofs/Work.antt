@@ -21,7 +21,7 @@ use Rattle.gaspi_model.specs.declared.states.State.{State}
 use Rattle.gaspi_model.specs.declared.states.Posts.{Posts}
 use Rattle.gaspi_model.specs.declared.states.Memory.{Memory}
 use Rattle.gaspi_model.specs.declared.states.Why.{Why}
-use Rattle.rank_script.specs.Runs.{Progress, Going, Over, going_on, advanced, stopped, is_timeout, is_stuck, is_repeated, is_failed}
+use Rattle.rank_script.specs.Runs.{Progress, Going, Over, going_on, advanced, stopped, is_timeout, is_stuck, is_retried, is_failed}
 use Rattle.rank_script.specs.declared.scripts.Halted.TheVariants as halts
 use Rattle.rank_script.specs.declared.scripts.ScriptLine.{ScriptLine}
 use Rattle.rank_script.specs.declared.scripts.RunOutcome.{RunOutcome}
@@ -74,7 +74,7 @@ advanced-less limit line tried lines reply looks = stuck-or (is_stuck line reply
     failed-or true = omega arith
     failed-or false = let less = going-less limit lines in omega arith
 
-    repeated-or : (b : Bool) → is_repeated line tried reply ≡ b
+    repeated-or : (b : Bool) → is_retried line tried reply ≡ b
         → run_work limit (if b then Going line (tried + 1) lines else (if is_failed line reply then Over (outcomes.Failed line.number) else going_on lines)) 0 < run_work limit (Going line tried lines) looks
     repeated-or true again =
         let left = ltb-true (tried + 1) line.tries (and-right (is_timeout reply) (nat_lt (tried + 1) line.tries) again) in
@@ -82,10 +82,10 @@ advanced-less limit line tried lines reply looks = stuck-or (is_stuck line reply
         omega arith
     repeated-or false again = failed-or (is_failed line reply)
 
-    stuck-or : (b : Bool) → run_work limit (if b then Over (outcomes.Stuck line.number) else (if is_repeated line tried reply then Going line (tried + 1) lines
+    stuck-or : (b : Bool) → run_work limit (if b then Over (outcomes.Stuck line.number) else (if is_retried line tried reply then Going line (tried + 1) lines
         else (if is_failed line reply then Over (outcomes.Failed line.number) else going_on lines))) 0 < run_work limit (Going line tried lines) looks
     stuck-or true = omega arith
-    stuck-or false = repeated-or (is_repeated line tried reply) refl
+    stuck-or false = repeated-or (is_retried line tried reply) refl
 
 -- what follows from the facts about a sound step: a step takes an event
 abbrev pub Counts : Type 0

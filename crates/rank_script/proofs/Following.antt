@@ -7,7 +7,7 @@ use Rattle.gaspi_types.specs.declared.replies.Reply.{Reply}
 use Rattle.rank_script.specs.declared.scripts.ScriptLine.{ScriptLine}
 use Rattle.rank_script.specs.declared.scripts.RunOutcome.{RunOutcome}
 use Rattle.rank_script.specs.declared.scripts.RunOutcome.TheVariants as outcomes
-use Rattle.rank_script.specs.Runs.{Progress, Going, Over, is_timeout, is_stuck, is_repeated, is_failed, going_on, advanced, end_pair, Follows, IsStopped, IsRunFrom, IsRun}
+use Rattle.rank_script.specs.Runs.{Progress, Going, Over, is_timeout, is_stuck, is_retried, is_failed, going_on, advanced, end_pair, Follows, IsStopped, IsRunFrom, IsRun}
 
 abbrev Pairs : Type 0
 Pairs = List (Call × Reply)
@@ -64,7 +64,7 @@ ended-from [] line made lines outcome h = absurd (let no : ⊥ = cc in no)
 ended-from (pair ∷ pairs) line made lines outcome h =
     inr (
       h.0,
-      step-ended (is_stuck line pair.1) (is_repeated line made pair.1) (is_failed line pair.1) line made lines pairs outcome h.1
+      step-ended (is_stuck line pair.1) (is_retried line made pair.1) (is_failed line pair.1) line made lines pairs outcome h.1
           (λ again. ended-from pairs line (made + 1) lines outcome again)
           (λ later. later-ended lines pairs outcome (λ next rest follows. ended-from pairs next 0 rest outcome follows) later),
     )
@@ -96,7 +96,7 @@ stopped-from [] first tried lines line made rest outcome h stop =
 stopped-from (pair ∷ pairs) first tried lines line made rest outcome h stop =
     inr (
       h.0,
-      step-stopped (is_stuck first pair.1) (is_repeated first tried pair.1) (is_failed first pair.1) first tried lines pairs line made rest outcome h.1
+      step-stopped (is_stuck first pair.1) (is_retried first tried pair.1) (is_failed first pair.1) first tried lines pairs line made rest outcome h.1
           (λ again. stopped-from pairs first (tried + 1) lines line made rest outcome again stop)
           (λ later. later-stopped lines pairs line made rest outcome (λ next others follows. stopped-from pairs next 0 others line made rest outcome follows stop) later),
     )
@@ -131,7 +131,7 @@ stays-within [] p q within h = subst Within (sym h) within
 stays-within (pair ∷ pairs) (Over outcome) q within h = absurd h
 stays-within (pair ∷ pairs) (Going line made lines) q within h =
     stays-within pairs (advanced (Going line made lines) pair.1) q
-    (step-within (is_stuck line pair.1) (is_repeated line made pair.1) (is_failed line pair.1) line made lines (λ repeated. room-left (is_timeout pair.1) made line.tries repeated)) h.1
+    (step-within (is_stuck line pair.1) (is_retried line made pair.1) (is_failed line pair.1) line made lines (λ repeated. room-left (is_timeout pair.1) made line.tries repeated)) h.1
 
 pub bounded : (lines : List ScriptLine) (pairs : Pairs) (line : ScriptLine) (made : ℕ) (rest : List ScriptLine)
     → Follows (going_on lines) pairs (Going line made rest) → (made ≡ 0) ⊎ (made < line.tries)
@@ -159,5 +159,5 @@ not-not false h = sym h
 pub met : (line : ScriptLine) (made : ℕ) (lines : List ScriptLine) (reply expected : Reply)
     → line.expected ≡ Some expected → advanced (Going line made lines) reply ≡ going_on lines → same_reply reply expected ≡ true
 met line made lines reply expected is h =
-    let kept : is_failed line reply ≡ false = step-met (is_stuck line reply) (is_repeated line made reply) (is_failed line reply) line made lines h in
+    let kept : is_failed line reply ≡ false = step-met (is_stuck line reply) (is_retried line made reply) (is_failed line reply) line made lines h in
     not-not (same_reply reply expected) (rw is at kept)

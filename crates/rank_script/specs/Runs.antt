@@ -32,8 +32,8 @@ abbrev pub is_stuck : ScriptLine → Reply → Bool
 is_stuck line reply = is_block line.timeout && is_timeout reply
 
 -- a call that timed out is made again while its line has tries left
-abbrev pub is_repeated : ScriptLine → ℕ → Reply → Bool
-is_repeated line made reply = is_timeout reply && nat_lt (made + 1) line.tries
+abbrev pub is_retried : ScriptLine → ℕ → Reply → Bool
+is_retried line made reply = is_timeout reply && nat_lt (made + 1) line.tries
 
 -- the last reply of a line is not the one that it says
 abbrev pub is_failed : ScriptLine → Reply → Bool
@@ -58,7 +58,7 @@ abbrev pub advanced : Progress → Reply → Progress
 advanced (Over outcome) reply = Over outcome
 advanced (Going line made lines) reply =
     if is_stuck line reply then Over (outcomes.Stuck line.number)
-    else (if is_repeated line made reply then Going line (made + 1) lines
+    else (if is_retried line made reply then Going line (made + 1) lines
     else (if is_failed line reply then Over (outcomes.Failed line.number) else going_on lines))
 
 -- ended before the present call, which is not made
@@ -91,7 +91,7 @@ IsRunFrom made (line ∷ lines) (pair ∷ pairs) outcome =
     ((pair ∷ pairs ≡ end_pair) × IsStopped line.number outcome)
     ⊎ ((pair.0 ≡ line.call)
     × MatchBool (is_stuck line pair.1) ((pairs ≡ end_pair) × (outcome ≡ outcomes.Stuck line.number))
-    (MatchBool (is_repeated line made pair.1) (IsRunFrom (made + 1) (line ∷ lines) pairs outcome)
+    (MatchBool (is_retried line made pair.1) (IsRunFrom (made + 1) (line ∷ lines) pairs outcome)
     (MatchBool (is_failed line pair.1) ((pairs ≡ end_pair) × (outcome ≡ outcomes.Failed line.number))
     (IsRunFrom 0 lines pairs outcome))))
 

@@ -2,7 +2,7 @@
 
 ghost use Rattle.std.specs.Prelude.{◌≡◌, ◌+◌, ◌<◌, ◌^◌, true};
 ghost use Rattle.std.specs.Option.{option_map};
-ghost use Rattle.rank_script.specs.Runs.{Over, going_on, advanced, stopped, present_of, line_of, outcome_of, is_stuck, is_repeated, is_failed, is_timeout};
+ghost use Rattle.rank_script.specs.Runs.{Over, going_on, advanced, stopped, present_of, line_of, outcome_of, is_stuck, is_retried, is_failed, is_timeout};
 
 use crate::scripts::{Halted, RunOutcome, Script, ScriptLine};
 use gaspi_types::{Call, Reply, Timeout, same_reply};
@@ -61,7 +61,7 @@ impl<'a> Cursor<'a> {
         };
         if is_stuck(line, reply) {
             self.end(RunOutcome::Stuck { line: line.number });
-        } else if is_repeated(line, self.made, reply) {
+        } else if is_retried(line, self.made, reply) {
             self.made += 1;
         } else if is_failed(line, reply) {
             self.end(RunOutcome::Failed { line: line.number });
@@ -125,8 +125,8 @@ fn is_stuck(line: &ScriptLine, reply: &Reply) -> bool
 
 /// Whether a line's call is made again after a reply, where it was made so often before that reply's call: it timed out,
 /// and the line has tries left.
-fn is_repeated(line: &ScriptLine, made: u32, reply: &Reply) -> bool
-    ensures exact { result ≡ is_repeated line.now made reply.now }
+fn is_retried(line: &ScriptLine, made: u32, reply: &Reply) -> bool
+    ensures exact { result ≡ is_retried line.now made reply.now }
     ensures room { result ≡ true → made + 1 < 2 ^ 32 }
 {
     is_timeout(reply) && made < line.tries && made + 1 < line.tries

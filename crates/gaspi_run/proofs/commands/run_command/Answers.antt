@@ -1,5 +1,5 @@
 use Rattle.std.proofs.Common.{Err, sym, ap, ◌∙◌, refl}
-use Rattle.gaspi_run.specs.Command.{world_read, IsTold}
+use Rattle.gaspi_run.specs.Command.{world_read}
 use Rattle.gaspi_run.proofs.Answering.{long-fault, read-fault, fault-answer}
 use Rattle.gaspi_run.proofs.ToldInputs.{told-answer}
 use Rattle.gaspi_run.proofs.commands.run_command.Goals as goal

@@ -1,5 +1,5 @@
-use Rattle.std.proofs.Common.{◌≡◌, ◌++◌, sym, ap, ◌∙◌, ◌+◌, subst}
-use Rattle.rank_script.specs.Runs.{Progress, going_on, advanced}
+use Rattle.std.proofs.Common.{◌++◌, sym, ap, ◌∙◌, ◌+◌, subst}
+use Rattle.rank_script.specs.Runs.{Progress, going_on}
 use Rattle.gaspi_run.specs.OwnCalls.{pairs_of}
 use Rattle.gaspi_run.specs.Transcripts.{transcript}
 use Rattle.gaspi_run.proofs.Transcribing.{HasTold, on-ok, read-at, told-over, told-more, told-all}
