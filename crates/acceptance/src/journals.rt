@@ -1,9 +1,10 @@
 //! Journals: those that `step` writes, and what `check` says of them and of others.
 
-use crate::running::words_run_to;
+use crate::running::{JOURNAL, words_run_to};
 use crate::worlds::TWO_RANKS;
+use command_line::Command;
 use gaspi_io::{SureSink, SureSource};
-use gaspi_run::{Command, run_command};
+use gaspi_run::run_command;
 use gaspi_types::{Bytes, NoMemory};
 use std::alloc::Global;
 use std::test::Fail;
@@ -442,7 +443,7 @@ write 31 1048575 2 31 0 1 7\nwait 7 block\n",
 fn with_journal(alloc: Global, world: &str) -> Result<Bytes, NoMemory> {
     let mut source = SureSource::new(Bytes::copied_from(alloc, world.as_bytes())?);
     let mut sink = SureSink::with_room(alloc, 4096)?;
-    let answer = run_command(alloc, Command::Step, &mut source, &mut sink);
+    let answer = run_command(alloc, JOURNAL, &mut source, &mut sink);
     drop(answer);
     let mut text = Bytes::copied_from(alloc, world.as_bytes())?;
     text.append(sink.bytes())?;

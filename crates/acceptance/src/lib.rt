@@ -20,4 +20,6 @@ mod streams;
 #[cfg(test)]
 mod texts;
 #[cfg(test)]
+mod words;
+#[cfg(test)]
 mod worlds;

@@ -1,8 +1,12 @@
 //! The parts of the command, called one by one.
 
+ghost use Rattle.gaspi_run.specs.Command.{HasLimit};
+
+use crate::running::{BRIEF, JOURNAL};
 use crate::worlds::{TOLD, TWO_RANKS};
+use command_line::Command;
 use gaspi_io::{SureSink, SureSource};
-use gaspi_run::{Command, command, run_command, schedule, write_transcripts};
+use gaspi_run::{command, run_command, schedule, write_transcripts};
 use gaspi_types::{Bytes, NoMemory};
 use rank_script::{RunOutcome, ScriptFault, read_world};
 use std::alloc::Global;
@@ -48,7 +52,9 @@ fn a_schedule_is_told(rt: HostRuntime) -> Result<(), Fail> {
 }
 
 /// The status and the number of events that a command gives of a text, and what it writes.
-fn ran(alloc: Global, asked: Command, text: &[u8]) -> Result<(u8, usize, Bytes), NoMemory> {
+fn ran(alloc: Global, asked: Command, text: &[u8]) -> Result<(u8, usize, Bytes), NoMemory>
+    requires { HasLimit asked }
+{
     let mut source = SureSource::new(Bytes::copied_from(alloc, text)?);
     let mut sink = SureSink::with_room(alloc, 1000)?;
     let answer = run_command(alloc, asked, &mut source, &mut sink);
@@ -66,10 +72,10 @@ fn refused(alloc: Global, text: &[u8]) -> Result<(u8, usize, Bytes), NoMemory> {
 #[test]
 fn commands_answer_without_threads(rt: HostRuntime) -> Result<(), Fail> {
     let alloc = rt.alloc();
-    let (status, events, text) = ran(alloc, Command::Brief, TWO_RANKS.as_bytes())?;
+    let (status, events, text) = ran(alloc, BRIEF, TWO_RANKS.as_bytes())?;
     assert_eq!(rt; (status, events), (0, 12));
     assert!(rt; text.as_slice() == TOLD.as_bytes());
-    let (status, events, text) = ran(alloc, Command::Step, b"world 1 1 1 1 1 1\n")?;
+    let (status, events, text) = ran(alloc, JOURNAL, b"world 1 1 1 1 1 1\n")?;
     assert_eq!(rt; (status, events), (0, 0));
     assert!(rt; text.as_slice() == b"journal 1\nend 0\n".as_slice());
     let (status, events, text) = ran(

@@ -1,5 +1,6 @@
 //! Runs of the command, compared with what they must give.
 
+use command_line::Command;
 use gaspi_io::{SureSink, SureSource};
 use gaspi_run::gaspirun;
 use gaspi_types::{Bytes, NoMemory};
@@ -10,6 +11,20 @@ use std::thread::Threads;
 
 /// The words of the command.
 pub const STEP: [&str; 2] = ["step", "--brief"];
+
+/// A run whose transcripts are written, with the seed and the limit that words without options have.
+pub const BRIEF: Command = Command::Step {
+    seed: 0,
+    limit: 1_000_000,
+    brief: true,
+};
+
+/// The same run, of which the journal is written.
+pub const JOURNAL: Command = Command::Step {
+    seed: 0,
+    limit: 1_000_000,
+    brief: false,
+};
 
 /// More bytes than any text that a test expects.
 const ROOM: usize = 4096;

@@ -1,43 +1,7 @@
-//! Words that are refused, and world texts with faults.
+//! World texts with faults.
 
-use crate::running::{runs_to, words_run_to};
+use crate::running::runs_to;
 use std::test::Fail;
-
-#[test]
-fn other_words_are_refused(rt: HostRuntime) -> Result<(), Fail> {
-    let alloc = rt.alloc();
-    let rows: [&[&str]; 18] = [
-        &[],
-        &["step", "step"],
-        &["step", "check"],
-        &["check", "--brief"],
-        &["check", "check"],
-        &["steps"],
-        &["--brief"],
-        &["--brief", "step"],
-        &["step", "--brief", "--brief"],
-        &["step", "--brie"],
-        &["step", "--briefs"],
-        &["Step", "--brief"],
-        &["step", ""],
-        &["", "--brief"],
-        &["run", "--brief"],
-        &["step", "--seed", "0", "--brief"],
-        &["help"],
-        &["--version"],
-    ];
-    for words in rows {
-        words_run_to(
-            &rt,
-            alloc,
-            words,
-            "world 1 1 1 1 1 1\n",
-            1,
-            "gaspirun: words refused\n",
-        )?;
-    }
-    Ok(())
-}
 
 /// Texts with a fault of their words, S1 to S6, and what is written of it.
 const FAULTS_OF_WORDS: [(&str, &str); 43] = [

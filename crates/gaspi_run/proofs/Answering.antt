@@ -8,8 +8,8 @@ use Rattle.gaspi_io.specs.Sink.{with_more, AddsFront}
 use Rattle.gaspi_io.specs.Source.{without}
 use Rattle.rank_script.specs.WorldText.{TextFault}
 use Rattle.gaspi_run.specs.Command.{fault_text, world_read, Answers}
-use Rattle.gaspi_run.specs.declared.words.Command.{Command}
-use Rattle.gaspi_run.specs.declared.words.Command.TheVariants.{Step, Brief, Check}
+use Rattle.command_line.specs.declared.words.Command.{Command}
+use Rattle.command_line.specs.declared.words.Command.TheVariants.{Step, Check}
 use Rattle.gaspi_run.specs.declared.commands.Answer.{Answer}
 
 -- what is known of an input with a fault: its bytes, where the source tells them
@@ -22,8 +22,7 @@ pub record KnowsFault (command : Command) (before after : Option (List ℕ)) (fa
 
 -- an input that is too long
 long-text : (command : Command) (text : List ℕ) → 268435456 < length text → world_read command text ≡ Err (record { number = 1; line = 0 })
-long-text Step text long = rw (lt-ltb 268435456 (length text) long) refl
-long-text Brief text long = rw (lt-ltb 268435456 (length text) long) refl
+long-text (Step seed limit brief) text long = rw (lt-ltb 268435456 (length text) long) refl
 long-text Check text long = rw (lt-ltb 268435456 (length text) long) refl
 
 -- there is a longer text than of any length
@@ -69,6 +68,7 @@ fault-answer command before after held held' faults faults' sink_faults sink_fau
   of = inr (record { input = k.input; fault = fault; all = k.all; end = k.end; past = k.past; is = k.is; text_is = refl }, empty);
   front = failed.1;
   cause = failed.2;
+  still = read;
   status = failed.0;
 }))))
 fault-answer command before after held held' faults faults' sink_faults sink_faults' answer fault k read (inr (inr lacks)) empty = inr (inr (inr (inr (record {

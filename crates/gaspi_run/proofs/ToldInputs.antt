@@ -12,7 +12,7 @@ use Rattle.rank_script.specs.declared.scripts.Script.{Script}
 use Rattle.gaspi_io.specs.Faults.{HasCause}
 use Rattle.gaspi_io.specs.Sink.{with_more, AddsFront}
 use Rattle.gaspi_run.specs.Command.{IsTold, IsNoJournal, IsRead, IsChecked, world_part, checked_world, Answers}
-use Rattle.gaspi_run.specs.declared.words.Command.{Command}
+use Rattle.command_line.specs.declared.words.Command.{Command}
 use Rattle.gaspi_run.specs.declared.commands.Answer.{Answer}
 
 le-ltb-false : (limit n : ℕ) → n ≤ limit → nat_lt limit n ≡ false
@@ -43,6 +43,7 @@ told-answer command before after held held' faults faults' sink_faults sink_faul
   of = inl (would, record { input = input; all = all; end = end; tells = rw same tells });
   front = failed.1;
   cause = failed.2;
+  still = read;
   status = failed.0;
 }))))
 

@@ -17,6 +17,8 @@ use Rattle.call_journal.specs.JournalText.{journal_text, AreInRange, IsFaultyAt}
 use Rattle.call_journal.specs.Verdicts.{IsVerdict}
 use Rattle.call_journal.specs.declared.verdicts.Verdict.{Verdict}
 use Rattle.call_journal.specs.declared.verdicts.Verdict.TheVariants.{Legal, Illegal}
+use Rattle.command_line.specs.declared.words.Command.{Command}
+use Rattle.command_line.specs.declared.words.Command.TheVariants.{Step, Check}
 use Rattle.rank_script.specs.WorldText.{Said, TextFault, world_text, journal_place}
 use Rattle.rank_script.specs.declared.scripts.Script.{Script}
 use Rattle.rank_script.specs.declared.scripts.RunOutcome.{RunOutcome}
@@ -24,18 +26,7 @@ use Rattle.rank_script.specs.declared.scripts.RunOutcome.TheVariants as outcomes
 use Rattle.gaspi_run.specs.Schedule.{IsScheduled, HasSettled, HaveEnded}
 use Rattle.gaspi_run.specs.Transcripts.{transcripts}
 use Rattle.gaspi_run.specs.declared.turns.Finished.{Finished}
-use Rattle.gaspi_run.specs.declared.words.Command.{Command}
-use Rattle.gaspi_run.specs.declared.words.Command.TheVariants.{Step, Brief, Check}
 use Rattle.gaspi_run.specs.declared.commands.Answer.{Answer}
-
--- the words of the commands: `step`, `step --brief` and `check`
-abbrev pub command_of : List (List ℕ) → Option Command
-command_of [] = None
-command_of (first ∷ []) =
-    if bytes_eq first (codes "step") then Some Step else (if bytes_eq first (codes "check") then Some Check else None)
-command_of (first ∷ second ∷ []) =
-    if bytes_eq first (codes "step") then (if bytes_eq second (codes "--brief") then Some Brief else None) else None
-command_of (first ∷ second ∷ third ∷ words) = None
 
 abbrev pub refused_text : List ℕ
 refused_text = codes "gaspirun: words refused\n"
@@ -74,16 +65,16 @@ abbrev pub run_text : Bool → World → List Script → List Event → List ℕ
 run_text true w scripts journal = transcripts w scripts journal
 run_text false w scripts journal = journal_text journal
 
--- What `step`, brief or not, does with its input: the schedule has seed 0 and the limit 1,000,000. The text that it writes
--- is the journal, or what the callers were told; its status tells how they ended; and its journal is a legal history in
--- which each caller's calls are a run of its script, and after which every caller has ended and all that was posted has
--- arrived, broken queues aside.
-pub record IsStepped (brief : Bool) (input : List ℕ) (journal : List Event) (status : ℕ) (text : List ℕ) : Type 0 where
+-- What `step` does with its input: the schedule has the seed and the limit of the words. The text that it writes is the
+-- journal, or with `--brief` what the callers were told; its status tells how they ended; and its journal is a legal
+-- history in which each caller's calls are a run of its script, and after which every caller has ended and all that was
+-- posted has arrived, broken queues aside.
+pub record IsStepped (seed limit : ℕ) (brief : Bool) (input : List ℕ) (journal : List Event) (status : ℕ) (text : List ℕ) : Type 0 where
   pub world : World
   pub scripts : List Script
   pub finished : List Finished
   pub read : world_text input ≡ Ok (record { world = Some world; scripts = scripts })
-  pub scheduled : IsScheduled world scripts 0 1000000 journal finished
+  pub scheduled : IsScheduled world scripts seed limit journal finished
   pub legal : is_legal world journal ≡ true
   pub settled : HasSettled world journal
   pub ended : HaveEnded world scripts journal finished
@@ -164,16 +155,19 @@ pub record IsChecked (input : List ℕ) (journal : List Event) (status : ℕ) (t
   pub read : checked_world input ≡ Ok (record { world = Some world; scripts = scripts })
   pub result : IsCheckedIn world input (journal_place input) journal status text
 
+-- a call that blocks has one look or more
+abbrev pub HasLimit : Command → Type 0
+HasLimit (Step seed limit brief) = 1 ≤ limit
+HasLimit Check = Unit {0}
+
 -- What a command tells of an input without a fault, and what it takes the world from.
 
 abbrev pub IsTold : Command → List ℕ → List Event → ℕ → List ℕ → Type 0
-IsTold Step input journal status text = IsStepped false input journal status text
-IsTold Brief input journal status text = IsStepped true input journal status text
+IsTold (Step seed limit brief) input journal status text = IsStepped seed limit brief input journal status text
 IsTold Check input journal status text = IsChecked input journal status text
 
 abbrev pub world_read : Command → List ℕ → Result Said TextFault
-world_read Step input = world_text input
-world_read Brief input = world_text input
+world_read (Step seed limit brief) input = world_text input
 world_read Check input = checked_world input
 
 -- An input stands here as what its source had left before and after, and an output as what its sink held, where they
@@ -220,18 +214,20 @@ pub record IsFaulty (command : Command) (before after held held' : Option (List 
   pub empty : answer.journal ≡ []
 
 -- the input could not be read: status 5; nothing was written
-pub record CouldNotRead (faults faults' : ℕ) (held held' : Option (List ℕ)) (answer : Answer) : Type 0 where
+pub record CouldNotRead (held held' : Option (List ℕ)) (faults faults' sink_faults sink_faults' : ℕ) (answer : Answer) : Type 0 where
   pub cause : HasCause faults faults'
+  pub still : sink_faults' ≡ sink_faults
   pub kept : held' ≡ held
   pub status : answer.status ≡ 5
   pub empty : answer.journal ≡ []
 
 -- the text of the input or of a fault could not be written whole: status 6; what was written is a front part of it
-pub record CouldNotWrite (command : Command) (before after held held' : Option (List ℕ)) (faults faults' : ℕ) (answer : Answer) : Type 0 where
+pub record CouldNotWrite (command : Command) (before after held held' : Option (List ℕ)) (faults faults' sink_faults sink_faults' : ℕ) (answer : Answer) : Type 0 where
   pub text : List ℕ
   pub of : ((would_be : ℕ) × TellsInput command before after answer.journal would_be text) ⊎ (TellsFault command before after text × (answer.journal ≡ []))
   pub front : AddsFront text held held'
-  pub cause : HasCause faults faults'
+  pub cause : HasCause sink_faults sink_faults'
+  pub still : faults' ≡ faults
   pub status : answer.status ≡ 6
 
 -- want of memory, and nothing else: status 7; nothing was written
@@ -245,12 +241,13 @@ abbrev pub Answers : Command → Option (List ℕ) → Option (List ℕ) → ℕ
 Answers command before after faults faults' held held' sink_faults sink_faults' answer =
     HasTold command before after held held' faults faults' sink_faults sink_faults' answer
     ⊎ (IsFaulty command before after held held' faults faults' sink_faults sink_faults' answer
-    ⊎ (CouldNotRead faults faults' held held' answer
-    ⊎ (CouldNotWrite command before after held held' sink_faults sink_faults' answer
+    ⊎ (CouldNotRead held held' faults faults' sink_faults sink_faults' answer
+    ⊎ (CouldNotWrite command before after held held' faults faults' sink_faults sink_faults' answer
     ⊎ LacksMemory held held' faults faults' sink_faults sink_faults' answer)))
 
--- the answer to words that are refused: status 1, or 6 where that could not be written
+-- the answer to words that are refused: status 1, or 6 where that could not be written, or 7 where memory is wanting
 pub record Refuses (held held' : Option (List ℕ)) (faults faults' : ℕ) (answer : Answer) : Type 0 where
   pub says : ((answer.status ≡ 1) × (held' ≡ with_more held refused_text) × (faults' ≡ faults))
-      ⊎ ((answer.status ≡ 6) × AddsFront refused_text held held' × HasCause faults faults')
+      ⊎ (((answer.status ≡ 6) × AddsFront refused_text held held' × HasCause faults faults')
+      ⊎ ((answer.status ≡ 7) × (held' ≡ held) × (faults' ≡ faults)))
   pub empty : answer.journal ≡ []

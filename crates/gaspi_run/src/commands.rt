@@ -3,12 +3,13 @@
 ghost use Rattle.std.specs.Prelude.{◌≡◌, ◌⊎◌, [], map, None, Some, IfOk};
 ghost use Rattle.gaspi_io.specs.Faults.{HasCause};
 ghost use Rattle.gaspi_io.specs.Sink.{with_more, AddsFront};
-ghost use Rattle.gaspi_run.specs.Command.{command_of, fault_text, Refuses, Answers};
-ghost use Rattle.gaspi_run.specs.declared.words.Command.{Command};
+ghost use Rattle.command_line.specs.Words.{command_of};
+ghost use Rattle.command_line.specs.declared.words.Command.{Command};
+ghost use Rattle.gaspi_run.specs.Command.{fault_text, HasLimit, Refuses, Answers};
 
 use crate::telling::tell;
-use crate::words::Command;
 use call_journal::Journal;
+use command_line::{Command, read_words};
 use gaspi_io::{Failed, ReadStop, Sink, Source, read_all, write_all};
 use gaspi_texts::write_number;
 use gaspi_types::{Bytes, NoMemory, Rows};
@@ -21,7 +22,7 @@ use std::thread::Threads;
 ///
 /// | Status | Where |
 /// |---|---|
-/// | 0 | every caller ended; of `check`: the journal is legal |
+/// | 0 | every run came past its last line; of `check`: the journal is legal |
 /// | 1 | the words are refused |
 /// | 2 | the world text has a fault |
 /// | 3 | a caller has failed or is stuck |
@@ -95,6 +96,7 @@ pub fn run_command<S: Source, K: Sink>(
     source: &mut S,
     sink: &mut K,
 ) -> Answer
+    requires { HasLimit command }
     ensures { Answers command (S.left source.old) (S.left source.new) (S.faults source.old) (S.faults source.new)
         (K.held sink.old) (K.held sink.new) (K.faults sink.old) (K.faults sink.new) result }
 {
@@ -131,11 +133,14 @@ pub fn command<S: Source, K: Sink>(
         → Answers command (S.left source.old) (S.left source.new) (S.faults source.old) (S.faults source.new)
         (K.held sink.old) (K.held sink.new) (K.faults sink.old) (K.faults sink.new) result }
 {
-    if let Some(command) = Command::of(words) {
-        return run_command(alloc, command, source, sink);
+    match read_words(alloc, words) {
+        Ok(Some(command)) => run_command(alloc, command, source, sink),
+        Ok(None) => {
+            let status = status_of(sink, b"gaspirun: words refused\n", 1);
+            bare(alloc, status)
+        }
+        Err(NoMemory) => bare(alloc, 7),
     }
-    let status = status_of(sink, b"gaspirun: words refused\n", 1);
-    bare(alloc, status)
 }
 
 /// The program: does what the words after its name ask for with its input, and writes its output. No command of today

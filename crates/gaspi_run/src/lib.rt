@@ -8,10 +8,8 @@ mod scheduling;
 mod telling;
 mod transcripts;
 mod turns;
-mod words;
 
 pub use commands::{Answer, command, gaspirun, run_command};
 pub use scheduling::{Ran, schedule};
 pub use transcripts::write_transcripts;
 pub use turns::Finished;
-pub use words::Command;

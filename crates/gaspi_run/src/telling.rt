@@ -4,13 +4,13 @@ ghost use Rattle.std.specs.Prelude.{◌≡◌, ◌<◌, ◌≤◌, ◌+◌, ◌^
 ghost use Rattle.rank_script.specs.WorldText.{world_text};
 ghost use Rattle.rank_script.specs.declared.scripts.ScriptFault.TheVariants as script_faults;
 ghost use Rattle.gaspi_texts.specs.Lines.{fed_lines};
-ghost use Rattle.gaspi_run.specs.Command.{is_any_wrong, is_any_limit, run_status, run_text, IsStepped, IsChecked, IsTold, IsRead, IsNoJournal, HasVerdict, checked_world, world_read, why_word, no_journal_text, verdict_text, verdict_status};
+ghost use Rattle.gaspi_run.specs.Command.{is_any_wrong, is_any_limit, run_status, run_text, HasLimit, IsStepped, IsChecked, IsTold, IsRead, IsNoJournal, HasVerdict, checked_world, world_read, why_word, no_journal_text, verdict_text, verdict_status};
 
 use crate::scheduling::schedule;
 use crate::transcripts::write_transcripts;
 use crate::turns::Finished;
-use crate::words::Command;
 use call_journal::{Journal, JournalFault, Verdict, check, read, write};
+use command_line::Command;
 use gaspi_model::Why;
 use gaspi_texts::write_number;
 use gaspi_types::{Bytes, NoMemory, Rows, Shape};
@@ -27,12 +27,6 @@ pub struct Told {
 
 /// The most bytes that an input may have.
 const MOST_BYTES: usize = 268_435_456;
-
-/// The looks of a call that blocks.
-const LIMIT: u32 = 1_000_000;
-
-/// The generator's first number.
-const SEED: u32 = 0;
 
 /// Whether a caller has failed or is stuck.
 fn is_any_wrong(finished: &[Finished]) -> bool
@@ -87,14 +81,21 @@ fn run_text(
     Ok(text)
 }
 
-/// Runs a world text.
-fn tell_run(alloc: Global, brief: bool, input: &[u8]) -> Result<Told, ScriptFault>
-    ensures told { IfOk result (λ told. IsStepped brief input.now told.journal told.status told.text) }
+/// Runs a world text on one thread, from a seed and with that many looks for a call that blocks.
+fn tell_run(
+    alloc: Global,
+    seed: u32,
+    limit: u32,
+    brief: bool,
+    input: &[u8],
+) -> Result<Told, ScriptFault>
+    requires { 1 ≤ limit }
+    ensures told { IfOk result (λ told. IsStepped seed limit brief input.now told.journal told.status told.text) }
     ensures fault { (number line : ℕ) → IsErrOf result (script_faults.At number line)
         → world_text input.now ≡ Err (record { number = number; line = line }) }
 {
     let (shape, scripts) = read_world(alloc, input)?;
-    let ran = schedule(alloc, &shape, &scripts, SEED, LIMIT)?;
+    let ran = schedule(alloc, &shape, &scripts, seed, limit)?;
     let text = run_text(alloc, brief, &shape, &scripts, &ran.journal)?;
     let status = run_status(ran.outcomes.as_slice());
     Ok(Told {
@@ -228,13 +229,13 @@ fn tell_check(alloc: Global, input: &[u8]) -> Result<Told, ScriptFault>
 
 /// What a command tells of an input, or the first fault of the world text in it.
 pub fn tell(alloc: Global, command: Command, input: &[u8]) -> Result<Told, ScriptFault>
+    requires { HasLimit command }
     ensures told { IfOk result (λ told. IsTold command input.now told.journal told.status told.text) }
     ensures fault { (number line : ℕ) → IsErrOf result (script_faults.At number line)
         → world_read command input.now ≡ Err (record { number = number; line = line }) }
 {
     match command {
-        Command::Step => tell_run(alloc, false, input),
-        Command::Brief => tell_run(alloc, true, input),
+        Command::Step { seed, limit, brief } => tell_run(alloc, seed, limit, brief, input),
         Command::Check => tell_check(alloc, input),
     }
 }

@@ -1,0 +1,5 @@
+pub mod Reading
+pub mod TakenNumbers
+pub mod Ranges
+pub mod FirstWords
+pub mod GivenNumbers

@@ -1,0 +1,410 @@
+-- An option that clap has taken holds a number in its range, whatever the words.
+use Rattle.std.proofs.Common.{◌≡◌, ◌∙◌, ◌<◌, ◌≤◌, ◌^◌, ◌&&◌, ◌||◌, ◌++◌, ℕ, Bool, true, false, zero, suc, refl, sym, ap, subst, arith, List, [], ◌∷◌, length, Option, Some, None, true≢false, codes, append-nil}
+use Rattle.std.specs.Prelude.{⊤, pos, not, find, fold, is_some, option_and_then, slice_get, if◌then◌else◌}
+use Rattle.std.specs.Str.{bytes_eq, chars}
+use Rattle.std.specs.Str.Parse.{ParsesUnsigned}
+use Rattle.std.proofs.lemmas.Slice.Eq.{bytes_eq-Decides}
+use Rattle.std.specs.List.{AllByRecursion}
+use Rattle.std.specs.Option.{option_map_or}
+use Rattle.clap.specs.Lexer.{long_of, short_of, without_minus}
+use Rattle.clap.specs.ValueTests.{accepts}
+use Rattle.clap.specs.Values.{refused_kind}
+use Rattle.clap.specs.declared.error.kind.ErrorKind.{ErrorKind}
+use Rattle.clap.specs.declared.error.kind.ErrorKind.TheVariants.{ArgumentConflict, TooManyValues}
+use Rattle.clap.specs.Kinds.{Kinds, or_else, range_kinds, value_kinds, values_kinds}
+use Rattle.clap.specs.Faults.{check_fault, defaults_fault, flag_word_fault, level_fault, long_fault, option_fault, other_fault, react_fault, repeat_fault, set_fault, settle_fault, step_fault, turn_fault, use_fault, values_fault, walk_fault, word_fault}
+use Rattle.clap.specs.Walk.{Held, Outcome, Row, Rule, Step, Text, Waiting, Walk, after_flag, after_step, arg_by_id, arg_by_long, at_row, bundle_met, bundle_step, default_rows, done, finished, flag_met, has_row, idle, long_met, has_long, long_or_other, more_values, next, nothing_held, option, option_met, option_word, plain, plain_word, positional, reading_by, refused, row_text, rows_after, settled, settled_rows, short_or_plain, subcommand, subcommand_met, subcommand_or_other, takes_values, trailing, used, used_by_id, value, values_or_missing, waits, walk, walk_from, walked, walked_from, with_default, with_values, without, word_met}
+use Rattle.clap.specs.Simple.{Shape, built, filled, new_shape, with_index}
+use Rattle.clap.specs.declared.builder.value_parser.ValueParser.{ValueParser}
+use Rattle.clap.specs.declared.builder.value_parser.ValueParser.TheVariants.{Signed}
+use Rattle.clap.specs.declared.parser.matches.ValueSource.{ValueSource}
+use Rattle.clap.specs.declared.parser.matches.ValueSource.TheVariants.{CommandLine, DefaultValue}
+use Rattle.clap.proofs.ValueTestLemmas.{accepts-Accepts}
+use Rattle.clap.proofs.CallerReads.{signed_reads}
+use Rattle.command_line.specs.Words.{brief_rule, limit_rule, number_at, number_of, seed_rule, the_app}
+use Rattle.command_line.proofs.Reading.{reads_own}
+
+-- ---- the subcommand as it is built
+
+abbrev first_shape : List Shape → Shape
+first_shape [] = new_shape []
+first_shape (s ∷ rest) = s
+
+abbrev pub step_shape : Shape
+step_shape = first_shape (built the_app).subs
+
+abbrev second_shape : List Shape → Shape
+second_shape [] = new_shape []
+second_shape (s ∷ rest) = first_shape rest
+
+abbrev pub check_shape : Shape
+check_shape = second_shape (built the_app).subs
+
+abbrev rules : List Rule
+rules = step_shape.rules
+
+-- ---- lists of kinds
+
+abbrev is_none : Kinds → Bool
+is_none [] = true
+is_none (x ∷ xs) = false
+
+pub cons≢nil : {k : ErrorKind} {ks : Kinds} → k ∷ ks ≡ [] → ⊥
+cons≢nil e = true≢false (sym (ap is_none e))
+
+pub none_first : (a b : Kinds) → or_else a b ≡ [] → a ≡ []
+none_first [] b e = refl
+none_first (k ∷ ks) b e = e
+
+pub none_second : (a b : Kinds) → or_else a b ≡ [] → b ≡ []
+none_second [] b e = e
+none_second (k ∷ ks) b e = absurd (cons≢nil e)
+
+-- ---- rows
+
+either_false : (a b : Bool) → (a || b) ≡ false → (a ≡ false) × (b ≡ false)
+either_false true b e = absurd (true≢false e)
+either_false false b e = (refl, e)
+
+-- where no row has the id, the change comes at the end
+at_end : (id : Text) (change : Row → List Row) (missing rows : List Row) → has_row id rows ≡ false → at_row id change missing rows ≡ rows ++ missing
+at_end id change missing [] e = refl
+at_end id change missing (r ∷ rs) e =
+    let parts = either_false (bytes_eq r.id id) _ e in
+    rw parts.0 (ap (λ (xs : List Row). r ∷ xs) (at_end id change missing rs parts.1))
+
+module _ (P : Row → Type 0) where
+  all_more : (rows : List Row) (r : Row) → AllByRecursion P rows → P r → AllByRecursion P (rows ++ r ∷ [])
+  all_more [] r all one = (one, tt)
+  all_more (x ∷ xs) r all one = (all.0, all_more xs r all.1 one)
+
+abbrev new_row : Rule → ValueSource → List Text → Row
+new_row b source values = record {
+  id = b.id;
+  values = values;
+  count = None;
+  source = Some source;
+  reading = reading_by b;
+}
+
+given_at_end : (b : Rule) (source : ValueSource) (values : List Text) (rows : List Row) → has_row b.id rows ≡ false
+    → with_values b.id (reading_by b) source values rows ≡ rows ++ new_row b source values ∷ []
+given_at_end b source values rows e = at_end b.id (more_values source values) (new_row b source values ∷ []) rows e
+
+no_row : (id : Text) (rows : List Row) → repeat_fault false id rows ≡ [] → has_row id rows ≡ false
+no_row id rows e = go (has_row id rows) refl e
+  where
+    go : (t : Bool) → has_row id rows ≡ t → (if t && true then ArgumentConflict ∷ [] else []) ≡ []
+        → has_row id rows ≡ false
+    go false is h = is
+    go true is h = absurd (cons≢nil h)
+
+-- ---- one walk, and what holds of each row of it
+
+module _ (P : Row → Type 0) where
+  abbrev AllGood : List Row → Type 0
+  AllGood rows = AllByRecursion P rows
+
+  -- a use of the argument that clap takes keeps it
+  abbrev Keeps : Rule → Type 0
+  Keeps b = (values : List Text) (rows : List Row) → use_fault false b values rows ≡ [] → AllGood rows → AllGood (used b values rows)
+
+  abbrev FoundKeeps : Option Rule → Type 0
+  FoundKeeps None = ⊤
+  FoundKeeps (Some b) = Keeps b
+
+  -- a value set where no row has the id
+  set_keeps : (b : Rule) (values : List Text) (rows : List Row) → set_fault false b values rows ≡ []
+      → (values_fault b values ≡ [] → P (new_row b CommandLine values)) → AllGood rows
+      → AllGood (with_values b.id (reading_by b) CommandLine values (without b.id rows))
+  set_keeps b values rows e one all =
+      let free = no_row b.id rows (none_first _ (values_fault b values) e) in
+      let same : without b.id rows ≡ rows = at_end b.id (λ _. []) [] rows free ∙ append-nil rows in
+      subst AllGood (sym (ap (with_values b.id (reading_by b) CommandLine values) same ∙ given_at_end b CommandLine values rows free))
+      (all_more P rows (new_row b CommandLine values) all (one (none_second _ (values_fault b values) e)))
+
+  module _ (keeps : (p : Rule → Bool) → FoundKeeps (find p rules)) where
+    by_id : (o : Option Rule) → FoundKeeps o → (values : List Text) (rows : List Row)
+        → option_map_or (λ a. use_fault false a values rows) o [] ≡ [] → AllGood rows → AllGood (used_by_id o values rows)
+    by_id None k values rows e all = all
+    by_id (Some b) k values rows e all = k values rows e all
+
+    pending_keeps : (o : Option (Text × List Text)) (rows : List Row)
+        → option_map_or (λ p. option_map_or (λ a. use_fault false a p.1 rows) (arg_by_id rules p.0) []) o [] ≡ []
+        → AllGood rows → AllGood (settled_rows rules o rows)
+    pending_keeps None rows e all = all
+    pending_keeps (Some p) rows e all = by_id (arg_by_id rules p.0) (keeps (λ a. bytes_eq a.id p.0)) p.1 rows e all
+
+    settled_keeps : (h : Held) → settle_fault rules false h ≡ [] → AllGood h.rows → AllGood (settled rules h).rows
+    settled_keeps h e all = pending_keeps h.pending h.rows e all
+
+    reacted_keeps : (b : Rule) → Keeps b → (values : List Text) (h : Held) → react_fault rules false b values h ≡ [] → AllGood h.rows
+        → AllGood (used b values (settled rules h).rows)
+    reacted_keeps b k values h e all =
+        k values (settled rules h).rows (none_second (settle_fault rules false h) _ e)
+        (settled_keeps h (none_first (settle_fault rules false h) (use_fault false b values (settled rules h).rows) e) all)
+
+    long_keeps : (o : Option Rule) → FoundKeeps o → (v : Option Text) (h : Held) → long_fault rules false o v h ≡ [] → AllGood h.rows
+        → AllGood (long_met rules o v h).0.rows
+    long_keeps None k v h e all = all
+    long_keeps (Some b) k v h e all = go (takes_values b) v e
+      where
+        go : (t : Bool) (w : Option Text)
+            → (if t then option_fault rules false b w h else (if is_some w then TooManyValues ∷ [] else react_fault rules false b [] h)) ≡ []
+            → AllGood (if t then option_met rules b w h else flag_met rules b w h).0.rows
+        go true (Some x) f = reacted_keeps b k (x ∷ []) h f all
+        go true None f = settled_keeps h f all
+        go false (Some x) f = all
+        go false None f = reacted_keeps b k [] h f all
+
+    option_keeps : (o : Option Rule) (id word : Text) (h : Held) → AllGood h.rows → AllGood (option_word o id word h).0.rows
+    option_keeps None id word h all = all
+    option_keeps (Some a) id word h all = all
+
+    plain_keeps : (waiting : Waiting) (word : Text) (h : Held) → AllGood h.rows → AllGood (plain_word rules waiting word h).0.rows
+    plain_keeps idle word h all = all
+    plain_keeps (option id) word h all = option_keeps (arg_by_id rules id) id word h all
+    plain_keeps positional word h all = all
+
+    flag_keeps : (waiting : Waiting) (word : Text) (h : Held) (outcome : Outcome) → AllGood h.rows → AllGood (after_flag rules waiting word h outcome).0.rows
+    flag_keeps waiting word h done all = all
+    flag_keeps waiting word h (waits id) all = all
+    flag_keeps waiting word h plain all = plain_keeps waiting word h all
+    flag_keeps waiting word h refused all = plain_keeps waiting word h all
+
+    bundle_keeps : (k : ℕ) (flags : Text) (skip : ℕ) (outcome : Outcome) (h : Held) → AllGood h.rows → AllGood (bundle_met rules k flags skip outcome h).0.rows
+    unfolding bundle_met
+    bundle_keeps zero flags skip outcome h all = all
+    bundle_keeps (suc k) flags skip outcome h all =
+        go (slice_get (chars flags) 0) skip (λ rest n. bundle_keeps k rest n outcome h all)
+      where
+        go : (c : Option ℕ) (n : ℕ) → ((rest : Text) (m : ℕ) → AllGood (bundle_met rules k rest m outcome h).0.rows)
+            → AllGood (bundle_step rules c flags n outcome h (bundle_met rules k)).0.rows
+        go None n more = all
+        go (Some x) zero more = all
+        go (Some x) (suc n) more = more _ n
+
+    short_keeps : (waiting : Waiting) (word : Text) (o : Option Text) (h : Held) → AllGood h.rows → AllGood (short_or_plain rules waiting word o h).0.rows
+    short_keeps waiting word None h all = plain_keeps waiting word h all
+    short_keeps waiting word (Some flags) h all =
+        flag_keeps waiting word _ _ (bundle_keeps (length flags) flags h.skip plain (record h { skip = 0 }) all)
+
+    dashed_keeps : (waiting : Waiting) (word : Text) (o : Option (Text × Option Text)) (h : Held) → flag_word_fault rules false o word h ≡ [] → AllGood h.rows
+        → AllGood (long_or_other rules waiting word o h).0.rows
+    dashed_keeps waiting word None h e all = short_keeps waiting word (short_of word) h all
+    dashed_keeps waiting word (Some p) h e all =
+        flag_keeps waiting word _ _ (long_keeps (arg_by_long rules p.0) (keeps (λ a. not (is_some a.index) && has_long a p.0)) p.1 h e all)
+
+    named_keeps : (o : Option Text) (waiting : Waiting) (position : ℕ) (word : Text) (h : Held) → o ≡ None → other_fault step_shape o word h ≡ [] → AllGood h.rows
+        → AllGood (subcommand_or_other rules o waiting position word h).0.rows
+    named_keeps (Some name) waiting position word h none e all = all
+    named_keeps None waiting position word h none e all = go (bytes_eq word (45 ∷ 45 ∷ [])) e
+      where
+        go : (b : Bool) → (if b then [] else flag_word_fault rules false (long_of word) word h) ≡ []
+            → AllGood (if b then (h, trailing position) else long_or_other rules waiting word (long_of word) h).0.rows
+        go true f = all
+        go false f = dashed_keeps waiting word (long_of word) h f all
+
+    no_subcommand : (waiting : Waiting) (word : Text) → subcommand_met [] waiting word ≡ None
+    no_subcommand idle word = refl
+    no_subcommand (option id) word = refl
+    no_subcommand positional word = refl
+
+    word_keeps : (is_trailing : Bool) (waiting : Waiting) (position : ℕ) (word : Text) (h : Held) → word_fault step_shape [] is_trailing waiting word h ≡ []
+        → AllGood h.rows → AllGood (word_met rules [] is_trailing waiting position word h).0.rows
+    word_keeps true waiting position word h e all = all
+    word_keeps false waiting position word h e all =
+        named_keeps (subcommand_met [] waiting word) waiting position word h (no_subcommand waiting word) e all
+
+    step_keeps : (word : Text) (w : Walk) (h : Held) (step : Step) → AllGood h.rows → AllGood (after_step rules word w h step).held.rows
+    step_keeps word w h (next waiting) all = all
+    step_keeps word w h (trailing position) all = all
+    step_keeps word w h (subcommand name) all = all
+    step_keeps word w h value all = all
+
+    turn_keeps : (w : Walk) (word : Text) → turn_fault step_shape [] w word ≡ [] → AllGood w.held.rows → AllGood (walked rules [] w word).held.rows
+    unfolding walked
+    turn_keeps w word e all = go w.stopped e
+      where
+        met : Held × Step
+        met = word_met rules [] w.is_trailing w.waiting w.position word w.held
+
+        go : (o : Option (Text × List Text))
+            → (if is_some o then [] else or_else (word_fault step_shape [] w.is_trailing w.waiting word w.held) (step_fault step_shape w.position met.0 met.1)) ≡ []
+            → AllGood (walked_from rules [] o w word).held.rows
+        go (Some p) f = all
+        go None f =
+            step_keeps word w met.0 met.1
+            (word_keeps w.is_trailing w.waiting w.position word w.held
+            (none_first (word_fault step_shape [] w.is_trailing w.waiting word w.held) (step_fault step_shape w.position met.0 met.1) f) all)
+
+    walk_keeps : (words : List Text) (w : Walk) → walk_fault step_shape [] w words ≡ [] → AllGood w.held.rows → AllGood (fold (walked rules []) w words).held.rows
+    unfolding walk_fault
+    walk_keeps [] w e all = all
+    walk_keeps (word ∷ rest) w e all =
+        walk_keeps rest (walked rules [] w word)
+        (none_second (turn_fault step_shape [] w word) (walk_fault step_shape [] (walked rules [] w word) rest) e)
+        (turn_keeps w word (none_first (turn_fault step_shape [] w word) (walk_fault step_shape [] (walked rules [] w word) rest) e) all)
+
+-- ---- the rows at the end have the option
+
+has_end : (id : Text) (rows : List Row) (r : Row) → bytes_eq r.id id ≡ true → has_row id (rows ++ r ∷ []) ≡ true
+has_end id [] r e = rw e refl
+has_end id (x ∷ xs) r e = go (bytes_eq x.id id) (has_end id xs r e)
+  where
+    go : (b : Bool) → has_row id (xs ++ r ∷ []) ≡ true → (b || has_row id (xs ++ r ∷ [])) ≡ true
+    go true f = refl
+    go false f = f
+
+has_more : (id : Text) (rows : List Row) (r : Row) → has_row id rows ≡ true → has_row id (rows ++ r ∷ []) ≡ true
+has_more id [] r e = absurd (true≢false (sym e))
+has_more id (x ∷ xs) r e = go (bytes_eq x.id id) e (has_more id xs r)
+  where
+    go : (b : Bool) → (b || has_row id xs) ≡ true → (has_row id xs ≡ true → has_row id (xs ++ r ∷ []) ≡ true)
+        → (b || has_row id (xs ++ r ∷ [])) ≡ true
+    go true f more = refl
+    go false f more = more f
+
+record Defaulted (P : Row → Type 0) (rows : List Row) (b : Rule) (now : List Row) : Type 0 where
+  good : AllByRecursion P now
+  has : has_row b.id now ≡ true
+  kept : (id : Text) → has_row id rows ≡ true → has_row id now ≡ true
+
+defaulted : (P : Row → Type 0) (rows : List Row) (b : Rule) (v : Text) (vs : List Text) → b.defaults ≡ v ∷ vs → P (new_row b DefaultValue (v ∷ vs))
+    → AllByRecursion P rows → Defaulted P rows b (with_default rows b)
+defaulted P rows b v vs is one all =
+    subst (λ (ds : List Text). Defaulted P rows b (if has_row b.id rows then rows else default_rows b.id (reading_by b) ds rows)) (sym is)
+    (go (has_row b.id rows) refl)
+  where
+    go : (t : Bool) → has_row b.id rows ≡ t → Defaulted P rows b (if t then rows else with_values b.id (reading_by b) DefaultValue (v ∷ vs) rows)
+    go true e = record { good = all; has = e; kept = λ id f. f }
+    go false e =
+        subst (Defaulted P rows b) (sym (given_at_end b DefaultValue (v ∷ vs) rows e))
+        (record {
+          good = all_more P rows (new_row b DefaultValue (v ∷ vs)) all one;
+          has = has_end b.id rows (new_row b DefaultValue (v ∷ vs)) ((bytes_eq-Decides b.id b.id).1 refl);
+          kept = λ id f. has_more id rows (new_row b DefaultValue (v ∷ vs)) f;
+        })
+
+-- ---- an option with a number
+
+-- a row of the option holds a number in the range
+abbrev Holds : Text → ℕ → ℕ → Row → Type 0
+Holds id low high r = bytes_eq r.id id ≡ true → (n : ℕ) × (option_and_then number_of (row_text r) ≡ Some n) × (low ≤ n) × (n ≤ high)
+
+accepted : (low high : ℕ) (t : Text) → high < 2 ^ 32 → accepts false (Signed (pos low) (pos high)) t ≡ true
+    → (n : ℕ) × (number_of (without_minus t) ≡ Some n) × (low ≤ n) × (n ≤ high)
+accepted low high t small e =
+    signed_reads ⊤ (λ u r. ParsesUnsigned 32 10 u r) 32 low high t (number_of (without_minus t)) (reads_own (without_minus t)) (λ u x g. g) small
+    (accepts-Accepts false (Signed (pos low) (pos high)) t e)
+
+first_taken : (p : ValueParser) (v : Text) (vs : List Text) → values_kinds false p (v ∷ vs) ≡ [] → accepts false p v ≡ true
+first_taken p v vs e = go (accepts false p v) refl (none_first (value_kinds false p v) (values_kinds false p vs) e)
+  where
+    go : (b : Bool) → accepts false p v ≡ b → (if b then [] else refused_kind p ∷ []) ≡ [] → accepts false p v ≡ true
+    go true is f = is
+    go false is f = absurd (cons≢nil f)
+
+found : (id : Text) (low high : ℕ) (rows : List Row) → has_row id rows ≡ true → AllByRecursion (Holds id low high) rows
+    → (n : ℕ) × (number_at id rows ≡ Some n) × (low ≤ n) × (n ≤ high)
+found id low high [] e all = absurd (true≢false (sym e))
+found id low high (r ∷ rs) e all = go (bytes_eq r.id id) refl e (λ f. found id low high rs f all.1)
+  where
+    go : (b : Bool) → bytes_eq r.id id ≡ b → (b || has_row id rs) ≡ true
+        → (has_row id rs ≡ true → (n : ℕ) × (number_at id rs ≡ Some n) × (low ≤ n) × (n ≤ high))
+        → (n : ℕ) × (option_and_then number_of (option_and_then row_text (if b then Some r else find (λ x. bytes_eq x.id id) rs)) ≡ Some n) × (low ≤ n) × (n ≤ high)
+    go true is f more = all.0 is
+    go false is f more = more f
+
+-- ---- the arguments of `step`
+
+abbrev seed_built : Rule
+seed_built = with_index 1 (filled seed_rule)
+
+abbrev limit_built : Rule
+limit_built = with_index 1 (filled limit_rule)
+
+abbrev brief_built : Rule
+brief_built = with_index 1 (filled brief_rule)
+
+-- a use of another argument leaves the option's row
+other_keeps : (id : Text) (low high : ℕ) (b : Rule) (values : List Text) (rows : List Row) → bytes_eq b.id id ≡ false → set_fault false b values rows ≡ []
+    → AllByRecursion (Holds id low high) rows
+    → AllByRecursion (Holds id low high) (with_values b.id (reading_by b) CommandLine values (without b.id rows))
+other_keeps id low high b values rows other e all =
+    set_keeps (Holds id low high) b values rows e (λ f same. absurd (true≢false (sym same ∙ other))) all
+
+abbrev IsSeed : Row → Type 0
+IsSeed = Holds (codes "seed") 0 4294967295
+
+abbrev IsLimit : Row → Type 0
+IsLimit = Holds (codes "limit") 1 100000000
+
+seed_keeps_seed : Keeps IsSeed seed_built
+seed_keeps_seed [] rows e all = absurd (cons≢nil e)
+seed_keeps_seed (v ∷ vs) rows e all =
+    set_keeps IsSeed seed_built (v ∷ vs) rows (none_second (range_kinds 1 1 (length (v ∷ vs))) (set_fault false seed_built (v ∷ vs) rows) e)
+    (λ f same. accepted 0 4294967295 v (omega arith) (first_taken (Signed (pos 0) (pos 4294967295)) v vs f)) all
+
+limit_keeps_limit : Keeps IsLimit limit_built
+limit_keeps_limit [] rows e all = absurd (cons≢nil e)
+limit_keeps_limit (v ∷ vs) rows e all =
+    set_keeps IsLimit limit_built (v ∷ vs) rows (none_second (range_kinds 1 1 (length (v ∷ vs))) (set_fault false limit_built (v ∷ vs) rows) e)
+    (λ f same. accepted 1 100000000 v (omega arith) (first_taken (Signed (pos 1) (pos 100000000)) v vs f)) all
+
+module _ (id : Text) (low high : ℕ) where
+  seed_keeps_other : bytes_eq (codes "seed") id ≡ false → Keeps (Holds id low high) seed_built
+  seed_keeps_other other values rows e all =
+      other_keeps id low high seed_built (values_or_missing seed_built values) rows other
+      (none_second (range_kinds 1 1 (length values)) (set_fault false seed_built (values_or_missing seed_built values) rows) e) all
+
+  limit_keeps_other : bytes_eq (codes "limit") id ≡ false → Keeps (Holds id low high) limit_built
+  limit_keeps_other other values rows e all =
+      other_keeps id low high limit_built (values_or_missing limit_built values) rows other
+      (none_second (range_kinds 1 1 (length values)) (set_fault false limit_built (values_or_missing limit_built values) rows) e) all
+
+  brief_keeps_other : bytes_eq (codes "brief") id ≡ false → Keeps (Holds id low high) brief_built
+  brief_keeps_other other values rows e all =
+      other_keeps id low high brief_built (values_or_missing brief_built values) rows other
+      (none_second (range_kinds 0 0 (length values)) (set_fault false brief_built (values_or_missing brief_built values) rows) e) all
+
+all_keep : (Q : Row → Type 0) → Keeps Q seed_built → Keeps Q limit_built → Keeps Q brief_built → (p : Rule → Bool) → FoundKeeps Q (find p rules)
+all_keep Q seed limit brief p = go (p seed_built) (p limit_built) (p brief_built)
+  where
+    go : (x y z : Bool) → FoundKeeps Q (if x then Some seed_built else (if y then Some limit_built else (if z then Some brief_built else None)))
+    go true y z = seed
+    go false true z = limit
+    go false false true = brief
+    go false false false = tt
+
+-- the rows after all the words
+settled_rows_hold : (Q : Row → Type 0) → ((p : Rule → Bool) → FoundKeeps Q (find p rules)) → (words : List Text)
+    → level_fault step_shape [] nothing_held words false [] ≡ [] → AllByRecursion Q (settled rules (walk rules [] nothing_held words).held).rows
+settled_rows_hold Q keeps words e =
+    let end : Held = (walk rules [] nothing_held words).held in
+    let walked_fault : Kinds = walk_fault step_shape [] (walk_from nothing_held) words in
+    let last : Kinds = or_else (defaults_fault (settled rules end).rows rules) (check_fault step_shape (finished rules end) false) in
+    settled_keeps Q keeps end (none_first (settle_fault rules false end) last (none_second walked_fault (or_else (settle_fault rules false end) last) e))
+    (walk_keeps Q keeps words (walk_from nothing_held) (none_first walked_fault (or_else (settle_fault rules false end) last) e) tt)
+
+module _ (words : List Text) (e : level_fault step_shape [] nothing_held words false [] ≡ []) where
+  abbrev settled_list : List Row
+  settled_list = (settled rules (walk rules [] nothing_held words).held).rows
+
+  pub limit_taken : (n : ℕ) × (number_at (codes "limit") (rows_after rules [] words) ≡ Some n) × (1 ≤ n) × (n ≤ 100000000)
+  limit_taken =
+      let keeps = all_keep IsLimit (seed_keeps_other (codes "limit") 1 100000000 refl) limit_keeps_limit (brief_keeps_other (codes "limit") 1 100000000 refl) in
+      let first = defaulted IsLimit settled_list seed_built (codes "0") [] refl (λ same. absurd (true≢false (sym same))) (settled_rows_hold IsLimit keeps words e) in
+      let second = defaulted IsLimit (with_default settled_list seed_built) limit_built (codes "1000000") [] refl (λ same. (1000000, refl, omega arith, omega arith)) first.good in
+      let third = defaulted IsLimit (with_default (with_default settled_list seed_built) limit_built) brief_built (codes "false") [] refl
+      (λ same. absurd (true≢false (sym same))) second.good in
+      found (codes "limit") 1 100000000 (rows_after rules [] words) (third.kept (codes "limit") second.has) third.good
+
+  pub seed_taken : (n : ℕ) × (number_at (codes "seed") (rows_after rules [] words) ≡ Some n) × (0 ≤ n) × (n ≤ 4294967295)
+  seed_taken =
+      let keeps = all_keep IsSeed seed_keeps_seed (limit_keeps_other (codes "seed") 0 4294967295 refl) (brief_keeps_other (codes "seed") 0 4294967295 refl) in
+      let first = defaulted IsSeed settled_list seed_built (codes "0") [] refl (λ same. (0, refl, omega arith, omega arith)) (settled_rows_hold IsSeed keeps words e) in
+      let second = defaulted IsSeed (with_default settled_list seed_built) limit_built (codes "1000000") [] refl (λ same. absurd (true≢false (sym same))) first.good in
+      let third = defaulted IsSeed (with_default (with_default settled_list seed_built) limit_built) brief_built (codes "false") [] refl
+      (λ same. absurd (true≢false (sym same))) second.good in
+      found (codes "seed") 0 4294967295 (rows_after rules [] words) (third.kept (codes "seed") (second.kept (codes "seed") first.has)) third.good

@@ -1,0 +1,97 @@
+-- What the words of the command line ask for, by clap's own reading of the command as data. (own choice)
+use Rattle.std.specs.Prelude.{ℕ, pos, Bool, true, false, List, [], ◌∷◌, Option, Some, None, if◌then◌else◌, ◌&&◌, nat_le, option_map, option_and_then, codes}
+use Rattle.std.specs.Option.{option_map_or}
+use Rattle.std.specs.Str.{bytes_eq}
+use Rattle.std.specs.Str.Parse.{digits_value, without_leading_plus}
+use Rattle.clap.specs.ValueTests.{is_numeral}
+use Rattle.clap.specs.Walk.{is_empty}
+use Rattle.clap.specs.Simple.{on_top}
+use Rattle.clap.specs.Words.{App, Row, Rule, Shape, Text, fault_of, first_of, new_app, new_rule, one_of, subcommand_of, with_rule, with_subcommand}
+use Rattle.clap.specs.declared.builder.action.ArgAction.TheVariants.{Set, SetTrue}
+use Rattle.clap.specs.declared.builder.value_parser.ValueParser.TheVariants.{Signed}
+use Rattle.command_line.specs.declared.words.Command.{Command}
+use Rattle.command_line.specs.declared.words.Command.TheVariants.{Step, Check}
+
+-- ---- the command as data
+
+-- `--seed N`: a number from 0 to 4294967295, and 0 where it is not given
+abbrev pub seed_rule : Rule
+seed_rule = record (new_rule (codes "seed")) {
+  long = Some (codes "seed");
+  action = Some Set;
+  parser = Some (Signed (pos 0) (pos 4294967295));
+  defaults = codes "0" ∷ [];
+}
+
+-- `--limit N`: a number from 1 to 100000000, and 1000000 where it is not given
+abbrev pub limit_rule : Rule
+limit_rule = record (new_rule (codes "limit")) {
+  long = Some (codes "limit");
+  action = Some Set;
+  parser = Some (Signed (pos 1) (pos 100000000));
+  defaults = codes "1000000" ∷ [];
+}
+
+-- `--brief`: a flag
+abbrev pub brief_rule : Rule
+brief_rule = record (new_rule (codes "brief")) {
+  long = Some (codes "brief");
+  action = Some SetTrue;
+}
+
+-- `step [--seed N] [--limit N] [--brief]`
+abbrev pub step_app : App
+step_app = with_rule (with_rule (with_rule (new_app (codes "step")) seed_rule) limit_rule) brief_rule
+
+-- `check`
+abbrev pub check_app : App
+check_app = new_app (codes "check")
+
+-- the settings of the program: the words begin after its name, none of them asks for help or the version, and one names
+-- a subcommand
+abbrev pub with_settings : Shape → Shape
+with_settings shape = record shape {
+  no_binary_name = true;
+  disable_help_flag = true;
+  disable_version_flag = true;
+  disable_help_subcommand = true;
+  subcommand_required = true;
+}
+
+abbrev pub program_app : App
+program_app = on_top with_settings (new_app (codes "gaspirun"))
+
+abbrev pub the_app : App
+the_app = with_subcommand (with_subcommand program_app step_app.top) check_app.top
+
+-- ---- what is read of the matches
+
+-- the number of 32 bits that a text spells
+abbrev pub number_of : Text → Option ℕ
+number_of text =
+    let digits = without_leading_plus text in
+    if is_numeral digits && nat_le (digits_value 10 digits) 4294967295 then Some (digits_value 10 digits) else None
+
+-- the number that an option has
+abbrev pub number_at : Text → List Row → Option ℕ
+number_at id rows = option_and_then number_of (one_of id rows)
+
+-- a flag was given
+abbrev pub flag_at : Text → List Row → Bool
+flag_at id rows = option_map_or (λ text. bytes_eq text (codes "true")) (first_of id rows) false
+
+abbrev pub step_of : List Row → Option Command
+step_of rows = option_and_then (λ seed. option_map (λ limit. Step seed limit (flag_at (codes "brief") rows))
+    (number_at (codes "limit") rows)) (number_at (codes "seed") rows)
+
+-- what the subcommand of a parse and its matches ask for
+abbrev pub words_in : Option (Text × List Row) → Option Command
+words_in None = None
+words_in (Some entered) = if bytes_eq entered.0 (codes "step") then step_of entered.1
+    else (if bytes_eq entered.0 (codes "check") then Some Check else None)
+
+-- ---- the words
+
+-- what the words after the program's name ask for, and none where clap refuses them
+unfoldable pub command_of : List Text → Option Command
+command_of words = if is_empty (fault_of the_app words) then words_in (subcommand_of the_app words) else None

@@ -1,0 +1,92 @@
+//! The command, its subcommands and their arguments.
+
+ghost use Rattle.std.specs.Prelude.{◌≡◌, IfOk, false};
+ghost use Rattle.clap.specs.Words.{app_of, rule_of};
+ghost use Rattle.clap.specs.declared.builder.Command.TheViews.{out-Command as fields_of};
+ghost use Rattle.command_line.specs.Words.{
+  brief_rule,
+  check_app,
+  limit_rule,
+  program_app,
+  seed_rule,
+  step_app,
+  the_app,
+};
+
+use clap::{Arg, ArgAction, Command, value_parser};
+use std::alloc::{AllocError, Global};
+
+/// `--seed N`: where the generator starts.
+fn seed<'a>(alloc: Global) -> Arg<'a>
+    ensures rule { rule_of result ≡ seed_rule }
+    ensures local { result.global ≡ false }
+{
+    Arg::new(alloc, "seed")
+        .long("seed")
+        .action(ArgAction::Set)
+        .value_parser(value_parser!(u32))
+        .default_value("0")
+}
+
+/// `--limit N`: how many looks a call that blocks has.
+fn limit<'a>(alloc: Global) -> Arg<'a>
+    ensures rule { rule_of result ≡ limit_rule }
+    ensures local { result.global ≡ false }
+{
+    Arg::new(alloc, "limit")
+        .long("limit")
+        .action(ArgAction::Set)
+        .value_parser(value_parser!(u32).range(1..=100_000_000))
+        .default_value("1000000")
+}
+
+/// `--brief`: the transcripts in place of the journal.
+fn brief<'a>(alloc: Global) -> Arg<'a>
+    ensures rule { rule_of result ≡ brief_rule }
+    ensures local { result.global ≡ false }
+{
+    Arg::new(alloc, "brief")
+        .long("brief")
+        .action(ArgAction::SetTrue)
+}
+
+/// `step`, with its arguments.
+fn step<'a>(alloc: Global) -> Result<Command<'a>, AllocError>
+    ensures app { IfOk result (λ command. app_of command ≡ step_app) }
+    ensures local { IfOk result (λ command. (fields_of command).has_globals ≡ false) }
+{
+    Command::new(alloc, "step")
+        .arg(seed(alloc))?
+        .arg(limit(alloc))?
+        .arg(brief(alloc))
+}
+
+/// `check`.
+fn check<'a>(alloc: Global) -> Command<'a>
+    ensures app { app_of result ≡ check_app }
+    ensures local { (fields_of result).has_globals ≡ false }
+{
+    Command::new(alloc, "check")
+}
+
+/// The program without its subcommands.
+fn bare_program<'a>(alloc: Global) -> Command<'a>
+    ensures app { app_of result ≡ program_app }
+    ensures local { (fields_of result).has_globals ≡ false }
+{
+    Command::new(alloc, "gaspirun")
+        .no_binary_name(true)
+        .disable_help_flag(true)
+        .disable_version_flag(true)
+        .disable_help_subcommand(true)
+        .subcommand_required(true)
+}
+
+/// The program.
+pub(crate) fn program<'a>(alloc: Global) -> Result<Command<'a>, AllocError>
+    ensures { IfOk result (λ command. app_of command ≡ the_app) }
+{
+    bare_program(alloc)
+        .subcommand(step(alloc)?)?
+        .subcommand(check(alloc))
+}

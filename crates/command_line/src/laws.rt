@@ -1,0 +1,92 @@
+//! Laws of the words. Each is a function without a body: what it ensures is the law.
+
+ghost use Rattle.std.specs.Prelude.{◌≡◌, ◌≢◌, ◌≤◌, ℕ, List, [], ◌∷◌, Some, None, codes, is_some, true, false};
+ghost use Rattle.std.specs.Fmt.{decimal};
+ghost use Rattle.command_line.specs.Words.{command_of, the_app};
+ghost use Rattle.clap.specs.Words.{fault_of};
+
+use crate::words::Command;
+
+/// These words are taken, with these values.
+#[tactic(auto, unfolding(crate::specs::Words::command_of, clap::proofs::OnLiterals::clap_on_literals))]
+pub fn words_that_are_taken()
+    ensures plain { command_of (codes "step" ∷ []) ≡ Some (Command.Step 0 1000000 false) }
+    ensures brief { command_of (codes "step" ∷ codes "--brief" ∷ [])
+        ≡ Some (Command.Step 0 1000000 true) }
+    ensures most_seed { command_of (codes "step" ∷ codes "--seed" ∷ codes "4294967295" ∷ [])
+        ≡ Some (Command.Step 4294967295 1000000 false) }
+    ensures joined_seed { command_of (codes "step" ∷ codes "--seed=5" ∷ [])
+        ≡ Some (Command.Step 5 1000000 false) }
+    ensures least_limit { command_of (codes "step" ∷ codes "--limit" ∷ codes "1" ∷ [])
+        ≡ Some (Command.Step 0 1 false) }
+    ensures most_limit { command_of (codes "step" ∷ codes "--limit" ∷ codes "100000000" ∷ [])
+        ≡ Some (Command.Step 0 100000000 false) }
+    ensures all { command_of (codes "step" ∷ codes "--seed" ∷ codes "5" ∷ codes "--limit" ∷ codes "3" ∷ codes "--brief" ∷ [])
+        ≡ Some (Command.Step 5 3 true) }
+    ensures other_order { command_of (codes "step" ∷ codes "--brief" ∷ codes "--limit" ∷ codes "3" ∷ codes "--seed" ∷ codes "5" ∷ [])
+        ≡ Some (Command.Step 5 3 true) }
+    ensures check { command_of (codes "check" ∷ []) ≡ Some Command.Check }
+{}
+
+/// These words are refused: no command, one that there is not, a number that is none or out of its range, an option or a
+/// flag given twice, and words that a subcommand does not have.
+#[tactic(auto, unfolding(crate::specs::Words::command_of, clap::proofs::OnLiterals::clap_on_literals))]
+pub fn words_that_are_refused()
+    ensures nothing { command_of [] ≡ None }
+    ensures empty_word { command_of ([] ∷ []) ≡ None }
+    ensures other_command { command_of (codes "run" ∷ []) ≡ None }
+    ensures longer_word { command_of (codes "steps" ∷ []) ≡ None }
+    ensures seed_past_most { command_of (codes "step" ∷ codes "--seed" ∷ codes "4294967296" ∷ []) ≡ None }
+    ensures limit_zero { command_of (codes "step" ∷ codes "--limit" ∷ codes "0" ∷ []) ≡ None }
+    ensures limit_past_most { command_of (codes "step" ∷ codes "--limit" ∷ codes "100000001" ∷ []) ≡ None }
+    ensures step_twice { command_of (codes "step" ∷ codes "step" ∷ []) ≡ None }
+    ensures check_brief { command_of (codes "check" ∷ codes "--brief" ∷ []) ≡ None }
+    ensures brief_first { command_of (codes "--brief" ∷ codes "step" ∷ []) ≡ None }
+    ensures seed_without_number { command_of (codes "step" ∷ codes "--seed" ∷ []) ≡ None }
+    ensures seed_no_number { command_of (codes "step" ∷ codes "--seed" ∷ codes "x" ∷ []) ≡ None }
+    ensures seed_twice { command_of (codes "step" ∷ codes "--seed" ∷ codes "5" ∷ codes "--seed" ∷ codes "5" ∷ []) ≡ None }
+    ensures limit_twice { command_of (codes "step" ∷ codes "--limit" ∷ codes "5" ∷ codes "--limit" ∷ codes "5" ∷ []) ≡ None }
+    ensures brief_twice { command_of (codes "step" ∷ codes "--brief" ∷ codes "--brief" ∷ []) ≡ None }
+    ensures brief_with_value { command_of (codes "step" ∷ codes "--brief=true" ∷ []) ≡ None }
+{}
+
+/// Words that ask for help or for the version are refused like all others.
+#[tactic(auto, unfolding(crate::specs::Words::command_of, clap::proofs::OnLiterals::clap_on_literals))]
+pub fn help_and_version_are_refused()
+    ensures flag { command_of (codes "--help" ∷ []) ≡ None }
+    ensures short { command_of (codes "-h" ∷ []) ≡ None }
+    ensures word { command_of (codes "help" ∷ []) ≡ None }
+    ensures version { command_of (codes "--version" ∷ []) ≡ None }
+    ensures short_version { command_of (codes "-V" ∷ []) ≡ None }
+    ensures of_step { command_of (codes "step" ∷ codes "--help" ∷ []) ≡ None }
+    ensures short_of_step { command_of (codes "step" ∷ codes "-h" ∷ []) ≡ None }
+    ensures of_check { command_of (codes "check" ∷ codes "--help" ∷ []) ≡ None }
+{}
+
+/// A number may have a plus and leading zeros, and 0 a minus where `=` joins it; `--` at the end says nothing.
+#[tactic(auto, unfolding(crate::specs::Words::command_of, clap::proofs::OnLiterals::clap_on_literals))]
+pub fn other_forms_that_are_taken()
+    ensures plus { command_of (codes "step" ∷ codes "--seed" ∷ codes "+5" ∷ []) ≡ Some (Command.Step 5 1000000 false) }
+    ensures zeros { command_of (codes "step" ∷ codes "--seed" ∷ codes "05" ∷ []) ≡ Some (Command.Step 5 1000000 false) }
+    ensures minus { command_of (codes "step" ∷ codes "--seed=-0" ∷ []) ≡ Some (Command.Step 0 1000000 false) }
+    ensures dashes { command_of (codes "step" ∷ codes "--" ∷ []) ≡ Some (Command.Step 0 1000000 false) }
+    ensures check_dashes { command_of (codes "check" ∷ codes "--" ∷ []) ≡ Some Command.Check }
+{}
+
+/// A first word that is neither `step` nor `check` is refused, whatever follows.
+pub fn other_first_words_are_refused()
+    ensures { (first : List ℕ) (rest : List (List ℕ)) → first ≢ codes "step" → first ≢ codes "check"
+        → command_of (first ∷ rest) ≡ None }
+{}
+
+/// Every seed and limit in its range, spelled in decimal, gives just these values.
+pub fn numbers_are_read()
+    ensures { (seed limit : ℕ) → seed ≤ 4294967295 → 1 ≤ limit → limit ≤ 100000000
+        → command_of (codes "step" ∷ codes "--seed" ∷ decimal seed ∷ codes "--limit" ∷ decimal limit ∷ codes "--brief" ∷ [])
+        ≡ Some (Command.Step seed limit true) }
+{}
+
+/// What clap takes is never refused: None stands for the words in which clap finds a fault, and for no others.
+pub fn words_without_a_fault_are_taken()
+    ensures { (words : List (List ℕ)) → fault_of the_app words ≡ [] → is_some (command_of words) ≡ true }
+{}

@@ -1,0 +1,16 @@
+//! The words of the command line.
+#![tactic(auto)]
+
+mod arguments;
+mod laws;
+mod words;
+
+pub use laws::{
+    help_and_version_are_refused, numbers_are_read, other_first_words_are_refused,
+    other_forms_that_are_taken, words_that_are_refused, words_that_are_taken,
+    words_without_a_fault_are_taken,
+};
+pub use words::{Command, read_words};
+
+#[cfg(test)]
+mod tests;

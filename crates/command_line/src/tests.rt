@@ -1,0 +1,106 @@
+use super::{Command, read_words};
+use std::test::Fail;
+
+/// `step` with its defaults.
+const PLAIN: Command = Command::Step {
+    seed: 0,
+    limit: 1_000_000,
+    brief: false,
+};
+
+/// `step` with these values.
+fn step(seed: u32, limit: u32, brief: bool) -> Option<Command> {
+    Some(Command::Step { seed, limit, brief })
+}
+
+#[test]
+fn words_are_read(rt: HostRuntime) -> Result<(), Fail> {
+    let rows: [(&[&str], Option<Command>); 62] = [
+        // What is asked for.
+        (&["step"], Some(PLAIN)),
+        (&["step", "--brief"], step(0, 1_000_000, true)),
+        (&["step", "--seed", "0"], Some(PLAIN)),
+        (&["step", "--seed", "5"], step(5, 1_000_000, false)),
+        (&["step", "--seed=5"], step(5, 1_000_000, false)),
+        (
+            &["step", "--seed", "4294967295"],
+            step(4_294_967_295, 1_000_000, false),
+        ),
+        (&["step", "--limit", "1"], step(0, 1, false)),
+        (&["step", "--limit=1"], step(0, 1, false)),
+        (
+            &["step", "--limit", "100000000"],
+            step(0, 100_000_000, false),
+        ),
+        (&["step", "--seed", "5", "--limit", "3"], step(5, 3, false)),
+        (&["step", "--limit", "3", "--seed", "5"], step(5, 3, false)),
+        (
+            &["step", "--seed", "5", "--limit", "3", "--brief"],
+            step(5, 3, true),
+        ),
+        (
+            &["step", "--brief", "--limit=3", "--seed", "5"],
+            step(5, 3, true),
+        ),
+        (&["check"], Some(Command::Check)),
+        // A number may have a plus, leading zeros, and where it is 0 and joined by `=` a minus.
+        (&["step", "--seed", "+5"], step(5, 1_000_000, false)),
+        (&["step", "--seed", "05"], step(5, 1_000_000, false)),
+        (&["step", "--limit", "+007"], step(0, 7, false)),
+        (&["step", "--seed=-0"], Some(PLAIN)),
+        // `--` ends the options.
+        (&["step", "--"], Some(PLAIN)),
+        (&["step", "--brief", "--"], step(0, 1_000_000, true)),
+        (&["check", "--"], Some(Command::Check)),
+        (&["step", "--", "--brief"], None),
+        (&["--", "step"], None),
+        (&["--"], None),
+        // No command, or another.
+        (&[], None),
+        (&[""], None),
+        (&["steps"], None),
+        (&["ste"], None),
+        (&["Step"], None),
+        (&["run"], None),
+        (&["\u{e9}tape"], None),
+        (&["step", "step"], None),
+        (&["step", "check"], None),
+        (&["check", "step"], None),
+        (&["check", "--brief"], None),
+        (&["check", "--seed", "5"], None),
+        (&["--brief"], None),
+        (&["--brief", "step"], None),
+        // A number that is none, or out of its range.
+        (&["step", "--seed"], None),
+        (&["step", "--seed", "x"], None),
+        (&["step", "--seed="], None),
+        (&["step", "--seed", ""], None),
+        (&["step", "--seed", "\u{663}"], None),
+        (&["step", "--seed", "-1"], None),
+        (&["step", "--seed=-1"], None),
+        (&["step", "--seed", "4294967296"], None),
+        (&["step", "--seed", "--brief"], None),
+        (&["step", "--limit", "0"], None),
+        (&["step", "--limit", "100000001"], None),
+        // A flag with a value, an option given twice, a short or an unknown one.
+        (&["step", "--brief=true"], None),
+        (&["step", "--brief", "--brief"], None),
+        (&["step", "--seed", "5", "--seed", "5"], None),
+        (&["step", "--limit", "5", "--limit", "6"], None),
+        (&["step", "--lim", "5"], None),
+        (&["step", "-b"], None),
+        (&["step", "5"], None),
+        // Help and the version.
+        (&["--help"], None),
+        (&["-h"], None),
+        (&["help"], None),
+        (&["-V"], None),
+        (&["step", "--help"], None),
+        (&["step", "-h"], None),
+    ];
+    let alloc = rt.alloc();
+    for (words, expected) in rows {
+        assert!(rt; read_words(alloc, words)? == expected);
+    }
+    Ok(())
+}

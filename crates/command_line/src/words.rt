@@ -1,0 +1,93 @@
+//! The words of the command line, read.
+
+ghost use Rattle.std.specs.Prelude.{◌≡◌, ◌≢◌, ◌≤◌, IfOk, ℕ, Bool, Some, map, None};
+ghost use Rattle.clap.specs.Words.{found_of, kind_of, rows_of, subcommand_rows_of};
+ghost use Rattle.command_line.specs.Words.{command_of, flag_at, number_at, step_of, words_in};
+
+use crate::arguments::program;
+use clap::error::ErrorKind;
+use clap::{ArgMatches, Error};
+use gaspi_types::NoMemory;
+use std::alloc::Global;
+
+/// What the program is asked to do.
+#[derive(Clone, Copy, Debug, PartialEq, Eq)]
+pub enum Command {
+    /// `step`: run a world text on one thread.
+    Step {
+        /// Where the generator starts.
+        seed: u32,
+        /// How many looks a call that blocks has, from 1 to 100,000,000.
+        limit: u32,
+        /// Whether the transcripts are written in place of the journal.
+        brief: bool,
+    },
+    /// `check`: replay a journal.
+    Check,
+}
+
+/// The number of an option.
+fn number(matches: &ArgMatches<'_>, id: &str) -> Option<u32>
+    ensures { result ≡ number_at id.now (rows_of (found_of matches.now)) }
+{
+    matches.get_one::<u32>(id)
+}
+
+/// Whether a flag was given.
+fn flag(matches: &ArgMatches<'_>, id: &str) -> bool
+    ensures { result ≡ flag_at id.now (rows_of (found_of matches.now)) }
+{
+    match matches.get_str(id) {
+        Some(text) => text == "true",
+        None => false,
+    }
+}
+
+/// What the words after `step` ask for.
+fn step(matches: &ArgMatches<'_>) -> Option<Command>
+    ensures { result ≡ step_of (rows_of (found_of matches.now)) }
+{
+    Some(Command::Step {
+        seed: number(matches, "seed")?,
+        limit: number(matches, "limit")?,
+        brief: flag(matches, "brief"),
+    })
+}
+
+/// What the subcommand that was used asks for.
+fn asked(matches: &ArgMatches<'_>) -> Option<Command>
+    ensures { result ≡ words_in (subcommand_rows_of matches.now) }
+{
+    let (name, inner) = matches.subcommand()?;
+    if name == "step" {
+        step(inner)
+    } else if name == "check" {
+        Some(Command::Check)
+    } else {
+        None
+    }
+}
+
+/// The answer to words that clap refuses: none, or want of memory.
+fn refused(error: &Error) -> Result<Option<Command>, NoMemory>
+    ensures { IfOk result (λ command. (command ≡ None) × (kind_of error.now ≢ ErrorKind.OutOfMemory)) }
+{
+    match error.kind() {
+        ErrorKind::OutOfMemory => Err(NoMemory),
+        _ => Ok(None),
+    }
+}
+
+/// What the words after the program's name ask for: `step [--seed N] [--limit N] [--brief]` or `check`. None where the
+/// words are refused.
+pub fn read_words(alloc: Global, words: &[&str]) -> Result<Option<Command>, NoMemory>
+    ensures command { IfOk result (λ command. command ≡ command_of (map (λ word. word.now) words.now)) }
+    ensures limit { IfOk result (λ command. (seed limit : ℕ) (brief : Bool)
+        → command ≡ Some (Command.Step seed limit brief) → (1 ≤ limit) × (limit ≤ 100000000)) }
+{
+    let program = program(alloc)?;
+    match program.try_get_matches_from(words) {
+        Ok(matches) => Ok(asked(&matches)),
+        Err(error) => refused(&error),
+    }
+}
