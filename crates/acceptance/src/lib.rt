@@ -6,8 +6,6 @@ mod cuts;
 #[cfg(test)]
 mod expectations;
 #[cfg(test)]
-mod journals;
-#[cfg(test)]
 mod parts;
 #[cfg(test)]
 mod posts;

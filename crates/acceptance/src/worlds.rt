@@ -45,98 +45,87 @@ pub fn replies_in<R: Threads + Wait + Sync + Abort>(
     runs_to(rt, alloc, text.as_str(), 0, output.as_str())
 }
 
-/// Calls on memory and their replies.
-const MEMORY_CALLS: [(&str, &str); 25] = [
-    ("store 0 0 01", "done"),
-    ("store 0 0 0A", "done"),
-    ("store 0 15 ff", "done"),
-    ("store 0 0 000102030405060708090a0b0c0d0e0f", "done"),
-    // E2 before E6 before E5.
-    ("store 1 99 -", "refused 2"),
-    ("store 32 0 01", "refused 2"),
-    ("store 18446744073709551615 0 01", "refused 2"),
-    ("store 0 99 -", "refused 6"),
-    ("store 0 0 -", "refused 6"),
-    ("store 0 16 01", "refused 5 16"),
-    ("store 0 15 0102", "refused 5 16"),
-    ("store 0 18446744073709551615 01", "refused 5 16"),
-    ("load 0 0 2", "bytes 0000"),
-    ("load 0 15 1", "bytes 00"),
-    ("load 0 00 016", "bytes 00000000000000000000000000000000"),
-    ("load 5 0 0", "refused 2"),
-    ("load 0 99 0", "refused 6"),
-    ("load 0 99 65537", "refused 6"),
-    ("load 0 0 18446744073709551615", "refused 6"),
-    ("load 0 0 65536", "refused 5 16"),
-    ("load 0 16 1", "refused 5 16"),
-    ("load 0 15 2", "refused 5 16"),
-    ("load 0 18446744073709551615 1", "refused 5 16"),
-    ("reset 0 3", "value 0"),
-    ("reset 0 7", "value 0"),
-];
+/// Calls on memory and their replies. A line that begins with `#` is a comment.
+const MEMORY_CALLS: &str = "\
+store 0 0 01 -> done
+store 0 0 0A -> done
+store 0 15 ff -> done
+store 0 0 000102030405060708090a0b0c0d0e0f -> done
+# E2 before E6 before E5.
+store 1 99 - -> refused 2
+store 32 0 01 -> refused 2
+store 18446744073709551615 0 01 -> refused 2
+store 0 99 - -> refused 6
+store 0 0 - -> refused 6
+store 0 16 01 -> refused 5 16
+store 0 15 0102 -> refused 5 16
+store 0 18446744073709551615 01 -> refused 5 16
+load 0 0 2 -> bytes 0000
+load 0 15 1 -> bytes 00
+load 0 00 016 -> bytes 00000000000000000000000000000000
+load 5 0 0 -> refused 2
+load 0 99 0 -> refused 6
+load 0 99 65537 -> refused 6
+load 0 0 18446744073709551615 -> refused 6
+load 0 0 65536 -> refused 5 16
+load 0 16 1 -> refused 5 16
+load 0 15 2 -> refused 5 16
+load 0 18446744073709551615 1 -> refused 5 16
+reset 0 3 -> value 0
+reset 0 7 -> value 0";
 
-/// Posts, waits and notifications and their replies.
-const POSTS_AND_NOTIFICATIONS: [(&str, &str); 39] = [
-    ("write_notify 0 0 1 0 4 2 3 7 0", "done"),
-    ("write_notify 0 0 0 0 4 2 3 7 0", "done"),
-    ("write_notify 0 15 1 0 11 1 7 4294967295 0", "done"),
-    ("write_notify 0 0 1 0 0 12 0 1 0", "done"),
-    // E1, E7, E2, E4, E6, E5 of the own segment, E5 of the other, E10, E11, in this order.
-    ("write_notify 9 99 2 9 99 0 9 0 9", "refused 1"),
-    (
-        "write_notify 9 99 18446744073709551615 9 99 0 9 0 9",
-        "refused 1",
-    ),
-    ("write_notify 9 99 1 9 99 0 9 0 1", "refused 7"),
-    (
-        "write_notify 9 99 1 9 99 0 9 0 18446744073709551615",
-        "refused 7",
-    ),
-    ("write_notify 9 99 1 9 99 0 9 0 0", "refused 2"),
-    ("write_notify 32 99 1 9 99 0 9 0 0", "refused 2"),
-    ("write_notify 0 99 1 9 99 0 9 0 0", "refused 4"),
-    ("write_notify 0 99 0 1 99 0 9 0 0", "refused 4"),
-    ("write_notify 0 99 1 32 99 0 9 0 0", "refused 4"),
-    ("write_notify 0 99 1 0 99 0 9 0 0", "refused 6"),
-    ("write_notify 0 99 1 0 99 65537 9 0 0", "refused 6"),
-    ("write_notify 0 99 1 0 99 1 9 0 0", "refused 5 16"),
-    (
-        "write_notify 0 18446744073709551615 1 0 99 1 9 0 0",
-        "refused 5 16",
-    ),
-    ("write_notify 0 0 1 0 99 1 9 0 0", "refused 5 12"),
-    ("write_notify 0 0 1 0 0 13 9 0 0", "refused 5 12"),
-    (
-        "write_notify 0 0 1 0 18446744073709551615 1 9 0 0",
-        "refused 5 12",
-    ),
-    ("write_notify 0 0 1 0 0 1 9 0 0", "refused 10"),
-    ("write_notify 0 0 1 0 0 1 8 1 0", "refused 10"),
-    ("write_notify 0 0 1 0 0 1 7 0 0", "refused 11"),
-    ("wait 0 block", "done"),
-    ("wait 0 test", "done"),
-    ("wait 1 block", "refused 7"),
-    ("wait 18446744073709551615 test", "refused 7"),
-    ("waitsome 0 0 8 test", "timeout"),
-    ("waitsome 0 7 1 3", "timeout"),
-    // E2 before E10.
-    ("waitsome 1 9 0 block", "refused 2"),
-    ("waitsome 0 0 0 block", "refused 10"),
-    ("waitsome 0 0 9 block", "refused 10"),
-    ("waitsome 0 8 1 block", "refused 10"),
-    ("waitsome 0 7 2 test", "refused 10"),
-    ("waitsome 0 18446744073709551615 1 test", "refused 10"),
-    ("reset 1 9", "refused 2"),
-    ("reset 32 0", "refused 2"),
-    ("reset 0 8", "refused 10"),
-    ("reset 0 18446744073709551615", "refused 10"),
-];
+/// Posts, waits and notifications and their replies. A line that begins with `#` is a comment.
+const POSTS_AND_NOTIFICATIONS: &str = "\
+write_notify 0 0 1 0 4 2 3 7 0 -> done
+write_notify 0 0 0 0 4 2 3 7 0 -> done
+write_notify 0 15 1 0 11 1 7 4294967295 0 -> done
+write_notify 0 0 1 0 0 12 0 1 0 -> done
+# E1, E7, E2, E4, E6, E5 of the own segment, E5 of the other, E10, E11, in this order.
+write_notify 9 99 2 9 99 0 9 0 9 -> refused 1
+write_notify 9 99 18446744073709551615 9 99 0 9 0 9 -> refused 1
+write_notify 9 99 1 9 99 0 9 0 1 -> refused 7
+write_notify 9 99 1 9 99 0 9 0 18446744073709551615 -> refused 7
+write_notify 9 99 1 9 99 0 9 0 0 -> refused 2
+write_notify 32 99 1 9 99 0 9 0 0 -> refused 2
+write_notify 0 99 1 9 99 0 9 0 0 -> refused 4
+write_notify 0 99 0 1 99 0 9 0 0 -> refused 4
+write_notify 0 99 1 32 99 0 9 0 0 -> refused 4
+write_notify 0 99 1 0 99 0 9 0 0 -> refused 6
+write_notify 0 99 1 0 99 65537 9 0 0 -> refused 6
+write_notify 0 99 1 0 99 1 9 0 0 -> refused 5 16
+write_notify 0 18446744073709551615 1 0 99 1 9 0 0 -> refused 5 16
+write_notify 0 0 1 0 99 1 9 0 0 -> refused 5 12
+write_notify 0 0 1 0 0 13 9 0 0 -> refused 5 12
+write_notify 0 0 1 0 18446744073709551615 1 9 0 0 -> refused 5 12
+write_notify 0 0 1 0 0 1 9 0 0 -> refused 10
+write_notify 0 0 1 0 0 1 8 1 0 -> refused 10
+write_notify 0 0 1 0 0 1 7 0 0 -> refused 11
+wait 0 block -> done
+wait 0 test -> done
+wait 1 block -> refused 7
+wait 18446744073709551615 test -> refused 7
+waitsome 0 0 8 test -> timeout
+waitsome 0 7 1 3 -> timeout
+# E2 before E10.
+waitsome 1 9 0 block -> refused 2
+waitsome 0 0 0 block -> refused 10
+waitsome 0 0 9 block -> refused 10
+waitsome 0 8 1 block -> refused 10
+waitsome 0 7 2 test -> refused 10
+waitsome 0 18446744073709551615 1 test -> refused 10
+reset 1 9 -> refused 2
+reset 32 0 -> refused 2
+reset 0 8 -> refused 10
+reset 0 18446744073709551615 -> refused 10";
 
 #[test]
 fn calls_on_memory_reply(rt: HostRuntime) -> Result<(), Fail> {
     let alloc = rt.alloc();
-    for (call, reply) in MEMORY_CALLS {
-        replies_in(&rt, alloc, SMALL, call, reply)?;
+    for row in MEMORY_CALLS.lines() {
+        if !row.starts_with('#') {
+            let (call, reply) = row.split_once(" -> ").expect(&rt, "a call and its reply");
+            replies_in(&rt, alloc, SMALL, call, reply)?;
+        }
     }
     Ok(())
 }
@@ -144,8 +133,11 @@ fn calls_on_memory_reply(rt: HostRuntime) -> Result<(), Fail> {
 #[test]
 fn posts_and_notifications_reply(rt: HostRuntime) -> Result<(), Fail> {
     let alloc = rt.alloc();
-    for (call, reply) in POSTS_AND_NOTIFICATIONS {
-        replies_in(&rt, alloc, SMALL, call, reply)?;
+    for row in POSTS_AND_NOTIFICATIONS.lines() {
+        if !row.starts_with('#') {
+            let (call, reply) = row.split_once(" -> ").expect(&rt, "a call and its reply");
+            replies_in(&rt, alloc, SMALL, call, reply)?;
+        }
     }
     Ok(())
 }

@@ -10,8 +10,14 @@ use Rattle.gaspi_types.specs.declared.events.Event.{Event}
 use Rattle.gaspi_texts.specs.EventText.{event_text, IsInEventRange}
 use Rattle.gaspi_texts.specs.Lines.{fed_lines}
 use Rattle.call_journal.specs.JournalText.{first_line, event_line, end_line, event_lines, journal_lines, journal_text, AreInRange}
-use Rattle.gaspi_texts.proofs.EventTexts.{same_event, event_text-no_line_feed}
 use Rattle.call_journal.proofs.FedLines.{apart, is_other, not-false, and-parts, IsWhole, AreWhole, fed_lines-concat}
+
+-- the laws of the texts of events: none has a line feed, and different events have different ones
+abbrev pub HaveNoFeeds : Type 0
+HaveNoFeeds = (event : Event) → IsInEventRange event → All (λ byte. (byte == 10) ≡ false) (event_text event)
+
+abbrev pub Differ : Type 0
+Differ = (first second : Event) → IsInEventRange first → IsInEventRange second → event_text first ≡ event_text second → first ≡ second
 
 -- a test that every digit passes
 abbrev pub PassesDigits : (ℕ → Bool) → Type 0
@@ -68,10 +74,10 @@ all-other (x ∷ xs) h = rw (h 0 x (omega arith)) (all-other xs (λ k d less. h 
 both : (xs ys : List ℕ) → list_all is_other xs ≡ true → list_all is_other ys ≡ true → list_all is_other (xs ++ ys) ≡ true
 both xs ys hx hy = list_all-append is_other xs ys ∙ rw (hx, hy) refl
 
-event-whole : (place : ℕ) (e : Event) → IsInEventRange e → IsWhole (event_line place e)
-event-whole place e range = record {
+event-whole : HaveNoFeeds → (place : ℕ) (e : Event) → IsInEventRange e → IsWhole (event_line place e)
+event-whole feeds place e range = record {
   front = decimal place ++ codes " " ++ event_text e;
-  other = both (decimal place ++ codes " ") (event_text e) (both (decimal place) (codes " ") (decimal-passes is_other digit-other place) refl) (all-other (event_text e) (event_text-no_line_feed e range));
+  other = both (decimal place ++ codes " ") (event_text e) (both (decimal place) (codes " ") (decimal-passes is_other digit-other place) refl) (all-other (event_text e) (feeds e range));
   is = refl;
 }
 
@@ -92,30 +98,30 @@ first-in e events h = h 0 e (omega arith)
 pub rest-in : (e : Event) (events : List Event) → AreInRange (e ∷ events) → AreInRange events
 rest-in e events h = λ k d less. h (suc k) d (omega arith)
 
-lines-whole : (place count : ℕ) (events : List Event) → AreInRange events → AreWhole (event_lines place events ++ end_line count ∷ [])
-lines-whole place count [] h = (end-whole count, tt)
-lines-whole place count (e ∷ events) h = (event-whole place e (first-in e events h), lines-whole (place + 1) count events (rest-in e events h))
+lines-whole : HaveNoFeeds → (place count : ℕ) (events : List Event) → AreInRange events → AreWhole (event_lines place events ++ end_line count ∷ [])
+lines-whole feeds place count [] h = (end-whole count, tt)
+lines-whole feeds place count (e ∷ events) h = (event-whole feeds place e (first-in e events h), lines-whole feeds (place + 1) count events (rest-in e events h))
 
 -- the lines of a journal's text are the journal's lines
-pub fed_lines-journal : (journal : List Event) → AreInRange journal → fed_lines (journal_text journal) ≡ journal_lines journal
-fed_lines-journal journal h = fed_lines-concat (journal_lines journal) (first-whole, lines-whole 0 (length journal) journal h)
+pub fed_lines-journal : HaveNoFeeds → (journal : List Event) → AreInRange journal → fed_lines (journal_text journal) ≡ journal_lines journal
+fed_lines-journal feeds journal h = fed_lines-concat (journal_lines journal) (first-whole, lines-whole feeds 0 (length journal) journal h)
 
 -- equal lines of events are those of equal events
-same-lines : (place : ℕ) (a b : List Event) → AreInRange a → AreInRange b → event_lines place a ≡ event_lines place b → a ≡ b
-same-lines place [] [] ha hb is = refl
-same-lines place [] (y ∷ ys) ha hb is = absurd (let no : ⊥ = cc in no)
-same-lines place (x ∷ xs) [] ha hb is = absurd (let no : ⊥ = cc in no)
-same-lines place (x ∷ xs) (y ∷ ys) ha hb is =
+same-lines : Differ → (place : ℕ) (a b : List Event) → AreInRange a → AreInRange b → event_lines place a ≡ event_lines place b → a ≡ b
+same-lines differ place [] [] ha hb is = refl
+same-lines differ place [] (y ∷ ys) ha hb is = absurd (let no : ⊥ = cc in no)
+same-lines differ place (x ∷ xs) [] ha hb is = absurd (let no : ⊥ = cc in no)
+same-lines differ place (x ∷ xs) (y ∷ ys) ha hb is =
     let line : event_line place x ≡ event_line place y = cc in
     let lines : event_lines (place + 1) xs ≡ event_lines (place + 1) ys = cc in
     let text : event_text x ≡ event_text y = append_cancel_left (decimal place ++ codes " ") (event_text x) (event_text y) (append_cancel_right (decimal place ++ codes " " ++ event_text x) (decimal place ++ codes " " ++ event_text y) (codes "\n") line) in
-    let event : x ≡ y = same_event x y (first-in x xs ha) (first-in y ys hb) text in
-    let events : xs ≡ ys = same-lines (place + 1) xs ys (rest-in x xs ha) (rest-in y ys hb) lines in
+    let event : x ≡ y = differ x y (first-in x xs ha) (first-in y ys hb) text in
+    let events : xs ≡ ys = same-lines differ (place + 1) xs ys (rest-in x xs ha) (rest-in y ys hb) lines in
     cc
 
 -- journals in range with the same text are equal
-pub same-journals : (a b : List Event) → AreInRange a → AreInRange b → journal_text a ≡ journal_text b → a ≡ b
-same-journals a b ha hb is =
-    let lines : journal_lines a ≡ journal_lines b = sym (fed_lines-journal a ha) ∙ ap fed_lines is ∙ fed_lines-journal b hb in
+pub same-journals : HaveNoFeeds → Differ → (a b : List Event) → AreInRange a → AreInRange b → journal_text a ≡ journal_text b → a ≡ b
+same-journals feeds differ a b ha hb is =
+    let lines : journal_lines a ≡ journal_lines b = sym (fed_lines-journal feeds a ha) ∙ ap fed_lines is ∙ fed_lines-journal feeds b hb in
     let behind : event_lines 0 a ++ end_line (length a) ∷ [] ≡ event_lines 0 b ++ end_line (length b) ∷ [] = cc in
-    same-lines 0 a b ha hb (same_from_push (event_lines 0 a) (event_lines 0 b) (end_line (length a)) (end_line (length b)) behind).0
+    same-lines differ 0 a b ha hb (same_from_push (event_lines 0 a) (event_lines 0 b) (end_line (length a)) (end_line (length b)) behind).0

@@ -9,7 +9,7 @@ use Rattle.gaspi_texts.specs.EventText.{IsInEventRange}
 use Rattle.gaspi_texts.specs.Lines.{fed_lines}
 use Rattle.call_journal.specs.JournalText.{first_line, event_line, end_line, event_lines, journal_lines, journal_text, AreInRange, Begins, IsFaultyAt}
 use Rattle.call_journal.proofs.FedLines.{concat-fed_lines}
-use Rattle.call_journal.proofs.JournalLines.{fed_lines-journal, event-no-end, first-in, rest-in}
+use Rattle.call_journal.proofs.JournalLines.{HaveNoFeeds, fed_lines-journal, event-no-end, first-in, rest-in}
 
 -- one more event
 pub event_lines-push : (place : ℕ) (events : List Event) (e : Event) → event_lines place (events ++ e ∷ []) ≡ event_lines place events ++ event_line (place + length events) e ∷ []
@@ -72,28 +72,28 @@ one-more front ls l =
 
 -- The line after a front that begins a journal is faulty where the front with that line begins none, and where there is
 -- no such line, the front is no whole journal.
-fault-after : (text : List ℕ) (front tail : List (List ℕ)) → fed_lines text ≡ front ++ tail → Begins front
+fault-after : HaveNoFeeds → (text : List ℕ) (front tail : List (List ℕ)) → fed_lines text ≡ front ++ tail → Begins front
     → ((l : List ℕ) (ls : List (List ℕ)) → tail ≡ l ∷ ls → Begins (front ++ l ∷ []) → ⊥)
     → (tail ≡ [] → (journal : List Event) → front ≡ journal_lines journal → ⊥)
     → IsFaultyAt text (length front + 1)
-fault-after text front [] lines begins bad short =
+fault-after feeds text front [] lines begins bad short =
     let all : fed_lines text ≡ front = lines ∙ append-nil front in
     let count : length (fed_lines text) ≡ length front = ap (λ (ls : List (List ℕ)). length ls) all in
     let less : length front + 1 - 1 ≡ length front = omega arith in
     record {
-      other = λ journal range is. short refl journal (sym all ∙ ap fed_lines is ∙ fed_lines-journal journal range);
+      other = λ journal range is. short refl journal (sym all ∙ ap fed_lines is ∙ fed_lines-journal feeds journal range);
       some = omega arith;
       within = omega arith;
       before = rw (less, all) (subst Begins (sym (take_all (length front) front (let le : length front ≤ length front = omega arith in le))) begins);
       first = λ there. absurd (omega arith);
     }
-fault-after text front (l ∷ ls) lines begins bad short =
+fault-after feeds text front (l ∷ ls) lines begins bad short =
     let count : length (fed_lines text) ≡ length front + suc (length ls) = ap (λ (ls : List (List ℕ)). length ls) lines ∙ length-append front (l ∷ ls) in
     let less : length front + 1 - 1 ≡ length front = omega arith in
     let more : take (length front + 1) (fed_lines text) ≡ front ++ l ∷ [] = ap (λ (ls : List (List ℕ)). take (length front + 1) ls) lines ∙ one-more front ls l in
     record {
       other = λ journal range is.
-          let whole : journal_lines journal ≡ front ++ l ∷ ls = sym (fed_lines-journal journal range) ∙ ap fed_lines (sym is) ∙ lines in
+          let whole : journal_lines journal ≡ front ++ l ∷ ls = sym (fed_lines-journal feeds journal range) ∙ ap fed_lines (sym is) ∙ lines in
           bad l ls refl (record {
             journal = journal;
             ranges = range;
@@ -158,11 +158,11 @@ no-lines : (text : List ℕ) → fed_lines text ≡ [] → text ≡ []
 no-lines text none = sym (concat-fed_lines text) ∙ ap concat none
 
 -- the next line is neither that of an event nor the end line
-pub bad-line : (text rest later line : List ℕ) (journal : List Event) → HasRead text journal rest → fed_lines rest ≡ line ∷ fed_lines later
+pub bad-line : HaveNoFeeds → (text rest later line : List ℕ) (journal : List Event) → HasRead text journal rest → fed_lines rest ≡ line ∷ fed_lines later
     → ((e : Event) → IsInEventRange e → line ≢ event_line (length journal) e) → line ≢ end_line (length journal) → IsFaultyAt text (length journal + 2)
-bad-line text rest later line journal h first event end =
+bad-line feeds text rest later line journal h first event end =
     subst (λ (n : ℕ). IsFaultyAt text n) (count-before journal)
-    (fault-after text (lines_before journal) (line ∷ fed_lines later) (h.lines ∙ ap (λ (ls : List (List ℕ)). lines_before journal ++ ls) first) (begun journal h.ranges)
+    (fault-after feeds text (lines_before journal) (line ∷ fed_lines later) (h.lines ∙ ap (λ (ls : List (List ℕ)). lines_before journal ++ ls) first) (begun journal h.ranges)
     (λ l ls is b.
     let l-is : line ≡ l = cc in
     let whole = followed (lines_before journal ++ l ∷ []) b ∙ append_assoc (lines_before journal) (l ∷ []) (drop (length (lines_before journal ++ l ∷ [])) (journal_lines b.journal)) in
@@ -172,11 +172,11 @@ bad-line text rest later line journal h first event end =
     (λ none journal is. absurd (let no : ⊥ = cc in no)))
 
 -- something follows the end line
-pub late-line : (text rest later line : List ℕ) (journal : List Event) → HasRead text journal rest → fed_lines rest ≡ line ∷ fed_lines later
+pub late-line : HaveNoFeeds → (text rest later line : List ℕ) (journal : List Event) → HasRead text journal rest → fed_lines rest ≡ line ∷ fed_lines later
     → line ≡ end_line (length journal) → 0 < length later → IsFaultyAt text (length journal + 3)
-late-line text rest later line journal h first end filled =
+late-line feeds text rest later line journal h first end filled =
     subst (λ (n : ℕ). IsFaultyAt text n) count
-    (fault-after text (journal_lines journal) (fed_lines later) lines
+    (fault-after feeds text (journal_lines journal) (fed_lines later) lines
     (record { journal = journal; ranges = h.ranges; front = take_all (length (journal_lines journal)) (journal_lines journal) (let le : length (journal_lines journal) ≤ length (journal_lines journal) = omega arith in le) })
     (λ l ls is b.
     let rest-lines = drop (length (journal_lines journal ++ l ∷ [])) (journal_lines b.journal) in
@@ -193,18 +193,18 @@ late-line text rest later line journal h first end filled =
     count = let same = length-event_lines 0 journal in let sum = length-append (event_lines 0 journal) (end_line (length journal) ∷ []) in omega (arith, same, sum)
 
 -- the text ends before the end line
-pub no-end-line : (text rest : List ℕ) (journal : List Event) → HasRead text journal rest → length rest ≡ 0 → IsFaultyAt text (length journal + 2)
-no-end-line text [] journal h empty =
+pub no-end-line : HaveNoFeeds → (text rest : List ℕ) (journal : List Event) → HasRead text journal rest → length rest ≡ 0 → IsFaultyAt text (length journal + 2)
+no-end-line feeds text [] journal h empty =
     subst (λ (n : ℕ). IsFaultyAt text n) (count-before journal)
-    (fault-after text (lines_before journal) [] h.lines (begun journal h.ranges)
+    (fault-after feeds text (lines_before journal) [] h.lines (begun journal h.ranges)
     (λ l ls is b. absurd (let no : ⊥ = cc in no))
     (λ none other is. let behind : event_lines 0 journal ≡ event_lines 0 other ++ end_line (length other) ∷ [] = cc in no-end 0 (length other) other journal behind))
-no-end-line text (byte ∷ rest) journal h empty = absurd (omega arith)
+no-end-line feeds text (byte ∷ rest) journal h empty = absurd (omega arith)
 
 -- the text has another first line
-pub bad-first : (text : List ℕ) → ((rest : List ℕ) → text ≡ first_line ++ rest → ⊥) → IsFaultyAt text 1
-bad-first text other =
-    fault-after text [] (fed_lines text) refl (record { journal = []; ranges = none-in; front = refl })
+pub bad-first : HaveNoFeeds → (text : List ℕ) → ((rest : List ℕ) → text ≡ first_line ++ rest → ⊥) → IsFaultyAt text 1
+bad-first feeds text other =
+    fault-after feeds text [] (fed_lines text) refl (record { journal = []; ranges = none-in; front = refl })
     (λ l ls is b.
     let line : first_line ≡ l = cc (b.front) in
     other (concat ls) (sym (concat-fed_lines text) ∙ ap concat (is ∙ ap (λ (line : List ℕ). line ∷ ls) (sym line))))

@@ -1,4 +1,4 @@
--- Whether a journal is legal, and if not, which event is the first that is no step.
+-- Whether a journal is legal, and if not, which event is the first that is no step. (own choice)
 use Rattle.std.specs.Prelude.{◌≡◌, ℕ, true, List, take, Some, Ok, Err, slice_get}
 use Rattle.gaspi_types.specs.World.{World}
 use Rattle.gaspi_types.specs.declared.events.Event.{Event}

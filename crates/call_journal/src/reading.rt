@@ -6,6 +6,7 @@ ghost use Rattle.call_journal.specs.declared.reading.JournalFault.TheVariants as
 
 use crate::Journal;
 use crate::lines::{first_line, is_end_line, read_event_line};
+use gaspi_texts::events_have_no_line_feed;
 use gaspi_types::{Bytes, NoMemory, Rows};
 use std::alloc::Global;
 use thiserror::Error;
@@ -35,6 +36,7 @@ pub fn read(alloc: Global, text: &[u8]) -> Result<Journal, JournalFault>
     ensures ranges { IfOk result (λ journal. AreInRange journal) }
     ensures fault { (line : ℕ) → IsErrOf result (faults.At line) → IsFaultyAt text.now line }
 {
+    events_have_no_line_feed();
     let Some(mut rest) = text.strip_prefix(b"journal 1\n") else {
         return Err(JournalFault::At { line: 1 });
     };

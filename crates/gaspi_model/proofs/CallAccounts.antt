@@ -11,13 +11,13 @@ use Rattle.gaspi_types.specs.declared.entries.Entry.{Entry}
 use Rattle.gaspi_types.specs.declared.entries.Kind.{Kind}
 use Rattle.gaspi_types.specs.declared.shapes.Limits.{Limits}
 use Rattle.gaspi_types.specs.declared.calls.Call.{Call}
-use Rattle.gaspi_types.specs.declared.calls.Call.TheVariants.{Store, Load, Write, Notify, WriteNotify, Wait, Waitsome, Reset, End}
+use Rattle.gaspi_types.specs.declared.calls.Call.TheVariants.{Alloc, Register, Delete, Store, Load, Write, Notify, WriteNotify, Wait, Waitsome, Reset, FetchAdd, CompareSwap, End}
 use Rattle.gaspi_types.specs.declared.replies.Reply.{Reply}
 use Rattle.gaspi_types.specs.declared.replies.Reply.TheVariants as replies
 use Rattle.gaspi_types.specs.declared.replies.Refusal.{Refusal}
 use Rattle.gaspi_types.specs.declared.replies.Refusal.TheVariants.{CallerEnded}
 use Rattle.gaspi_model.specs.State.{owed, queue_owed, is_running, thread_at}
-use Rattle.gaspi_model.specs.Calls.{changed_at, with_entries, with_post, posts_after, counted, charge, post_charge, answer, asked_finds, call_finds, ready_of, recorded_reply}
+use Rattle.gaspi_model.specs.Calls.{changed_at, with_entries, with_post, with_own, posts_after, counted, charge, post_charge, answer, asked_finds, call_finds, ready_of, recorded_reply}
 use Rattle.gaspi_model.specs.declared.states.Queue.{Queue}
 use Rattle.gaspi_model.specs.declared.states.ThreadState.{ThreadState}
 use Rattle.gaspi_model.specs.declared.states.ThreadState.TheVariants as threads
@@ -92,6 +92,11 @@ idle-grows : (b : Bool) (posts : Posts) → (counted (if b then posts else posts
 idle-grows true posts = omega arith
 idle-grows false posts = omega arith
 
+-- a call that leaves the events as they are, and what is owed
+posts-grow : (b : Bool) (posts done : Posts) → done.events ≡ posts.events → owed done ≡ owed posts → (counted (if b then posts else done)).events + owed (counted (if b then posts else done)) ≡ posts.events + owed posts + 1
+posts-grow true posts done events same = omega arith
+posts-grow false posts done events same = omega arith
+
 -- a post, by what it asks for: so many entries, where it is not refused
 posted-grows : (limits : Limits) (posts : Posts) (rank queue count : ℕ) (asked : Result (List Kind) Refusal) (finds : Result (Option Reply) Refusal) → HasLanes limits.ranks posts
     → ((kinds : List Kind) → asked ≡ Ok kinds → length kinds ≡ count) → asked_finds limits posts rank queue asked ≡ finds
@@ -117,6 +122,10 @@ waited-grows false posts queue = let same = waited-owed posts queue in omega ari
 running-grows : (limits : Limits) (me : ℕ) (posts : Posts) (memory : Memory) (thread : ℕ) (call : Call) (finds : Result (Option Reply) Refusal)
     → HasLanes limits.ranks posts → is_running (thread_at posts thread) ≡ true → call_finds limits me posts memory call ≡ finds
     → Grows limits me posts thread call (recorded_reply (ready_of finds))
+running-grows limits me posts memory thread (Alloc seg size) finds lanes running is = posts-grow (is_idle (recorded_reply (ready_of finds))) posts (with_own posts seg size) refl refl
+running-grows limits me posts memory thread (Register seg rank) finds lanes running is = idle-grows (is_idle (recorded_reply (ready_of finds))) posts
+running-grows limits me posts memory thread (Delete seg) finds lanes running is =
+    posts-grow (is_idle (recorded_reply (ready_of finds))) posts (record posts { own = slice_set posts.own seg None }) refl refl
 running-grows limits me posts memory thread (Store seg offset bytes) finds lanes running is = idle-grows (is_idle (recorded_reply (ready_of finds))) posts
 running-grows limits me posts memory thread (Load seg offset size) finds lanes running is = idle-grows (is_idle (recorded_reply (ready_of finds))) posts
 running-grows limits me posts memory thread (Write seg offset rank rseg roffset size queue) finds lanes running is =
@@ -131,6 +140,8 @@ running-grows limits me posts memory thread (WriteNotify seg offset rank rseg ro
 running-grows limits me posts memory thread (Wait queue) finds lanes running is = waited-grows (is_idle (recorded_reply (ready_of finds))) posts queue
 running-grows limits me posts memory thread (Waitsome seg begin num) finds lanes running is = idle-grows (is_idle (recorded_reply (ready_of finds))) posts
 running-grows limits me posts memory thread (Reset seg note) finds lanes running is = idle-grows (is_idle (recorded_reply (ready_of finds))) posts
+running-grows limits me posts memory thread (FetchAdd seg offset rank value) finds lanes running is = idle-grows (is_idle (recorded_reply (ready_of finds))) posts
+running-grows limits me posts memory thread (CompareSwap seg offset rank comparator new) finds lanes running is = idle-grows (is_idle (recorded_reply (ready_of finds))) posts
 running-grows limits me posts memory thread End finds lanes running is =
     let ends = ended-owed posts thread running in
     rw (← is, running) (omega arith)
@@ -138,6 +149,9 @@ running-grows limits me posts memory thread End finds lanes running is =
 -- of a thread that has ended, or has no section
 ended-grows : (limits : Limits) (me : ℕ) (posts : Posts) (thread : ℕ) (call : Call) → is_running (thread_at posts thread) ≡ false
     → Grows limits me posts thread call (replies.Refused CallerEnded)
+ended-grows limits me posts thread (Alloc seg size) ended = omega arith
+ended-grows limits me posts thread (Register seg rank) ended = omega arith
+ended-grows limits me posts thread (Delete seg) ended = omega arith
 ended-grows limits me posts thread (Store seg offset bytes) ended = omega arith
 ended-grows limits me posts thread (Load seg offset size) ended = omega arith
 ended-grows limits me posts thread (Write seg offset rank rseg roffset size queue) ended = omega arith
@@ -146,6 +160,8 @@ ended-grows limits me posts thread (WriteNotify seg offset rank rseg roffset siz
 ended-grows limits me posts thread (Wait queue) ended = omega arith
 ended-grows limits me posts thread (Waitsome seg begin num) ended = omega arith
 ended-grows limits me posts thread (Reset seg note) ended = omega arith
+ended-grows limits me posts thread (FetchAdd seg offset rank value) ended = omega arith
+ended-grows limits me posts thread (CompareSwap seg offset rank comparator new) ended = omega arith
 ended-grows limits me posts thread End ended = rw ended (omega arith)
 
 -- the room that is taken grows by the charge of a call that is recorded with the reply that it has

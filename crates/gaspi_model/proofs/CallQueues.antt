@@ -9,7 +9,7 @@ use Rattle.gaspi_types.specs.declared.entries.Entry.{Entry}
 use Rattle.gaspi_types.specs.declared.entries.Kind.{Kind}
 use Rattle.gaspi_types.specs.declared.shapes.Limits.{Limits}
 use Rattle.gaspi_types.specs.declared.calls.Call.{Call}
-use Rattle.gaspi_types.specs.declared.calls.Call.TheVariants.{Store, Load, Write, Notify, WriteNotify, Wait, Waitsome, Reset, End}
+use Rattle.gaspi_types.specs.declared.calls.Call.TheVariants.{Alloc, Register, Delete, Store, Load, Write, Notify, WriteNotify, Wait, Waitsome, Reset, FetchAdd, CompareSwap, End}
 use Rattle.gaspi_types.specs.declared.replies.Reply.{Reply}
 use Rattle.gaspi_types.specs.declared.replies.Reply.TheVariants as replies
 use Rattle.gaspi_types.specs.declared.replies.Refusal.{Refusal}
@@ -85,6 +85,9 @@ post-queues limits posts rank queue asked reply h all rise =
 
 done-queues : (limits : Limits) (me : ℕ) (posts : Posts) (memory : Memory) (thread : ℕ) (call : Call) (reply : Reply) → call_finds limits me posts memory call ≡ Ok (Some reply)
     → AllSound limits.depth posts.queues → RiseBelow posts.next posts.queues → AllSound limits.depth (posts_done limits me posts thread call).queues
+done-queues limits me posts memory thread (Alloc seg size) reply h all rise = all
+done-queues limits me posts memory thread (Register seg rank) reply h all rise = all
+done-queues limits me posts memory thread (Delete seg) reply h all rise = all
 done-queues limits me posts memory thread (Store seg offset bytes) reply h all rise = all
 done-queues limits me posts memory thread (Load seg offset size) reply h all rise = all
 done-queues limits me posts memory thread (Write seg offset rank rseg roffset size queue) reply h all rise = post-queues limits posts rank queue (write_kinds me posts.own posts.known seg offset rank rseg roffset size) reply h all rise
@@ -96,6 +99,8 @@ done-queues limits me posts memory thread (Wait queue) reply h all rise =
     (λ q at. queue-waited limits.depth q (all queue q at) (wait-done posts queue reply q h at))
 done-queues limits me posts memory thread (Waitsome seg begin num) reply h all rise = all
 done-queues limits me posts memory thread (Reset seg note) reply h all rise = all
+done-queues limits me posts memory thread (FetchAdd seg offset rank value) reply h all rise = all
+done-queues limits me posts memory thread (CompareSwap seg offset rank comparator new) reply h all rise = all
 done-queues limits me posts memory thread End reply h all rise = all
 
 -- the queues after a call that is recorded with the reply that it has

@@ -1,30 +1,20 @@
 -- The opening state is coherent.
-use Rattle.std.proofs.Common.{◌≡◌, ℕ, List, [], ◌∷◌, length, map, replicate, Option, None, Some, refl, sym, ap, ◌∙◌, subst}
+use Rattle.std.proofs.Common.{◌≡◌, ℕ, ◌<◌, arith, List, [], ◌∷◌, length, map, replicate, Option, None, Some, refl, sym, ap, ◌∙◌, subst}
 use Rattle.std.specs.List.{slice_get, range_with_len}
 use Rattle.std.specs.Option.{option_map}
 use Rattle.std.proofs.lemmas.List.{length-replicate}
-use Rattle.std.proofs.lemmas.Option.{slice_get-map}
+use Rattle.std.proofs.lemmas.Option.{slice_get-map, get_or_from_slice_get}
+use Rattle.gaspi_types.specs.SegmentTables.{extent_in, next_generation}
 use Rattle.gaspi_types.specs.World.{World}
 use Rattle.gaspi_types.specs.declared.entries.Entry.{Entry}
 use Rattle.gaspi_types.specs.declared.entries.Extent.{Extent}
-use Rattle.gaspi_model.specs.State.{opening, opening_extents, opening_posts, opening_memory, opening_segment, opening_queue, declared_size, entry_at}
-use Rattle.gaspi_model.specs.Coherence.{extent_of, extents_of, slot_counts, AllFit, IsCoherent}
+use Rattle.gaspi_model.specs.State.{opening, opening_extents, opening_posts, opening_memory, opening_segment, opening_queue, opening_generations, generations_used, declared_size, entry_at}
+use Rattle.gaspi_model.specs.Coherence.{extent_of, extents_of, slot_counts, Tables, tables_of, AreMade, AllFit, IsCoherent}
 use Rattle.gaspi_model.specs.declared.states.Queue.{Queue}
-use Rattle.gaspi_model.specs.declared.states.Posts.{Posts}
 use Rattle.gaspi_model.specs.declared.states.Segment.{Segment}
 use Rattle.gaspi_model.specs.declared.states.Memory.{Memory}
-use Rattle.gaspi_model.proofs.Tables.{slice_get-replicate, joined}
-
--- what stands in a list that was made from another comes from what stands there
-pub map-at : {A B : Type 0} (f : A → B) (xs : List A) (i : ℕ) (y : B) → slice_get (map f xs) i ≡ Some y → (x : A) × (slice_get xs i ≡ Some x) × (y ≡ f x)
-map-at {A} {B} f xs i y h = go (slice_get xs i) refl
-  where
-    go : (o : Option A) → slice_get xs i ≡ o → (x : A) × (slice_get xs i ≡ Some x) × (y ≡ f x)
-    go (Some x) at =
-        let some : ◌≡◌ {A = Option B} (Some (f x)) (Some y) = sym (slice_get-map f xs i ∙ ap (option_map f) at) ∙ h in
-        (x, at, (let same : f x ≡ y = cc in sym same))
-    go None at =
-        absurd (let none : ◌≡◌ {A = Option B} None (Some y) = sym (slice_get-map f xs i ∙ ap (option_map f) at) ∙ h in let no : ⊥ = cc in no)
+use Rattle.gaspi_model.proofs.Successors.{extent-at}
+use Rattle.gaspi_model.proofs.Tables.{slice_get-replicate, joined, map-at}
 
 map-alike : {A B C : Type 0} (f : B → C) (g : A → B) (h : A → C) (xs : List A) → ((x : A) → h x ≡ f (g x)) → map h xs ≡ map f (map g xs)
 map-alike f g h [] alike = refl
@@ -65,7 +55,24 @@ slots-agree w rank segment n h =
     let there = map-at (λ (segment : ℕ). option_map (λ (size : ℕ). w.limits.notes) (declared_size w rank segment)) (range_with_len 0 32) segment (Some n) (subst (λ (t : List (Option ℕ)). slice_get t segment ≡ Some (Some n)) table at) in
     constant w.limits.notes (declared_size w rank there.0) n (sym there.2)
 
-none-fit : (notes : ℕ) (tables : List (List (Option Extent))) (origin queues ranks : ℕ) → AllFit notes tables origin (replicate queues (opening_queue ranks))
+-- each declared segment uses the first generation of its number
+opening-made : (w : World) (rank : ℕ) → AreMade (tables_of (opening_posts w rank))
+opening-made w rank segment x at =
+    let from = map-at (λ (k : ℕ). option_map (λ (size : ℕ). (let e : Extent = record { generation = 0; size = size } in e)) (declared_size w rank k)) (range_with_len 0 32) segment (Some x) (extent-at (opening_extents w rank) segment x at).1 in
+    by-size from.0 from.1 (declared_size w rank from.0) refl from.2
+  where
+    by-size : (k : ℕ) → slice_get (range_with_len 0 32) segment ≡ Some k → (o : Option ℕ) → declared_size w rank k ≡ o
+        → Some x ≡ option_map (λ (size : ℕ). (let e : Extent = record { generation = 0; size = size } in e)) (declared_size w rank k) → x.generation < next_generation (opening_generations w rank) segment
+    by-size k here None is h = absurd (let none : ◌≡◌ {A = Option Extent} (Some x) None = rw is at h in let no : ⊥ = cc in no)
+    by-size k here (Some size) is h =
+        let some : ◌≡◌ {A = Option Extent} (Some x) (Some (record { generation = 0; size = size })) = rw is at h in
+        let first : x.generation ≡ 0 = ap (λ (e : Extent). e.generation) (let same : ◌≡◌ {A = Extent} x (record { generation = 0; size = size }) = cc in same) in
+        let used : slice_get (opening_generations w rank) segment ≡ Some 1 =
+        slice_get-map (λ (n : ℕ). generations_used (declared_size w rank n)) (range_with_len 0 32) segment ∙ ap (option_map (λ (n : ℕ). generations_used (declared_size w rank n))) here ∙ rw is refl in
+        let next : next_generation (opening_generations w rank) segment ≡ 1 = get_or_from_slice_get (opening_generations w rank) segment 1 0 used in
+        omega arith
+
+none-fit : (notes : ℕ) (tables : List Tables) (origin queues ranks : ℕ) → AllFit notes tables origin (replicate queues (opening_queue ranks))
 none-fit notes tables origin queues ranks queue q at target lane here place e there mine theirs hm ht =
     let opened = slice_get-replicate queues (opening_queue ranks) q queue at in
     let none = slice_get-replicate ranks [] lane target (subst (λ (x : Queue). slice_get x.lanes target ≡ Some lane) opened here) in
@@ -81,17 +88,24 @@ opens-coherent w = record {
   slots = λ rank memory hm segment n at.
       let m = map-at (opening_memory w) (range_with_len 0 w.limits.ranks) rank memory hm in
       slots-agree w m.0 segment n (subst (λ (x : Memory). entry_at (slot_counts x) segment ≡ Some n) m.2 at);
+  made = λ rank posts hp.
+      let p = map-at (opening_posts w) (range_with_len 0 w.limits.ranks) rank posts hp in
+      rw p.2 (opening-made w p.0);
   known = λ rank posts hp.
       let p = map-at (opening_posts w) (range_with_len 0 w.limits.ranks) rank posts hp in
-      rw p.2 (λ r table theirs ht hx segment x y at there generation.
+      rw p.2 (λ r table theirs ht hx segment x at.
       let known = map-at (opening_extents w) (range_with_len 0 w.limits.ranks) r table ht in
-      let outer = map-at (λ (q : Posts). q.own) (map (opening_posts w) (range_with_len 0 w.limits.ranks)) r theirs hx in
+      let outer = map-at tables_of (map (opening_posts w) (range_with_len 0 w.limits.ranks)) r theirs hx in
       let inner = map-at (opening_posts w) (range_with_len 0 w.limits.ranks) r outer.0 outer.1 in
       let same : known.0 ≡ inner.0 = (let some : ◌≡◌ {A = Option ℕ} (Some known.0) (Some inner.0) = sym known.1 ∙ inner.1 in cc) in
-      let own : theirs ≡ opening_extents w inner.0 = outer.2 ∙ ap (λ (q : Posts). q.own) inner.2 in
-      let tables : table ≡ theirs = known.2 ∙ ap (opening_extents w) same ∙ sym own in
-      let is : x ≡ y = (let some : ◌≡◌ {A = Option Extent} (Some x) (Some y) = sym (rw (sym tables) at) ∙ there in cc) in
-      ap (λ (e : Extent). e.size) (sym is));
+      let opened : theirs ≡ tables_of (opening_posts w inner.0) = outer.2 ∙ ap tables_of inner.2 in
+      let tables : table ≡ theirs.own = known.2 ∙ ap (opening_extents w) same ∙ ap (λ (x : Tables). x.own) (sym opened) in
+      let here : extent_in theirs.own segment ≡ Some x = rw (sym tables) at in (
+        rw opened (opening-made w inner.0 segment x (subst (λ (q : Tables). extent_in q.own segment ≡ Some x) opened here)),
+        λ y there generation.
+            let is : x ≡ y = (let some : ◌≡◌ {A = Option Extent} (Some x) (Some y) = sym here ∙ there in cc) in
+            ap (λ (e : Extent). e.size) (sym is),
+      ));
   entries = λ origin posts hp.
       let p = map-at (opening_posts w) (range_with_len 0 w.limits.ranks) origin posts hp in
       rw p.2 (none-fit w.limits.notes _ origin w.limits.queues w.limits.ranks);

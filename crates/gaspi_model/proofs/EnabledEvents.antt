@@ -1,9 +1,9 @@
 -- What may come next is a step: a transfer that is listed, and a call with the reply that it has.
-use Rattle.std.proofs.Common.{◌≡◌, ℕ, zero, suc, ◌+◌, ◌*◌, ◌<◌, ◌≤◌, ℤ, Bool, true, false, List, [], ◌∷◌, Option, None, Some, Result, Ok, Err, refl, sym, ◌∙◌, subst, arith, if◌then◌else◌, is_none, IsOk, nat_eq}
+use Rattle.std.proofs.Common.{◌≡◌, ℕ, zero, suc, ◌+◌, ◌*◌, ◌<◌, ◌≤◌, ℤ, Bool, true, false, List, [], ◌∷◌, Option, None, Some, Result, Ok, Err, refl, sym, ◌∙◌, subst, arith, if◌then◌else◌, is_none, IsOk, nat_eq, nat_lt}
 use Rattle.std.specs.List.{slice_get, slice_set, enumerate_from}
 use Rattle.std.specs.Ordering.{int_eq}
 use Rattle.std.specs.Cmp.Lexicographic.{pointwise}
-use Rattle.std.proofs.lemmas.Bool.{le-leb, eq-eqb}
+use Rattle.std.proofs.lemmas.Bool.{le-leb, eq-eqb, ltb-true}
 use Rattle.std.proofs.lemmas.Cmp.{int_eq_equiv}
 use Rattle.std.proofs.lemmas.Option.{slice_get_within}
 use Rattle.gaspi_types.specs.Checks.{◌>>=◌}
@@ -14,7 +14,7 @@ use Rattle.gaspi_types.specs.declared.collectives.Numbers.{Numbers}
 use Rattle.gaspi_types.specs.declared.entries.Entry.{Entry}
 use Rattle.gaspi_types.specs.declared.shapes.Limits.{Limits}
 use Rattle.gaspi_types.specs.declared.calls.Call.{Call}
-use Rattle.gaspi_types.specs.declared.calls.Call.TheVariants.{Store, Load, Write, Notify, WriteNotify, Wait, Waitsome, Reset, End}
+use Rattle.gaspi_types.specs.declared.calls.Call.TheVariants.{Alloc, Register, Delete, Store, Load, Write, Notify, WriteNotify, Wait, Waitsome, Reset, FetchAdd, CompareSwap, End}
 use Rattle.gaspi_types.specs.declared.replies.Refusal.{Refusal}
 use Rattle.gaspi_types.specs.declared.replies.Reply.{Reply}
 use Rattle.gaspi_types.specs.declared.replies.Reply.TheVariants as replies
@@ -25,7 +25,7 @@ use Rattle.gaspi_types.specs.declared.events.Transfer.{Transfer}
 use Rattle.gaspi_types.specs.declared.events.Event.{Event}
 use Rattle.gaspi_types.specs.declared.events.Event.TheVariants.{Called, Take, Put}
 use Rattle.gaspi_model.specs.State.{owed, thread_at, is_running}
-use Rattle.gaspi_model.specs.Calls.{answer, recorded_reply, charge}
+use Rattle.gaspi_model.specs.Calls.{answer, recorded_reply, charge, memory_named, memory_rank, told}
 use Rattle.gaspi_model.specs.Transfers.{find_entry, take, put, put_outcome, same_outcome, transfer_of, lane_transfers, queue_transfers, rank_transfers, transfers}
 use Rattle.gaspi_model.specs.Step.{step, called, is_there, answer_in, is_active, room_taken, transfer_event}
 use Rattle.gaspi_model.specs.Sound.{IsSound}
@@ -84,6 +84,9 @@ done-charge entries false = omega arith
 
 -- no call takes more room than it needs
 pub charge-need : (t : ThreadState) (call : Call) (reply : Reply) → is_running t ≡ true → charge t call reply ≤ need_of call false false
+charge-need t (Alloc seg size) reply running = omega arith
+charge-need t (Register seg rank) reply running = omega arith
+charge-need t (Delete seg) reply running = omega arith
 charge-need t (Store seg offset bytes) reply running = omega arith
 charge-need t (Load seg offset size) reply running = omega arith
 charge-need t (Write seg offset rank rseg roffset size queue) reply running = done-charge 1 (is_done reply)
@@ -92,6 +95,8 @@ charge-need t (WriteNotify seg offset rank rseg roffset size note value queue) r
 charge-need t (Wait queue) reply running = omega arith
 charge-need t (Waitsome seg begin num) reply running = omega arith
 charge-need t (Reset seg note) reply running = omega arith
+charge-need t (FetchAdd seg offset rank value) reply running = omega arith
+charge-need t (CompareSwap seg offset rank comparator new) reply running = omega arith
 charge-need t End reply running = rw running (omega arith)
 
 -- a call of a running thread with the reply that may be recorded, where there is room for it
@@ -125,12 +130,27 @@ ok-then : {A B E : Type 0} (r : Result A E) (f : A → B) → IsOk r → IsOk {E
 ok-then (Ok x) f h = refl
 ok-then (Err e) f h = absurd (let no : ⊥ = cc in no)
 
-called-step : (s : State) (rank thread : ℕ) (call : Call) (posts : Posts) (memory : Memory) → slice_get s.posts rank ≡ Some posts → slice_get s.memories rank ≡ Some memory
+-- the memory that a call works on is that of a rank
+memory_rank-within : (limits : Limits) (me : ℕ) (call : Call) → me < limits.ranks → memory_rank limits me call < limits.ranks
+memory_rank-within limits me call within = go (memory_named call) refl
+  where
+    by-rank : (r : ℕ) → memory_named call ≡ Some r → (b : Bool) → nat_lt r limits.ranks ≡ b → memory_rank limits me call < limits.ranks
+    by-rank r is true less = rw (is, less) (ltb-true r limits.ranks less)
+    by-rank r is false past = rw (is, past) within
+
+    go : (o : Option ℕ) → memory_named call ≡ o → memory_rank limits me call < limits.ranks
+    go None is = rw is within
+    go (Some r) is = by-rank r is (nat_lt r limits.ranks) refl
+
+called-step : (s : State) (rank thread : ℕ) (call : Call) (posts : Posts) (memory : Memory) → slice_get s.posts rank ≡ Some posts → slice_get s.memories (memory_rank s.limits rank call) ≡ Some memory
     → is_running (thread_at posts thread) ≡ true → posts.events + owed posts + need_of call false false ≤ s.limits.events
     → IsOk (step s (Called (record { rank = rank; thread = thread }) call (recorded_reply (answer s.limits rank posts memory thread call))))
 called-step s rank thread call posts memory hp hm running room =
     let reply = recorded_reply (answer s.limits rank posts memory thread call) in
-    rw (hp, hm) (ok-then (called s.limits rank posts memory thread call reply) (λ after. record s { posts = slice_set s.posts rank after.posts; memories = slice_set s.memories rank after.memory })
+    rw (hp, hm) (ok-then (called s.limits rank posts memory thread call reply) (λ after. record s {
+      posts = told rank posts call reply (slice_set s.posts rank after.posts);
+      memories = slice_set s.memories (memory_rank s.limits rank call) after.memory;
+    })
     (called-enabled s.limits rank posts memory thread call running room))
 
 -- a call of an active caller, with the reply that it has, is a step where there is room for it
@@ -139,9 +159,10 @@ pub called-is_step : (s : State) (rank thread : ℕ) (call : Call) (ready : Read
     → IsOk (step s (Called (record { rank = rank; thread = thread }) call (recorded_reply ready)))
 called-is_step s rank thread call ready sound active room is =
     let p = active-posts s rank thread active in
-    go p.0 p.1 p.2 (memory-there s rank sound (let same = sound.ranks in let within = slice_get_within s.posts rank p.0 p.1 in omega arith))
+    let within : rank < s.limits.ranks = (let same = sound.ranks in let there = slice_get_within s.posts rank p.0 p.1 in omega arith) in
+    go p.0 p.1 p.2 (memory-there s (memory_rank s.limits rank call) sound (memory_rank-within s.limits rank call within))
   where
-    go : (posts : Posts) → slice_get s.posts rank ≡ Some posts → is_running (thread_at posts thread) ≡ true → (memory : Memory) × (slice_get s.memories rank ≡ Some memory)
+    go : (posts : Posts) → slice_get s.posts rank ≡ Some posts → is_running (thread_at posts thread) ≡ true → (memory : Memory) × (slice_get s.memories (memory_rank s.limits rank call) ≡ Some memory)
         → IsOk (step s (Called (record { rank = rank; thread = thread }) call (recorded_reply ready)))
     go posts hp running (memory, hm) =
         let room' : posts.events + owed posts + need_of call false false ≤ s.limits.events = rw hp at room in

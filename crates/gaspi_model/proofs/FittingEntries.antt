@@ -1,11 +1,12 @@
 -- Entries keep their ranges within their segments.
-use Rattle.std.proofs.Common.{◌≡◌, ℕ, zero, suc, ◌+◌, Bool, true, false, not, ◌==◌, nat_lt, List, [], ◌∷◌, ◌++◌, length, remove, Option, None, Some, Result, Ok, Err, refl, sym, ap, ◌∙◌, subst, arith, ◌⊎◌, inl, inr, if◌then◌else◌}
+use Rattle.std.proofs.Common.{◌≡◌, ℕ, zero, suc, ◌+◌, Bool, true, false, not, ◌==◌, nat_lt, List, [], ◌∷◌, ◌++◌, length, remove, Option, None, Some, Result, Ok, Err, refl, sym, ap, ◌∙◌, subst, arith, ◌⊎◌, inl, inr}
 use Rattle.std.specs.List.{slice_get, slice_set}
 use Rattle.std.specs.Option.{option_map}
 use Rattle.std.proofs.lemmas.Bool.{leb-true, ltb-true, eqb-true}
 use Rattle.std.proofs.lemmas.Option.{slice_get-map}
 use Rattle.gaspi_types.specs.Lanes.{is_posted, is_posted_phase, posted_entries}
-use Rattle.gaspi_types.specs.Posts.{extent_in, known_extent, write_kinds, notify_kinds, write_notify_kinds}
+use Rattle.gaspi_types.specs.Posts.{write_kinds, notify_kinds, write_notify_kinds}
+use Rattle.gaspi_types.specs.SegmentTables.{extent_in, known_extent}
 use Rattle.gaspi_types.specs.SegmentBytes.{is_transfer_size, is_within}
 use Rattle.gaspi_types.specs.declared.entries.Entry.{Entry}
 use Rattle.gaspi_types.specs.declared.entries.Extent.{Extent}
@@ -14,39 +15,37 @@ use Rattle.gaspi_types.specs.declared.entries.Kind.{Kind}
 use Rattle.gaspi_types.specs.declared.entries.Kind.TheVariants as kinds_of
 use Rattle.gaspi_types.specs.declared.entries.Phase.{Phase}
 use Rattle.gaspi_types.specs.declared.entries.Phase.TheVariants as phases
-use Rattle.gaspi_types.specs.declared.shapes.Limits.{Limits}
-use Rattle.gaspi_types.specs.declared.calls.Call.{Call}
-use Rattle.gaspi_types.specs.declared.calls.Call.TheVariants.{Store, Load, Write, Notify, WriteNotify, Wait, Waitsome, Reset, End}
 use Rattle.gaspi_types.specs.declared.replies.Refusal.{Refusal}
 use Rattle.gaspi_model.specs.State.{segment_at}
-use Rattle.gaspi_model.specs.Calls.{changed_at, with_entries, with_post, posts_done, counted, bytes_of, bytes_in}
+use Rattle.gaspi_model.specs.Calls.{changed_at, with_entries, with_post, bytes_of, bytes_in}
 use Rattle.gaspi_model.specs.Transfers.{with_phase, taken_bytes}
-use Rattle.gaspi_model.specs.Coherence.{extent_of, extents_of, LiesInIfThere, HasSource, Fits, AllFit, Knows}
+use Rattle.gaspi_model.specs.Coherence.{extent_of, extents_of, Tables, WasMade, AreMade, LiesInIfThere, HasSource, Fits, AllFit, Knows}
 use Rattle.gaspi_model.specs.declared.states.Queue.{Queue}
 use Rattle.gaspi_model.specs.declared.states.Posts.{Posts}
 use Rattle.gaspi_model.specs.declared.states.Segment.{Segment}
 use Rattle.gaspi_model.specs.declared.states.Memory.{Memory}
 use Rattle.gaspi_model.proofs.Chains.{check_then, found_then, same_Ok}
 use Rattle.gaspi_model.proofs.Tables.{slice_get-set, append-parts, remove-part}
+use Rattle.gaspi_model.proofs.Successors.{extent-at}
 use Rattle.gaspi_model.proofs.Layouts.{range_of-length}
 
 -- the entries of one lane fit
-abbrev pub LaneFits : ℕ → List (Option Extent) → List (Option Extent) → List Entry → Type 0
+abbrev pub LaneFits : ℕ → Tables → Tables → List Entry → Type 0
 LaneFits notes mine theirs lane = (place : ℕ) (e : Entry) → slice_get lane place ≡ Some e → Fits notes mine theirs e
 
 -- A lane that is changed.
 
 -- an entry in another phase, which has its source still
-phase-fits : (notes : ℕ) (mine theirs : List (Option Extent)) (e : Entry) (phase : Phase) → ((own target : ByteRange) → e.kind ≡ kinds_of.Write own target → HasSource mine own e.phase → HasSource mine own phase)
+phase-fits : (notes : ℕ) (mine theirs : Tables) (e : Entry) (phase : Phase) → ((own target : ByteRange) → e.kind ≡ kinds_of.Write own target → HasSource mine.own own e.phase → HasSource mine.own own phase)
     → Fits notes mine theirs e → Fits notes mine theirs (record e { phase = phase })
 phase-fits notes mine theirs e phase source fits = go e.kind refl fits
   where
     go : (k : Kind) → e.kind ≡ k → Fits notes mine theirs (record { number = e.number; kind = k; phase = e.phase }) → Fits notes mine theirs (record e { phase = phase })
-    go (kinds_of.Write own target) is h = rw is (h.0, h.1, h.2, source own target is h.3)
+    go (kinds_of.Write own target) is h = rw is (h.0, h.1, h.2, h.3, source own target is h.4)
     go (kinds_of.Notify target value) is h = rw is h
 
-pub lane-phase : (notes : ℕ) (mine theirs : List (Option Extent)) (lane : List Entry) (place : ℕ) (e : Entry) (phase : Phase) → slice_get lane place ≡ Some e
-    → ((own target : ByteRange) → e.kind ≡ kinds_of.Write own target → HasSource mine own e.phase → HasSource mine own phase)
+pub lane-phase : (notes : ℕ) (mine theirs : Tables) (lane : List Entry) (place : ℕ) (e : Entry) (phase : Phase) → slice_get lane place ≡ Some e
+    → ((own target : ByteRange) → e.kind ≡ kinds_of.Write own target → HasSource mine.own own e.phase → HasSource mine.own own phase)
     → LaneFits notes mine theirs lane → LaneFits notes mine theirs (with_phase lane place e phase)
 lane-phase notes mine theirs lane place e phase at source all k x here = go (slice_get-set lane place k (record e { phase = phase }) x here)
   where
@@ -54,13 +53,13 @@ lane-phase notes mine theirs lane place e phase at source all k x here = go (sli
     go (inl is) = rw is.1 (phase-fits notes mine theirs e phase source (all place e at))
     go (inr there) = all k x there
 
-pub lane-remove : (notes : ℕ) (mine theirs : List (Option Extent)) (lane : List Entry) (place : ℕ) → LaneFits notes mine theirs lane → LaneFits notes mine theirs (remove lane place)
+pub lane-remove : (notes : ℕ) (mine theirs : Tables) (lane : List Entry) (place : ℕ) → LaneFits notes mine theirs lane → LaneFits notes mine theirs (remove lane place)
 lane-remove notes mine theirs lane place all k x here = let was = remove-part lane place k x here in all was.0 x was.1
 
 -- one lane of one queue replaced
-pub fits-lane : (notes : ℕ) (tables : List (List (Option Extent))) (origin : ℕ) (queues : List Queue) (changed : ℕ) (change : Queue → Queue) (q0 : Queue) (replaced : ℕ) (lane lane' : List Entry)
+pub fits-lane : (notes : ℕ) (tables : List Tables) (origin : ℕ) (queues : List Queue) (changed : ℕ) (change : Queue → Queue) (q0 : Queue) (replaced : ℕ) (lane lane' : List Entry)
     → slice_get queues changed ≡ Some q0 → slice_get q0.lanes replaced ≡ Some lane → (change q0).lanes ≡ slice_set q0.lanes replaced lane'
-    → ((mine theirs : List (Option Extent)) → slice_get tables origin ≡ Some mine → slice_get tables replaced ≡ Some theirs → LaneFits notes mine theirs lane → LaneFits notes mine theirs lane')
+    → ((mine theirs : Tables) → slice_get tables origin ≡ Some mine → slice_get tables replaced ≡ Some theirs → LaneFits notes mine theirs lane → LaneFits notes mine theirs lane')
     → AllFit notes tables origin queues → AllFit notes tables origin (changed_at queues changed change)
 fits-lane notes tables origin queues changed change q0 replaced lane lane' at in_queue lanes keeps all queue q h target l here place e there mine theirs hm ht =
     parts (slice_get-set queues changed queue (change q0) q (rw at at h))
@@ -79,7 +78,7 @@ fits-lane notes tables origin queues changed change q0 replaced lane lane' at in
     parts (inr was) = all queue q was target l here place e there mine theirs hm ht
 
 -- a queue changed, but not its lanes
-pub fits-queue : (notes : ℕ) (tables : List (List (Option Extent))) (origin : ℕ) (queues : List Queue) (changed : ℕ) (change : Queue → Queue) → ((q : Queue) → (change q).lanes ≡ q.lanes)
+pub fits-queue : (notes : ℕ) (tables : List Tables) (origin : ℕ) (queues : List Queue) (changed : ℕ) (change : Queue → Queue) → ((q : Queue) → (change q).lanes ≡ q.lanes)
     → AllFit notes tables origin queues → AllFit notes tables origin (changed_at queues changed change)
 fits-queue notes tables origin queues changed change lanes all queue q h target l here place e there mine theirs hm ht = go (slice_get queues changed) refl
   where
@@ -92,7 +91,7 @@ fits-queue notes tables origin queues changed change lanes all queue q h target 
     go (Some x) at = parts x at (slice_get-set queues changed queue (change x) q (rw at at h))
 
 -- the queue at a place changed, but not its lanes
-pub fits-alike : (notes : ℕ) (tables : List (List (Option Extent))) (origin : ℕ) (queues : List Queue) (changed : ℕ) (change : Queue → Queue) (q0 : Queue) → slice_get queues changed ≡ Some q0
+pub fits-alike : (notes : ℕ) (tables : List Tables) (origin : ℕ) (queues : List Queue) (changed : ℕ) (change : Queue → Queue) (q0 : Queue) → slice_get queues changed ≡ Some q0
     → (change q0).lanes ≡ q0.lanes → AllFit notes tables origin queues → AllFit notes tables origin (changed_at queues changed change)
 fits-alike notes tables origin queues changed change q0 at lanes all queue q h target l here place e there mine theirs hm ht = parts (slice_get-set queues changed queue (change q0) q (rw at at h))
   where
@@ -102,15 +101,8 @@ fits-alike notes tables origin queues changed change q0 at lanes all queue q h t
 
 -- The entries of a post fit.
 
-in-32 : (table : List (Option Extent)) (segment : ℕ) (x : Extent) → extent_in table segment ≡ Some x → nat_lt segment 32 ≡ true
-in-32 table segment x h = go (nat_lt segment 32) refl
-  where
-    go : (b : Bool) → nat_lt segment 32 ≡ b → nat_lt segment 32 ≡ true
-    go true is = is
-    go false is = absurd (let none : ◌≡◌ {A = Option Extent} None (Some x) = rw is at h in let no : ⊥ = cc in no)
-
 -- what a rank knows of a target's segment: its table's entry, of its own or of the others'
-known-cases : {P : Type 0} (me : ℕ) (own : List (Option Extent)) (known : List (List (Option Extent))) (rank segment : ℕ) (x : Extent) → known_extent me own known rank segment ≡ Some x
+pub known-cases : {P : Type 0} (me : ℕ) (own : List (Option Extent)) (known : List (List (Option Extent))) (rank segment : ℕ) (x : Extent) → known_extent me own known rank segment ≡ Some x
     → (rank ≡ me → extent_in own segment ≡ Some x → P) → ((table : List (Option Extent)) → slice_get known rank ≡ Some table → extent_in table segment ≡ Some x → P) → P
 known-cases {P} me own known rank segment x h mine others = go (rank == me) refl
   where
@@ -122,27 +114,43 @@ known-cases {P} me own known rank segment x h mine others = go (rank == me) refl
     go true is = mine (eqb-true rank me is) (rw is at h)
     go false is = in-table (slice_get known rank) refl is
 
--- a range that was checked against what its rank knows lies within the segment, where that is there
-known-lies : (me : ℕ) (own : List (Option Extent)) (known tables : List (List (Option Extent))) (rank segment offset size : ℕ) (x : Extent) (theirs : List (Option Extent))
-    → slice_get tables me ≡ Some own → Knows tables known → known_extent me own known rank segment ≡ Some x → is_within offset size x.size ≡ true → slice_get tables rank ≡ Some theirs
-    → LiesInIfThere theirs (record { segment = segment; generation = x.generation; offset = offset; size = size })
-known-lies me own known tables rank segment offset size x theirs hm knows h within ht y there generation =
-    known-cases me own known rank segment x h
+-- a rank whose tables are those of its posts, and that knows nothing that was not made
+pub record MayPost (tables : List Tables) (me : ℕ) (mine : Tables) (known : List (List (Option Extent))) : Type 0 where
+  pub here : slice_get tables me ≡ Some mine
+  pub knows : Knows tables known
+  pub made : AreMade mine
+
+-- what a rank knows of a target's segment was made
+known-made : (me : ℕ) (mine : Tables) (known : List (List (Option Extent))) (tables : List Tables) (rank segment : ℕ) (x : Extent) (theirs : Tables) → MayPost tables me mine known
+    → known_extent me mine.own known rank segment ≡ Some x → slice_get tables rank ≡ Some theirs → WasMade theirs segment x.generation
+known-made me mine known tables rank segment x theirs may h ht =
+    known-cases me mine.own known rank segment x h
     (λ same at.
-    let same_table : own ≡ theirs = (let some : ◌≡◌ {A = Option (List (Option Extent))} (Some own) (Some theirs) = sym hm ∙ rw (sym same) ht in cc) in
-    let at' : extent_in theirs segment ≡ Some x = rw (sym same_table) at in
+    let same_table : mine ≡ theirs = (let some : ◌≡◌ {A = Option Tables} (Some mine) (Some theirs) = sym may.here ∙ rw (sym same) ht in cc) in
+    rw (sym same_table) (may.made segment x at))
+    (λ table at is. (may.knows rank table theirs at ht segment x is).0)
+
+-- a range that was checked against what its rank knows lies within the segment, where that is there
+known-lies : (me : ℕ) (mine : Tables) (known : List (List (Option Extent))) (tables : List Tables) (rank segment offset size : ℕ) (x : Extent) (theirs : Tables)
+    → MayPost tables me mine known → known_extent me mine.own known rank segment ≡ Some x → is_within offset size x.size ≡ true → slice_get tables rank ≡ Some theirs
+    → LiesInIfThere theirs.own (record { segment = segment; generation = x.generation; offset = offset; size = size })
+known-lies me mine known tables rank segment offset size x theirs may h within ht y there generation =
+    known-cases me mine.own known rank segment x h
+    (λ same at.
+    let same_table : mine ≡ theirs = (let some : ◌≡◌ {A = Option Tables} (Some mine) (Some theirs) = sym may.here ∙ rw (sym same) ht in cc) in
+    let at' : extent_in theirs.own segment ≡ Some x = rw (sym same_table) at in
     let is : x ≡ y = (let some : ◌≡◌ {A = Option Extent} (Some x) (Some y) = sym at' ∙ there in cc) in
     rw (sym is) within)
     (λ table at is.
-    let size_is = knows rank table theirs at ht segment x y is there generation in
+    let size_is = (may.knows rank table theirs at ht segment x is).1 y there generation in
     rw size_is within)
 
 -- the kinds of a post fit, as they are posted
-abbrev KindsFit : ℕ → List (Option Extent) → List (Option Extent) → List Kind → Type 0
+abbrev pub KindsFit : ℕ → Tables → Tables → List Kind → Type 0
 KindsFit notes mine theirs [] = Unit {0}
 KindsFit notes mine theirs (kind ∷ kinds) = ((n : ℕ) → Fits notes mine theirs (record { number = n; kind = kind; phase = phases.Posted })) × KindsFit notes mine theirs kinds
 
-posted-fit : (notes : ℕ) (mine theirs : List (Option Extent)) (kinds : List Kind) (number place : ℕ) (e : Entry) → KindsFit notes mine theirs kinds
+posted-fit : (notes : ℕ) (mine theirs : Tables) (kinds : List Kind) (number place : ℕ) (e : Entry) → KindsFit notes mine theirs kinds
     → slice_get (posted_entries number kinds) place ≡ Some e → Fits notes mine theirs e
 posted-fit notes mine theirs [] number place e fit at = absurd (let no : ⊥ = cc in no)
 posted-fit notes mine theirs (kind ∷ kinds) number zero e fit at =
@@ -151,12 +159,12 @@ posted-fit notes mine theirs (kind ∷ kinds) number zero e fit at =
     rw (sym same) (fit.0 number)
 posted-fit notes mine theirs (kind ∷ kinds) number (suc place) e fit at = posted-fit notes mine theirs kinds (number + 1) place e fit.1 at
 
-write-fits : (notes me : ℕ) (own : List (Option Extent)) (known tables : List (List (Option Extent))) (seg offset rank rseg roffset size : ℕ) (kinds : List Kind) (theirs : List (Option Extent))
-    → slice_get tables me ≡ Some own → slice_get tables rank ≡ Some theirs → Knows tables known
-    → write_kinds me own known seg offset rank rseg roffset size ≡ Ok kinds → KindsFit notes own theirs kinds
-write-fits notes me own known tables seg offset rank rseg roffset size kinds theirs hm ht knows h =
-    found_then (extent_in own seg) _ _ kinds h (λ mine hmine h1.
-    found_then (known_extent me own known rank rseg) _ _ kinds h1 (λ far hfar h2.
+pub write-fits : (notes me : ℕ) (own : Tables) (known : List (List (Option Extent))) (tables : List Tables) (seg offset rank rseg roffset size : ℕ) (kinds : List Kind) (theirs : Tables)
+    → MayPost tables me own known → slice_get tables rank ≡ Some theirs
+    → write_kinds me own.own known seg offset rank rseg roffset size ≡ Ok kinds → KindsFit notes own theirs kinds
+write-fits notes me own known tables seg offset rank rseg roffset size kinds theirs may ht h =
+    found_then (extent_in own.own seg) _ _ kinds h (λ mine hmine h1.
+    found_then (known_extent me own.own known rank rseg) _ _ kinds h1 (λ far hfar h2.
     check_then (is_transfer_size size) _ _ kinds h2 (λ sized h3.
     check_then (is_within offset size mine.size) _ _ kinds h3 (λ from h4.
     check_then (is_within roffset size far.size) _ _ kinds h4 (λ to h5.
@@ -164,28 +172,30 @@ write-fits notes me own known tables seg offset rank rseg roffset size kinds the
     rw (sym is) (
       (λ n. (
         refl,
-        known-cases me own known rank rseg far hfar (λ same at. in-32 own rseg far at) (λ table at inside. in-32 table rseg far inside),
-        known-lies me own known tables rank rseg roffset size far theirs hm knows hfar to ht,
+        known-cases me own.own known rank rseg far hfar (λ same at. (extent-at own.own rseg far at).0) (λ table at inside. (extent-at table rseg far inside).0),
+        known-made me own known tables rank rseg far theirs may hfar ht,
+        known-lies me own known tables rank rseg roffset size far theirs may hfar to ht,
         record { extent = mine; there = hmine; generation = refl; within = from },
       )),
       tt,
     ))))))
 
-notify-fits : (notes me : ℕ) (own : List (Option Extent)) (known : List (List (Option Extent))) (rseg rank note value : ℕ) (kinds : List Kind) (theirs : List (Option Extent))
-    → notify_kinds notes me own known rseg rank note value ≡ Ok kinds → KindsFit notes own theirs kinds
-notify-fits notes me own known rseg rank note value kinds theirs h =
-    found_then (known_extent me own known rank rseg) _ _ kinds h (λ far hfar h1.
+pub notify-fits : (notes me : ℕ) (own : Tables) (known : List (List (Option Extent))) (tables : List Tables) (rseg rank note value : ℕ) (kinds : List Kind) (theirs : Tables)
+    → MayPost tables me own known → slice_get tables rank ≡ Some theirs
+    → notify_kinds notes me own.own known rseg rank note value ≡ Ok kinds → KindsFit notes own theirs kinds
+notify-fits notes me own known tables rseg rank note value kinds theirs may ht h =
+    found_then (known_extent me own.own known rank rseg) _ _ kinds h (λ far hfar h1.
     check_then (nat_lt note notes) _ _ kinds h1 (λ noted h2.
     check_then (not (value == 0)) _ _ kinds h2 (λ valued h3.
     let is = same_Ok _ _ h3 in
-    rw (sym is) ((λ n. ltb-true note notes noted), tt))))
+    rw (sym is) ((λ n. (ltb-true note notes noted, known-made me own known tables rank rseg far theirs may hfar ht)), tt))))
 
-write_notify-fits : (notes me : ℕ) (own : List (Option Extent)) (known tables : List (List (Option Extent))) (seg offset rank rseg roffset size note value : ℕ) (kinds : List Kind) (theirs : List (Option Extent))
-    → slice_get tables me ≡ Some own → slice_get tables rank ≡ Some theirs → Knows tables known
-    → write_notify_kinds notes me own known seg offset rank rseg roffset size note value ≡ Ok kinds → KindsFit notes own theirs kinds
-write_notify-fits notes me own known tables seg offset rank rseg roffset size note value kinds theirs hm ht knows h =
-    found_then (extent_in own seg) _ _ kinds h (λ mine hmine h1.
-    found_then (known_extent me own known rank rseg) _ _ kinds h1 (λ far hfar h2.
+pub write_notify-fits : (notes me : ℕ) (own : Tables) (known : List (List (Option Extent))) (tables : List Tables) (seg offset rank rseg roffset size note value : ℕ) (kinds : List Kind) (theirs : Tables)
+    → MayPost tables me own known → slice_get tables rank ≡ Some theirs
+    → write_notify_kinds notes me own.own known seg offset rank rseg roffset size note value ≡ Ok kinds → KindsFit notes own theirs kinds
+write_notify-fits notes me own known tables seg offset rank rseg roffset size note value kinds theirs may ht h =
+    found_then (extent_in own.own seg) _ _ kinds h (λ mine hmine h1.
+    found_then (known_extent me own.own known rank rseg) _ _ kinds h1 (λ far hfar h2.
     check_then (is_transfer_size size) _ _ kinds h2 (λ sized h3.
     check_then (is_within offset size mine.size) _ _ kinds h3 (λ from h4.
     check_then (is_within roffset size far.size) _ _ kinds h4 (λ to h5.
@@ -195,21 +205,22 @@ write_notify-fits notes me own known tables seg offset rank rseg roffset size no
     rw (sym is) (
       (λ n. (
         refl,
-        known-cases me own known rank rseg far hfar (λ same at. in-32 own rseg far at) (λ table at inside. in-32 table rseg far inside),
-        known-lies me own known tables rank rseg roffset size far theirs hm knows hfar to ht,
+        known-cases me own.own known rank rseg far hfar (λ same at. (extent-at own.own rseg far at).0) (λ table at inside. (extent-at table rseg far inside).0),
+        known-made me own known tables rank rseg far theirs may hfar ht,
+        known-lies me own known tables rank rseg roffset size far theirs may hfar to ht,
         record { extent = mine; there = hmine; generation = refl; within = from },
       )),
-      ((λ n. ltb-true note notes noted), tt),
+      ((λ n. (ltb-true note notes noted, known-made me own known tables rank rseg far theirs may hfar ht)), tt),
     ))))))))
 
 -- a lane with the entries of a post added
-fits-post : (notes : ℕ) (tables : List (List (Option Extent))) (me : ℕ) (posts : Posts) (queue rank : ℕ) (own : List (Option Extent)) (asked : Result (List Kind) Refusal)
-    → slice_get tables me ≡ Some own → ((kinds : List Kind) (theirs : List (Option Extent)) → asked ≡ Ok kinds → slice_get tables rank ≡ Some theirs → KindsFit notes own theirs kinds)
+pub fits-post : (notes : ℕ) (tables : List Tables) (me : ℕ) (posts : Posts) (queue rank : ℕ) (own : Tables) (asked : Result (List Kind) Refusal)
+    → slice_get tables me ≡ Some own → ((kinds : List Kind) (theirs : Tables) → asked ≡ Ok kinds → slice_get tables rank ≡ Some theirs → KindsFit notes own theirs kinds)
     → AllFit notes tables me posts.queues → AllFit notes tables me (with_post posts queue rank asked).queues
 fits-post notes tables me posts queue rank own (Err refusal) hm fit all = all
 fits-post notes tables me posts queue rank own (Ok kinds) hm fit all = with-queue (slice_get posts.queues queue) refl
   where
-    either : (mine theirs : List (Option Extent)) (lane : List Entry) (e : Entry) → KindsFit notes mine theirs kinds → LaneFits notes mine theirs lane
+    either : (mine theirs : Tables) (lane : List Entry) (e : Entry) → KindsFit notes mine theirs kinds → LaneFits notes mine theirs lane
         → ((j : ℕ) × (slice_get lane j ≡ Some e)) ⊎ ((j : ℕ) × (slice_get (posted_entries posts.next kinds) j ≡ Some e)) → Fits notes mine theirs e
     either mine theirs lane e new old (inl was) = old was.0 e was.1
     either mine theirs lane e new old (inr now) = posted-fit notes mine theirs kinds posts.next now.0 e new now.1
@@ -220,78 +231,26 @@ fits-post notes tables me posts queue rank own (Ok kinds) hm fit all = with-queu
     with-lane q at (Some lane) some =
         fits-lane notes tables me posts.queues queue (with_entries rank (posted_entries posts.next kinds)) q rank lane (lane ++ posted_entries posts.next kinds) at some (rw some refl)
         (λ mine theirs hmine ht old place e there.
-        let same : own ≡ mine = (let both : ◌≡◌ {A = Option (List (Option Extent))} (Some own) (Some mine) = sym hm ∙ hmine in cc) in
+        let same : own ≡ mine = (let both : ◌≡◌ {A = Option Tables} (Some own) (Some mine) = sym hm ∙ hmine in cc) in
         either mine theirs lane e (rw (sym same) (fit kinds theirs refl ht)) old (append-parts lane (posted_entries posts.next kinds) place e there)) all
 
     with-queue : (o : Option Queue) → slice_get posts.queues queue ≡ o → AllFit notes tables me (changed_at posts.queues queue (with_entries rank (posted_entries posts.next kinds)))
     with-queue None none = rw none all
     with-queue (Some q) at = with-lane q at (slice_get q.lanes rank) refl
 
--- what a call that is done keeps: the tables of segments, and the fit of the entries
-pub record KeepsFit (notes : ℕ) (tables : List (List (Option Extent))) (me : ℕ) (before after : Posts) : Type 0 where
-  pub own : after.own ≡ before.own
-  pub known : after.known ≡ before.known
-  pub entries : AllFit notes tables me after.queues
-
-with_post-own : (posts : Posts) (queue target : ℕ) (asked : Result (List Kind) Refusal) → (with_post posts queue target asked).own ≡ posts.own
-with_post-own posts queue target (Ok kinds) = refl
-with_post-own posts queue target (Err refusal) = refl
-
-with_post-known : (posts : Posts) (queue target : ℕ) (asked : Result (List Kind) Refusal) → (with_post posts queue target asked).known ≡ posts.known
-with_post-known posts queue target (Ok kinds) = refl
-with_post-known posts queue target (Err refusal) = refl
-
-post-fits : (notes : ℕ) (tables : List (List (Option Extent))) (me : ℕ) (posts : Posts) (queue rank : ℕ) (asked : Result (List Kind) Refusal) → slice_get tables me ≡ Some posts.own
-    → ((kinds : List Kind) (theirs : List (Option Extent)) → asked ≡ Ok kinds → slice_get tables rank ≡ Some theirs → KindsFit notes posts.own theirs kinds)
-    → AllFit notes tables me posts.queues → KeepsFit notes tables me posts (with_post posts queue rank asked)
-post-fits notes tables me posts queue rank asked hm fit all = record {
-  own = with_post-own posts queue rank asked;
-  known = with_post-known posts queue rank asked;
-  entries = fits-post notes tables me posts queue rank posts.own asked hm fit all;
-}
-
-pub done-fits : (limits : Limits) (tables : List (List (Option Extent))) (me : ℕ) (posts : Posts) (thread : ℕ) (call : Call) → slice_get tables me ≡ Some posts.own → Knows tables posts.known
-    → AllFit limits.notes tables me posts.queues → KeepsFit limits.notes tables me posts (posts_done limits me posts thread call)
-done-fits limits tables me posts thread (Store seg offset bytes) hm knows all = record { own = refl; known = refl; entries = all }
-done-fits limits tables me posts thread (Load seg offset size) hm knows all = record { own = refl; known = refl; entries = all }
-done-fits limits tables me posts thread (Write seg offset rank rseg roffset size queue) hm knows all =
-    post-fits limits.notes tables me posts queue rank (write_kinds me posts.own posts.known seg offset rank rseg roffset size) hm
-    (λ kinds theirs asks ht. write-fits limits.notes me posts.own posts.known tables seg offset rank rseg roffset size kinds theirs hm ht knows asks) all
-done-fits limits tables me posts thread (Notify rseg rank note value queue) hm knows all =
-    post-fits limits.notes tables me posts queue rank (notify_kinds limits.notes me posts.own posts.known rseg rank note value) hm
-    (λ kinds theirs asks ht. notify-fits limits.notes me posts.own posts.known rseg rank note value kinds theirs asks) all
-done-fits limits tables me posts thread (WriteNotify seg offset rank rseg roffset size note value queue) hm knows all =
-    post-fits limits.notes tables me posts queue rank (write_notify_kinds limits.notes me posts.own posts.known seg offset rank rseg roffset size note value) hm
-    (λ kinds theirs asks ht. write_notify-fits limits.notes me posts.own posts.known tables seg offset rank rseg roffset size note value kinds theirs hm ht knows asks) all
-done-fits limits tables me posts thread (Wait queue) hm knows all =
-    record { own = refl; known = refl; entries = fits-queue limits.notes tables me posts.queues queue (λ (q : Queue). record q { open_count = 0 }) (λ q. refl) all }
-done-fits limits tables me posts thread (Waitsome seg begin num) hm knows all = record { own = refl; known = refl; entries = all }
-done-fits limits tables me posts thread (Reset seg note) hm knows all = record { own = refl; known = refl; entries = all }
-done-fits limits tables me posts thread End hm knows all = record { own = refl; known = refl; entries = all }
-
-pub idle-fits : (notes : ℕ) (tables : List (List (Option Extent))) (me : ℕ) (b : Bool) (posts done : Posts) → AllFit notes tables me posts.queues → KeepsFit notes tables me posts done
-    → KeepsFit notes tables me posts (counted (if b then posts else done))
-idle-fits notes tables me true posts done all keeps = record { own = refl; known = refl; entries = all }
-idle-fits notes tables me false posts done all keeps = record { own = keeps.own; known = keeps.known; entries = keeps.entries }
-
 -- A write that takes its bytes takes as many as its range has.
 
 -- the segment behind an entry of the table of own segments
 pub segment-behind : (memory : Memory) (segment : ℕ) (x : Extent) → extent_in (extents_of memory) segment ≡ Some x → (s : Segment) × (segment_at memory segment ≡ Some s) × (extent_of s ≡ x)
-segment-behind memory segment x h = by-bound (nat_lt segment 32) refl
+segment-behind memory segment x h = by-item (slice_get memory.segments segment) refl (sym (slice_get-map (option_map extent_of) memory.segments segment) ∙ (extent-at (extents_of memory) segment x h).1)
   where
-    by-item : (o : Option (Option Segment)) → slice_get memory.segments segment ≡ o → nat_lt segment 32 ≡ true → (s : Segment) × (segment_at memory segment ≡ Some s) × (extent_of s ≡ x)
-    by-item None at less =
-        absurd (let none : ◌≡◌ {A = Option Extent} None (Some x) = rw (less, slice_get-map (option_map extent_of) memory.segments segment, at) at h in let no : ⊥ = cc in no)
-    by-item (Some None) at less =
-        absurd (let none : ◌≡◌ {A = Option Extent} None (Some x) = rw (less, slice_get-map (option_map extent_of) memory.segments segment, at) at h in let no : ⊥ = cc in no)
-    by-item (Some (Some s)) at less =
-        let some : ◌≡◌ {A = Option Extent} (Some (extent_of s)) (Some x) = rw (less, slice_get-map (option_map extent_of) memory.segments segment, at) at h in
+    by-item : (o : Option (Option Segment)) → slice_get memory.segments segment ≡ o → option_map (option_map extent_of) (slice_get memory.segments segment) ≡ Some (Some x)
+        → (s : Segment) × (segment_at memory segment ≡ Some s) × (extent_of s ≡ x)
+    by-item None at is = absurd (let none : ◌≡◌ {A = Option (Option Extent)} None (Some (Some x)) = rw at at is in let no : ⊥ = cc in no)
+    by-item (Some None) at is = absurd (let none : ◌≡◌ {A = Option (Option Extent)} (Some None) (Some (Some x)) = rw at at is in let no : ⊥ = cc in no)
+    by-item (Some (Some s)) at is =
+        let some : ◌≡◌ {A = Option (Option Extent)} (Some (Some (extent_of s))) (Some (Some x)) = rw at at is in
         (s, rw at refl, (let same : extent_of s ≡ x = cc in same))
-
-    by-bound : (b : Bool) → nat_lt segment 32 ≡ b → (s : Segment) × (segment_at memory segment ≡ Some s) × (extent_of s ≡ x)
-    by-bound true is = by-item (slice_get memory.segments segment) refl is
-    by-bound false is = absurd (let none : ◌≡◌ {A = Option Extent} None (Some x) = rw is at h in let no : ⊥ = cc in no)
 
 -- and the table's entry of a segment that is there
 pub extent-there : (memory : Memory) (segment : ℕ) (s : Segment) → nat_lt segment 32 ≡ true → segment_at memory segment ≡ Some s → extent_in (extents_of memory) segment ≡ Some (extent_of s)

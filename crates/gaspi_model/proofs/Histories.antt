@@ -9,7 +9,7 @@ use Rattle.gaspi_types.specs.declared.replies.Reply.{Reply}
 use Rattle.gaspi_types.specs.declared.events.Event.{Event}
 use Rattle.gaspi_types.specs.declared.events.Event.TheVariants.{Called}
 use Rattle.gaspi_model.specs.State.{opening}
-use Rattle.gaspi_model.specs.Calls.{counted}
+use Rattle.gaspi_model.specs.Calls.{counted, memory_rank}
 use Rattle.gaspi_model.specs.Step.{step, after, reached, is_legal}
 use Rattle.gaspi_model.specs.Sound.{IsSound}
 use Rattle.gaspi_model.specs.Changes.{IsOnlyCounted}
@@ -82,5 +82,5 @@ only-counted s t c call reply idle h =
     record {
       posts = made.0;
       there = m.posts_there;
-      after = m.leaves ∙ rw (posts, memory, set-there s.memories c.rank made.1 m.memory_there) refl;
+      after = m.leaves ∙ rw (idle, posts, memory, set-there s.memories (memory_rank s.limits c.rank call) made.1 m.memory_there) refl;
     }

@@ -1,19 +1,18 @@
--- No event changes which segments a memory has, their generations, or how many bytes and slots they have.
-use Rattle.std.proofs.Common.{◌≡◌, ℕ, zero, suc, ◌+◌, ◌≤◌, Bool, true, false, List, [], ◌∷◌, ◌++◌, length, map, Option, None, Some, refl, ap, ◌∙◌, arith, if◌then◌else◌, take, drop}
+-- Which segments a memory has, their generations, and how many bytes and slots they have: no event changes it but the calls
+-- that make a segment and delete one.
+use Rattle.std.proofs.Common.{◌≡◌, ℕ, zero, suc, ◌+◌, ◌==◌, ◌≤◌, Bool, true, false, List, [], ◌∷◌, ◌++◌, length, map, Option, None, Some, refl, ap, ◌∙◌, arith, take, drop}
 use Rattle.std.specs.List.{slice_get, slice_set}
 use Rattle.std.specs.Option.{option_map}
 use Rattle.std.proofs.lemmas.Bool.{leb-true}
 use Rattle.std.proofs.lemmas.List.{length-set, length-append, length-take-le, length-drop}
+use Rattle.byteorder.specs.Endian.{little_bytes}
+use Rattle.gaspi_types.specs.SegmentWords.{word_at, with_swap}
 use Rattle.gaspi_types.specs.SegmentBytes.{is_within, range_of, with_range}
 use Rattle.gaspi_types.specs.declared.entries.Entry.{Entry}
 use Rattle.gaspi_types.specs.declared.entries.Kind.{Kind}
 use Rattle.gaspi_types.specs.declared.entries.Kind.TheVariants.{Write, Notify}
-use Rattle.gaspi_types.specs.declared.calls.Call.{Call}
-use Rattle.gaspi_types.specs.declared.calls.Call.TheVariants.{Store, Load, Write, Notify, WriteNotify, Wait, Waitsome, Reset, End}
-use Rattle.gaspi_types.specs.declared.replies.Reply.{Reply}
-use Rattle.gaspi_types.specs.Replies.{is_idle}
 use Rattle.gaspi_model.specs.State.{segment_at}
-use Rattle.gaspi_model.specs.Calls.{bytes_of, slots_of, bytes_in, slots_in, with_bytes, with_slots, memory_done, memory_after}
+use Rattle.gaspi_model.specs.Calls.{bytes_of, slots_of, bytes_in, slots_in, with_bytes, with_slots}
 use Rattle.gaspi_model.specs.Transfers.{memory_put, carried_bytes}
 use Rattle.gaspi_model.specs.Coherence.{extent_of, extents_of, slot_counts}
 use Rattle.gaspi_model.specs.declared.states.Segment.{Segment}
@@ -70,7 +69,7 @@ changed-layout m segment change extents counts = record {
     count-alike None same = refl
     count-alike (Some s) same = ap (λ (n : ℕ). Some n) (same s refl)
 
-bytes-layout : (m : Memory) (segment offset : ℕ) (new : List ℕ) → HaveSameLayout m (with_bytes m segment (with_range (bytes_of m segment) offset new))
+pub bytes-layout : (m : Memory) (segment offset : ℕ) (new : List ℕ) → HaveSameLayout m (with_bytes m segment (with_range (bytes_of m segment) offset new))
 bytes-layout m segment offset new =
     changed-layout m segment (λ (s : Segment). record s { bytes = with_range (bytes_of m segment) offset new })
     (λ s is.
@@ -78,29 +77,28 @@ bytes-layout m segment offset new =
     rw same refl)
     (λ s is. refl)
 
-slots-layout : (m : Memory) (segment note value : ℕ) → HaveSameLayout m (with_slots m segment (slice_set (slots_of m segment) note value))
+pub slots-layout : (m : Memory) (segment note value : ℕ) → HaveSameLayout m (with_slots m segment (slice_set (slots_of m segment) note value))
 slots-layout m segment note value =
     changed-layout m segment (λ (s : Segment). record s { slots = slice_set (slots_of m segment) note value })
     (λ s is. refl)
     (λ s is. length-set (slots_of m segment) note value ∙ ap (λ (o : Option Segment). length (slots_in o)) is)
 
-done-layout : (m : Memory) (call : Call) → HaveSameLayout m (memory_done m call)
-done-layout m (Store seg offset bytes) = bytes-layout m seg offset bytes
-done-layout m (Load seg offset size) = same-layout m
-done-layout m (Write seg offset rank rseg roffset size queue) = same-layout m
-done-layout m (Notify rseg rank note value queue) = same-layout m
-done-layout m (WriteNotify seg offset rank rseg roffset size note value queue) = same-layout m
-done-layout m (Wait queue) = same-layout m
-done-layout m (Waitsome seg begin num) = same-layout m
-done-layout m (Reset seg note) = slots-layout m seg note 0
-done-layout m End = same-layout m
+-- the bytes of a segment replaced by as many
+pub replaced-layout : (m : Memory) (segment : ℕ) (new : List ℕ) → length new ≡ length (bytes_of m segment) → HaveSameLayout m (with_bytes m segment new)
+replaced-layout m segment new same =
+    changed-layout m segment (λ (s : Segment). record s { bytes = new })
+    (λ s is.
+    let size : length new ≡ length s.bytes = same ∙ ap (λ (o : Option Segment). length (bytes_in o)) is in
+    rw size refl)
+    (λ s is. refl)
 
-pub after-layout : (m : Memory) (call : Call) (reply : Reply) → HaveSameLayout m (memory_after m call reply)
-after-layout m call reply = go (is_idle reply) (done-layout m call)
+-- a word replaced, or not, leaves as many bytes
+pub with_swap-length : (bytes : List ℕ) (offset comparator new : ℕ) → length (with_swap bytes offset comparator new) ≡ length bytes
+with_swap-length bytes offset comparator new = go (word_at bytes offset == comparator) refl
   where
-    go : (b : Bool) → HaveSameLayout m (memory_done m call) → HaveSameLayout m (if b then m else memory_done m call)
-    go true done = same-layout m
-    go false done = done
+    go : (b : Bool) → (word_at bytes offset == comparator) ≡ b → length (with_swap bytes offset comparator new) ≡ length bytes
+    go true is = rw is (with_range-length bytes offset (little_bytes 8 new))
+    go false is = rw is refl
 
 pub put-layout : (m : Memory) (e : Entry) → HaveSameLayout m (memory_put m e)
 put-layout m e = go e.kind refl

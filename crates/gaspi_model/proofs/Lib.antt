@@ -1,6 +1,8 @@
 pub mod WorkedHistories
 pub mod Chains
 pub mod Tables
+pub mod Told
+pub mod Successors
 pub mod Same
 pub mod Made
 pub mod Rising
@@ -12,12 +14,15 @@ pub mod Activity
 pub mod EnabledEvents
 pub mod LocalSteps
 pub mod PutDone
+pub mod Written
+pub mod CorruptMarks
 pub mod Histories
 pub mod NotificationOrder
 pub mod OpenCounts
 pub mod CallQueues
 pub mod Layouts
 pub mod FittingEntries
+pub mod CallTables
 pub mod CoherentSteps
 pub mod CoherentOpening
 pub mod PostStands

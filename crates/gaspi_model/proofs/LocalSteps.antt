@@ -1,24 +1,31 @@
 -- An event reads and changes the parts of its shards alone.
-use Rattle.std.proofs.Common.{◌≡◌, ℕ, true, false, ◌==◌, List, [], ◌∷◌, Option, None, Some, Result, Ok, Err, refl, sym, ◌∙◌, subst}
+use Rattle.std.proofs.Common.{◌≡◌, ℕ, Bool, true, false, ◌==◌, nat_lt, List, [], ◌∷◌, Option, None, Some, Result, Ok, Err, refl, sym, ap, ◌∙◌, subst, if◌then◌else◌}
 use Rattle.std.specs.List.{slice_get, slice_set}
 use Rattle.std.proofs.lemmas.Bool.{eq-eqb, eqb-true}
 use Rattle.gaspi_types.specs.Lanes.{place_of}
 use Rattle.gaspi_types.specs.declared.shapes.CallerId.{CallerId}
 use Rattle.gaspi_types.specs.declared.entries.Entry.{Entry}
+use Rattle.gaspi_types.specs.declared.shapes.Limits.{Limits}
 use Rattle.gaspi_types.specs.declared.calls.Call.{Call}
+use Rattle.gaspi_types.specs.declared.calls.Call.TheVariants.{Register, FetchAdd, CompareSwap}
 use Rattle.gaspi_types.specs.declared.replies.Reply.{Reply}
 use Rattle.gaspi_types.specs.declared.events.Outcome.{Outcome}
 use Rattle.gaspi_types.specs.declared.events.Event.{Event}
 use Rattle.gaspi_types.specs.declared.events.Event.TheVariants.{Called, Take, Put}
+use Rattle.gaspi_model.specs.Calls.{call_finds, register_finds, memory_rank, told}
 use Rattle.gaspi_model.specs.Transfers.{Found, Parts, find_entry, take, put}
 use Rattle.gaspi_model.specs.Step.{step, called}
-use Rattle.gaspi_model.specs.Shards.{owner_of, standing, put_shards, shards, is_shard, HaveSamePart, AgreeOn, ComeToSame}
+use Rattle.gaspi_model.specs.Shards.{owner_of, standing, put_shards, rank_named, call_shards, shards, is_shard, HaveSamePart, AgreeOn, ComeToSame}
 use Rattle.gaspi_model.specs.declared.states.Queue.{Queue}
 use Rattle.gaspi_model.specs.declared.states.Posts.{Posts}
 use Rattle.gaspi_model.specs.declared.states.Memory.{Memory}
 use Rattle.gaspi_model.specs.declared.states.State.{State}
 use Rattle.gaspi_model.specs.declared.states.Why.{Why}
 use Rattle.gaspi_model.specs.declared.states.Why.TheVariants as whys
+use Rattle.gaspi_model.proofs.Chains.{check_then}
+use Rattle.gaspi_model.proofs.Same.{same_reply-same}
+use Rattle.gaspi_model.proofs.Told.{told-agree, told-elsewhere}
+use Rattle.gaspi_model.proofs.CallQueues.{found-reply}
 use Rattle.gaspi_model.proofs.Made.{IsFound, step-called, step-take, step-put}
 use Rattle.gaspi_model.proofs.Tables.{slice_get-set_same, slice_get-set_other}
 
@@ -40,6 +47,41 @@ second-is-shard a b = go (a == b) refl
     go true is = rw is refl
     go false is = rw (is, eq-eqb b b refl) refl
 
+not-shard : (list : List ℕ) (rank shard : ℕ) → is_shard list rank ≡ false → is_shard list shard ≡ true → shard ≡ rank → ⊥
+not-shard list rank shard out is same = let never : true ≡ false = sym (rw (sym same) is) ∙ out in cc
+
+-- The shards of a call: its caller's rank, that of the memory that it works on, and that to which it tells a segment.
+
+caller-is-shard : (ranks me : ℕ) (o : Option ℕ) → is_shard (call_shards ranks me o) me ≡ true
+caller-is-shard ranks me None = first-is-shard me []
+caller-is-shard ranks me (Some r) = by-rank (nat_lt r ranks)
+  where
+    by-rank : (b : Bool) → is_shard (if b then me ∷ r ∷ [] else me ∷ []) me ≡ true
+    by-rank true = first-is-shard me (r ∷ [])
+    by-rank false = first-is-shard me []
+
+named-is-shard : (ranks me r : ℕ) → nat_lt r ranks ≡ true → is_shard (call_shards ranks me (Some r)) r ≡ true
+named-is-shard ranks me r less = rw less (second-is-shard me r)
+
+atomic-is-shard : (ranks me r : ℕ) → is_shard (call_shards ranks me (Some r)) (if nat_lt r ranks then r else me) ≡ true
+atomic-is-shard ranks me r = go (nat_lt r ranks) refl
+  where
+    go : (b : Bool) → nat_lt r ranks ≡ b → is_shard (call_shards ranks me (Some r)) (if nat_lt r ranks then r else me) ≡ true
+    go true is = rw is (second-is-shard me r)
+    go false is = rw is (first-is-shard me [])
+
+memory-is-shard : (limits : Limits) (me : ℕ) (call : Call) → is_shard (call_shards limits.ranks me (rank_named call)) (memory_rank limits me call) ≡ true
+memory-is-shard limits me (Register seg rank) = caller-is-shard limits.ranks me (Some rank)
+memory-is-shard limits me (FetchAdd seg offset rank value) = atomic-is-shard limits.ranks me rank
+memory-is-shard limits me (CompareSwap seg offset rank comparator new) = atomic-is-shard limits.ranks me rank
+memory-is-shard limits me other = first-is-shard me []
+
+registered-is-shard : (limits : Limits) (me : ℕ) (posts : Posts) (memory : Memory) (call : Call) (reply : Reply) (seg r : ℕ) → call ≡ Register seg r → call_finds limits me posts memory call ≡ Ok (Some reply)
+    → is_shard (call_shards limits.ranks me (rank_named call)) r ≡ true
+registered-is-shard limits me posts memory call reply seg r is finds =
+    let registers : register_finds limits posts seg r ≡ Ok (Some reply) = rw is at finds in
+    check_then (nat_lt r limits.ranks) _ _ (Some reply) registers (λ less rest. rw is (named-is-shard limits.ranks me r less))
+
 -- the entry that an event's step found
 standing-found : (s : State) (posts : Posts) (origin queue target number : ℕ) (at : Found) → slice_get s.posts origin ≡ Some posts
     → find_entry posts queue target number whys.Put ≡ Ok at → standing s origin queue target number ≡ Some at.entry
@@ -57,8 +99,12 @@ pub frame : (s t : State) (e : Event) (rank : ℕ) → step s e ≡ Ok t → is_
 frame s t (Called c call reply) rank h out =
     let made = step-called s t c call reply h in
     let m = made.3 in
-    let apart = (outside c.rank [] rank out).0 in
-    rw m.leaves (record { posts = frame-one s.posts c.rank rank made.2.posts apart; memory = frame-one s.memories c.rank rank made.2.memory apart })
+    let shards_of = call_shards s.limits.ranks c.rank (rank_named call) in
+    let caller = not-shard shards_of rank c.rank out (caller-is-shard s.limits.ranks c.rank (rank_named call)) in
+    let worked = not-shard shards_of rank (memory_rank s.limits c.rank call) out (memory-is-shard s.limits c.rank call) in
+    let elsewhere = told-elsewhere c.rank made.0 call reply (slice_set s.posts c.rank made.2.posts) rank (λ seg r is awake.
+    not-shard shards_of rank r out (registered-is-shard s.limits c.rank made.0 made.1 call reply seg r is (found-reply s.limits c.rank made.0 made.1 c.thread call reply (same_reply-same _ _ m.is.answered) awake))) in
+    rw m.leaves (record { posts = elsewhere ∙ frame-one s.posts c.rank rank made.2.posts caller; memory = frame-one s.memories (memory_rank s.limits c.rank call) rank made.2.memory worked })
 frame s t (Take origin queue target number outcome) rank h out =
     let made = step-take s t origin queue target number outcome h in
     let m = made.4 in
@@ -74,7 +120,7 @@ frame s t (Put origin queue target number outcome) rank h out =
     rw m.leaves (record { posts = frame-one s.posts origin rank made.2.posts first.0; memory = frame-one s.memories target rank made.2.memory second.0 })
 
 pub owner-is-shard : (s : State) (e : Event) → is_shard (shards s e) (owner_of e) ≡ true
-owner-is-shard s (Called c call reply) = first-is-shard c.rank []
+owner-is-shard s (Called c call reply) = caller-is-shard s.limits.ranks c.rank (rank_named call)
 owner-is-shard s (Take origin queue target number outcome) = first-is-shard origin []
 owner-is-shard s (Put origin queue target number outcome) = go (standing s origin queue target number)
   where
@@ -82,10 +128,10 @@ owner-is-shard s (Put origin queue target number outcome) = go (standing s origi
     go None = first-is-shard origin []
     go (Some e) = first-is-shard origin (target ∷ [])
 
-pub shards-by-owner : (s s' : State) (e : Event) → HaveSamePart s s' (owner_of e) → shards s e ≡ shards s' e
-shards-by-owner s s' (Called c call reply) same = refl
-shards-by-owner s s' (Take origin queue target number outcome) same = refl
-shards-by-owner s s' (Put origin queue target number outcome) same = rw same.posts refl
+pub shards-by-owner : (s s' : State) (e : Event) → s.limits ≡ s'.limits → HaveSamePart s s' (owner_of e) → shards s e ≡ shards s' e
+shards-by-owner s s' (Called c call reply) limits same = ap (λ (l : Limits). call_shards l.ranks c.rank (rank_named call)) limits
+shards-by-owner s s' (Take origin queue target number outcome) limits same = refl
+shards-by-owner s s' (Put origin queue target number outcome) limits same = rw same.posts refl
 
 -- Determinism.
 
@@ -103,40 +149,53 @@ set-agree {A} table table' place rank x y at same here = go (place == rank) refl
         let apart = (λ (e : place ≡ rank). let yes = eq-eqb place rank e in let no : ⊥ = cc in no) in
         slice_get-set_other table place rank y apart ∙ here ∙ sym (slice_get-set_other table' place rank y apart)
 
-called-same : (s s' : State) (c : CallerId) (call : Call) (reply : Reply) → AgreeOn (c.rank ∷ []) s s' → ComeToSame (c.rank ∷ []) (step s (Called c call reply)) (step s' (Called c call reply))
+called-same : (s s' : State) (c : CallerId) (call : Call) (reply : Reply) → AgreeOn (call_shards s.limits.ranks c.rank (rank_named call)) s s'
+    → ComeToSame (call_shards s.limits.ranks c.rank (rank_named call)) (step s (Called c call reply)) (step s' (Called c call reply))
 called-same s s' c call reply agree = with-posts (slice_get s.posts c.rank) refl
   where
     part : HaveSamePart s s' c.rank
-    part = agree.parts c.rank (first-is-shard c.rank [])
+    part = agree.parts c.rank (caller-is-shard s.limits.ranks c.rank (rank_named call))
 
-    after : (posts : Posts) (memory : Memory) → slice_get s.posts c.rank ≡ Some posts → slice_get s.memories c.rank ≡ Some memory → (parts : Parts)
-        → AgreeOn (c.rank ∷ []) (record s { posts = slice_set s.posts c.rank parts.posts; memories = slice_set s.memories c.rank parts.memory })
-        (record s' { posts = slice_set s'.posts c.rank parts.posts; memories = slice_set s'.memories c.rank parts.memory })
+    worked : HaveSamePart s s' (memory_rank s.limits c.rank call)
+    worked = agree.parts (memory_rank s.limits c.rank call) (memory-is-shard s.limits c.rank call)
+
+    same_rank : memory_rank s.limits c.rank call ≡ memory_rank s'.limits c.rank call
+    same_rank = ap (λ (l : Limits). memory_rank l c.rank call) agree.limits
+
+    memory' : (o : Option Memory) → slice_get s.memories (memory_rank s.limits c.rank call) ≡ o → slice_get s'.memories (memory_rank s'.limits c.rank call) ≡ o
+    memory' o hm = ap (slice_get s'.memories) (sym same_rank) ∙ sym worked.memory ∙ hm
+
+    after : (posts : Posts) (memory : Memory) → slice_get s.posts c.rank ≡ Some posts → slice_get s.memories (memory_rank s.limits c.rank call) ≡ Some memory → (parts : Parts)
+        → AgreeOn (call_shards s.limits.ranks c.rank (rank_named call))
+        (record s { posts = told c.rank posts call reply (slice_set s.posts c.rank parts.posts); memories = slice_set s.memories (memory_rank s.limits c.rank call) parts.memory })
+        (record s' { posts = told c.rank posts call reply (slice_set s'.posts c.rank parts.posts); memories = slice_set s'.memories (memory_rank s'.limits c.rank call) parts.memory })
     after posts memory hp hm parts = record {
       limits = agree.limits;
       parts = λ rank is. record {
-        posts = set-agree s.posts s'.posts c.rank rank posts parts.posts hp part.posts (agree.parts rank is).posts;
-        memory = set-agree s.memories s'.memories c.rank rank memory parts.memory hm part.memory (agree.parts rank is).memory;
+        posts = told-agree c.rank posts call reply (slice_set s.posts c.rank parts.posts) (slice_set s'.posts c.rank parts.posts) rank
+            (set-agree s.posts s'.posts c.rank rank posts parts.posts hp part.posts (agree.parts rank is).posts);
+        memory = set-agree s.memories s'.memories (memory_rank s.limits c.rank call) rank memory parts.memory hm worked.memory (agree.parts rank is).memory
+            ∙ ap (λ (k : ℕ). slice_get (slice_set s'.memories k parts.memory) rank) same_rank;
       };
     }
 
-    with-result : (posts : Posts) (memory : Memory) → slice_get s.posts c.rank ≡ Some posts → slice_get s.memories c.rank ≡ Some memory → (r : Result Parts Why)
-        → called s.limits c.rank posts memory c.thread call reply ≡ r → ComeToSame (c.rank ∷ []) (step s (Called c call reply)) (step s' (Called c call reply))
+    with-result : (posts : Posts) (memory : Memory) → slice_get s.posts c.rank ≡ Some posts → slice_get s.memories (memory_rank s.limits c.rank call) ≡ Some memory → (r : Result Parts Why)
+        → called s.limits c.rank posts memory c.thread call reply ≡ r → ComeToSame (call_shards s.limits.ranks c.rank (rank_named call)) (step s (Called c call reply)) (step s' (Called c call reply))
     with-result posts memory hp hm (Ok parts) is =
         let is' : called s'.limits c.rank posts memory c.thread call reply ≡ Ok parts = rw (sym agree.limits) is in
-        rw (hp, sym part.posts ∙ hp, hm, sym part.memory ∙ hm, is, is') (after posts memory hp hm parts)
+        rw (hp, sym part.posts ∙ hp, hm, memory' (Some memory) hm, is, is') (after posts memory hp hm parts)
     with-result posts memory hp hm (Err why) is =
         let is' : called s'.limits c.rank posts memory c.thread call reply ≡ Err why = rw (sym agree.limits) is in
-        rw (hp, sym part.posts ∙ hp, hm, sym part.memory ∙ hm, is, is') refl
+        rw (hp, sym part.posts ∙ hp, hm, memory' (Some memory) hm, is, is') refl
 
-    with-memory : (posts : Posts) → slice_get s.posts c.rank ≡ Some posts → (o : Option Memory) → slice_get s.memories c.rank ≡ o
-        → ComeToSame (c.rank ∷ []) (step s (Called c call reply)) (step s' (Called c call reply))
-    with-memory posts hp None hm = rw (hp, sym part.posts ∙ hp, hm, sym part.memory ∙ hm) refl
+    with-memory : (posts : Posts) → slice_get s.posts c.rank ≡ Some posts → (o : Option Memory) → slice_get s.memories (memory_rank s.limits c.rank call) ≡ o
+        → ComeToSame (call_shards s.limits.ranks c.rank (rank_named call)) (step s (Called c call reply)) (step s' (Called c call reply))
+    with-memory posts hp None hm = rw (hp, sym part.posts ∙ hp, hm, memory' None hm) refl
     with-memory posts hp (Some memory) hm = with-result posts memory hp hm (called s.limits c.rank posts memory c.thread call reply) refl
 
-    with-posts : (o : Option Posts) → slice_get s.posts c.rank ≡ o → ComeToSame (c.rank ∷ []) (step s (Called c call reply)) (step s' (Called c call reply))
+    with-posts : (o : Option Posts) → slice_get s.posts c.rank ≡ o → ComeToSame (call_shards s.limits.ranks c.rank (rank_named call)) (step s (Called c call reply)) (step s' (Called c call reply))
     with-posts None hp = rw (hp, sym part.posts ∙ hp) refl
-    with-posts (Some posts) hp = with-memory posts hp (slice_get s.memories c.rank) refl
+    with-posts (Some posts) hp = with-memory posts hp (slice_get s.memories (memory_rank s.limits c.rank call)) refl
 
 take-same : (s s' : State) (origin queue target number : ℕ) (outcome : Outcome) → AgreeOn (origin ∷ []) s s'
     → ComeToSame (origin ∷ []) (step s (Take origin queue target number outcome)) (step s' (Take origin queue target number outcome))

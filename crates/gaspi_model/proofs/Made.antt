@@ -12,7 +12,7 @@ use Rattle.gaspi_types.specs.declared.events.Outcome.{Outcome}
 use Rattle.gaspi_types.specs.declared.events.Outcome.TheVariants.{Applied}
 use Rattle.gaspi_types.specs.declared.events.Event.TheVariants.{Called, Take, Put}
 use Rattle.gaspi_model.specs.State.{owed, thread_at}
-use Rattle.gaspi_model.specs.Calls.{counted, answer, recorded_reply, charge, posts_after, memory_after}
+use Rattle.gaspi_model.specs.Calls.{counted, answer, recorded_reply, charge, posts_after, memory_after, memory_rank, told}
 use Rattle.gaspi_model.specs.Transfers.{Found, find_entry, with_lane, with_phase, take, put, put_with, taken_bytes, put_outcome, same_outcome, Parts}
 use Rattle.gaspi_model.specs.Step.{step, called, is_there}
 use Rattle.gaspi_model.specs.declared.states.Posts.{Posts}
@@ -76,7 +76,7 @@ pub record IsCalled (limits : Limits) (me : ℕ) (posts : Posts) (memory : Memor
   pub there : is_there (thread_at posts thread) ≡ true
   pub answered : same_reply reply (recorded_reply (answer limits me posts memory thread call)) ≡ true
   pub room : nat_le (posts.events + owed posts + charge (thread_at posts thread) call reply) limits.events ≡ true
-  pub leaves : after ≡ record { posts = posts_after limits me posts thread call reply; memory = memory_after memory call reply }
+  pub leaves : after ≡ record { posts = posts_after limits me posts thread call reply; memory = memory_after limits posts memory call reply }
 
 pub called-ok : (limits : Limits) (me : ℕ) (posts : Posts) (memory : Memory) (thread : ℕ) (call : Call) (reply : Reply) (after : Parts)
     → called limits me posts memory thread call reply ≡ Ok after → IsCalled limits me posts memory thread call reply after
@@ -89,15 +89,18 @@ called-ok limits me posts memory thread call reply after h =
 -- the step of each kind of event
 pub record IsCalledStep (s t : State) (c : CallerId) (call : Call) (reply : Reply) (posts : Posts) (memory : Memory) (after : Parts) : Type 0 where
   pub posts_there : slice_get s.posts c.rank ≡ Some posts
-  pub memory_there : slice_get s.memories c.rank ≡ Some memory
+  pub memory_there : slice_get s.memories (memory_rank s.limits c.rank call) ≡ Some memory
   pub is : IsCalled s.limits c.rank posts memory c.thread call reply after
-  pub leaves : t ≡ record s { posts = slice_set s.posts c.rank after.posts; memories = slice_set s.memories c.rank after.memory }
+  pub leaves : t ≡ record s {
+    posts = told c.rank posts call reply (slice_set s.posts c.rank after.posts);
+    memories = slice_set s.memories (memory_rank s.limits c.rank call) after.memory;
+  }
 
 pub step-called : (s t : State) (c : CallerId) (call : Call) (reply : Reply) → step s (Called c call reply) ≡ Ok t
     → (posts : Posts) × (memory : Memory) × (after : Parts) × IsCalledStep s t c call reply posts memory after
 step-called s t c call reply h =
     found_then (slice_get s.posts c.rank) whys.Caller _ t h (λ posts hp h1.
-    found_then (slice_get s.memories c.rank) whys.Caller _ t h1 (λ memory hm h2.
+    found_then (slice_get s.memories (memory_rank s.limits c.rank call)) whys.Caller _ t h1 (λ memory hm h2.
     bind_then (called s.limits c.rank posts memory c.thread call reply) _ t h2 (λ after ha h3.
     (posts, memory, after, record { posts_there = hp; memory_there = hm; is = called-ok _ _ _ _ _ _ _ _ ha; leaves = sym (same_Ok _ _ h3) }))))
 

@@ -1,7 +1,7 @@
 -- A write stands in its lane until it is put, and while it stands no later notification of its lane is put.
 use Rattle.std.proofs.Common.{◌≡◌, ℕ, zero, suc, ◌+◌, ◌<◌, arith, Bool, true, false, not, ◌==◌, ◌&&◌, ◌||◌, nat_lt, List, [], ◌∷◌, ◌++◌, length, remove, Option, None, Some, Result, Ok, Err, refl, sym, ap, ◌∙◌, subst, ◌⊎◌, inl, inr, if◌then◌else◌}
 use Rattle.std.specs.List.{slice_get, slice_set, prefix_len}
-use Rattle.std.proofs.lemmas.Bool.{eq-eqb, eqb-true, lt-ltb}
+use Rattle.std.proofs.lemmas.Bool.{eqb-true, lt-ltb}
 use Rattle.gaspi_types.specs.Lanes.{is_write, is_write_kind, has_earlier_write, may_put, may_put_kind, is_carried, place_of, posted_entries}
 use Rattle.gaspi_types.specs.Posts.{write_kinds, notify_kinds, write_notify_kinds}
 use Rattle.gaspi_types.specs.Replies.{is_idle}
@@ -12,12 +12,13 @@ use Rattle.gaspi_types.specs.declared.entries.Phase.{Phase}
 use Rattle.gaspi_types.specs.declared.entries.Phase.TheVariants as phases
 use Rattle.gaspi_types.specs.declared.shapes.Limits.{Limits}
 use Rattle.gaspi_types.specs.declared.calls.Call.{Call}
-use Rattle.gaspi_types.specs.declared.calls.Call.TheVariants.{Store, Load, Write, Notify, WriteNotify, Wait, Waitsome, Reset, End}
+use Rattle.gaspi_types.specs.declared.calls.Call.TheVariants.{Alloc, Register, Delete, Store, Load, Write, Notify, WriteNotify, Wait, Waitsome, Reset, FetchAdd, CompareSwap, End}
+use Rattle.gaspi_types.specs.declared.replies.Reply.{Reply}
 use Rattle.gaspi_types.specs.declared.replies.Refusal.{Refusal}
 use Rattle.gaspi_types.specs.declared.events.Outcome.TheVariants.{Applied, Failed}
 use Rattle.gaspi_types.specs.declared.events.Event.{Event}
 use Rattle.gaspi_types.specs.declared.events.Event.TheVariants.{Called, Take, Put}
-use Rattle.gaspi_model.specs.Calls.{changed_at, with_entries, with_post, posts_done, counted}
+use Rattle.gaspi_model.specs.Calls.{changed_at, with_entries, with_post, posts_done, counted, told}
 use Rattle.gaspi_model.specs.Transfers.{Found, find_entry, with_phase, taken_bytes}
 use Rattle.gaspi_model.specs.State.{opening}
 use Rattle.gaspi_model.specs.Step.{step, after, reached, is_legal}
@@ -26,22 +27,16 @@ use Rattle.gaspi_types.specs.World.{World}
 use Rattle.gaspi_model.specs.Shards.{standing}
 use Rattle.gaspi_model.specs.declared.states.Queue.{Queue}
 use Rattle.gaspi_model.specs.declared.states.Posts.{Posts}
+use Rattle.gaspi_model.specs.declared.states.Memory.{Memory}
 use Rattle.gaspi_model.specs.declared.states.State.{State}
 use Rattle.gaspi_model.specs.declared.states.Why.{Why}
 use Rattle.gaspi_model.specs.declared.states.Why.TheVariants as whys
 use Rattle.gaspi_model.proofs.Chains.{both}
 use Rattle.gaspi_model.proofs.Made.{IsFound, find_entry-ok, step-called, step-take, step-put}
-use Rattle.gaspi_model.proofs.Tables.{slice_get-set_same, slice_get-set_other}
+use Rattle.gaspi_model.proofs.Tables.{slice_get-set_same, slice_get-set_other, same-or-not}
+use Rattle.gaspi_model.proofs.Told.{IsTold, told-get}
 use Rattle.gaspi_model.proofs.Histories.{after-first, after-both, leads}
 use Rattle.gaspi_model.proofs.LocalSteps.{found-again}
-
--- a number is another or not
-pub same-or-not : {P : Type 0} (a b : ℕ) → (a ≡ b → P) → ((a ≡ b → ⊥) → P) → P
-same-or-not {P} a b same apart = go (a == b) refl
-  where
-    go : (t : Bool) → (a == b) ≡ t → P
-    go true is = same (eqb-true a b is)
-    go false is = apart (λ e. let yes = eq-eqb a b e in let no : ⊥ = cc in no)
 
 one-more : (n : ℕ) → 1 + n ≡ suc n
 one-more n = omega arith
@@ -177,6 +172,9 @@ post-keeps posts posted rank queue target m (Ok kinds) h =
 
 done-keeps : (limits : Limits) (me : ℕ) (posts : Posts) (thread : ℕ) (call : Call) (queue target m : ℕ) → InQueues posts.queues queue target m
     → InQueues (posts_done limits me posts thread call).queues queue target m
+done-keeps limits me posts thread (Alloc seg size) queue target m h = h
+done-keeps limits me posts thread (Register seg rank) queue target m h = h
+done-keeps limits me posts thread (Delete seg) queue target m h = h
 done-keeps limits me posts thread (Store seg offset bytes) queue target m h = h
 done-keeps limits me posts thread (Load seg offset size) queue target m h = h
 done-keeps limits me posts thread (Write seg offset rank rseg roffset size posted) queue target m h =
@@ -190,6 +188,8 @@ done-keeps limits me posts thread (Wait waited) queue target m h =
     (λ q at same i. record { lane = i.lane; lane_there = i.lane_there; has = i.has }) h
 done-keeps limits me posts thread (Waitsome seg begin num) queue target m h = h
 done-keeps limits me posts thread (Reset seg note) queue target m h = h
+done-keeps limits me posts thread (FetchAdd seg offset rank value) queue target m h = h
+done-keeps limits me posts thread (CompareSwap seg offset rank comparator new) queue target m h = h
 done-keeps limits me posts thread End queue target m h = h
 
 idle-keeps : (idle : Bool) (before done : Posts) (queue target m : ℕ) → InQueues before.queues queue target m → InQueues done.queues queue target m
@@ -216,6 +216,17 @@ posts-replaced s rank posts posts' origin queue target m at t is keeps h = same-
       in_queues = keeps same (rw old h.in_queues);
     })
     (λ apart. record { posts = h.posts; posts_there = rw is (slice_get-set_other s.posts rank origin posts' apart ∙ h.posts_there); in_queues = h.in_queues })
+
+-- a segment told to a rank leaves what stands in lanes
+told-stands : (t : State) (me : ℕ) (p : Posts) (call : Call) (reply : Reply) (all : List Posts) (origin queue target m : ℕ) → t.posts ≡ told me p call reply all → {limits : Limits} {memories : List Memory}
+    → Stands (record { limits = limits; posts = all; memories = memories }) origin queue target m → Stands t origin queue target m
+told-stands t me p call reply all origin queue target m is h = go (told-get me p call reply all origin)
+  where
+    go : IsTold all (told me p call reply all) origin → Stands t origin queue target m
+    go (inl same) = record { posts = h.posts; posts_there = rw is (same ∙ h.posts_there); in_queues = h.in_queues }
+    go (inr (x, known, before, now)) =
+        let same : x ≡ h.posts = (let some : ◌≡◌ {A = Option Posts} (Some x) (Some h.posts) = sym before ∙ h.posts_there in cc) in
+        record { posts = record x { known = known }; posts_there = rw is now; in_queues = rw same h.in_queues }
 
 found-replaced : (posts : Posts) (changed replaced number : ℕ) (at : Found) (lane' : List Entry) (change : Queue → Queue) (queue target m : ℕ)
     → IsFound posts changed replaced number at
@@ -252,8 +263,10 @@ step-keeps : (s t : State) (e : Event) (origin queue target m : ℕ) → step s 
 step-keeps s t (Called c call reply) origin queue target m h stands =
     let made = step-called s t c call reply h in
     let f = made.3 in
-    inr (posts-replaced s c.rank made.0 made.2.posts origin queue target m f.posts_there t (ap (λ (x : State). x.posts) f.leaves)
-    (λ same i. rw f.is.leaves (idle-keeps (is_idle reply) made.0 (posts_done s.limits c.rank made.0 c.thread call) queue target m i (done-keeps s.limits c.rank made.0 c.thread call queue target m i))) stands)
+    let all = slice_set s.posts c.rank made.2.posts in
+    inr (told-stands t c.rank made.0 call reply all origin queue target m (ap (λ (x : State). x.posts) f.leaves)
+    (posts-replaced s c.rank made.0 made.2.posts origin queue target m f.posts_there (record s { posts = all }) refl
+    (λ same i. rw f.is.leaves (idle-keeps (is_idle reply) made.0 (posts_done s.limits c.rank made.0 c.thread call) queue target m i (done-keeps s.limits c.rank made.0 c.thread call queue target m i))) stands))
 step-keeps s t (Take origin' queue' target' number outcome) origin queue target m h stands =
     let made = step-take s t origin' queue' target' number outcome h in
     let f = made.4 in

@@ -1,9 +1,10 @@
 -- The entries of a post that is done stand in its lane.
 use Rattle.std.proofs.Common.{◌≡◌, ℕ, ◌+◌, ◌<◌, true, not, ◌==◌, nat_lt, List, [], ◌∷◌, ◌++◌, length, Option, None, Some, Result, Ok, refl, sym, ap, ◌∙◌, subst, arith}
-use Rattle.std.specs.List.{slice_get}
+use Rattle.std.specs.List.{slice_get, slice_set}
 use Rattle.std.proofs.lemmas.Bool.{ltb-true}
 use Rattle.gaspi_types.specs.Lanes.{posted_entries}
-use Rattle.gaspi_types.specs.Posts.{extent_in, known_extent, write_kinds, notify_kinds, write_notify_kinds}
+use Rattle.gaspi_types.specs.Posts.{write_kinds, notify_kinds, write_notify_kinds}
+use Rattle.gaspi_types.specs.SegmentTables.{extent_in, known_extent}
 use Rattle.gaspi_types.specs.SegmentBytes.{is_transfer_size, is_within}
 use Rattle.gaspi_types.specs.World.{World, IsWorld}
 use Rattle.gaspi_types.specs.declared.entries.ByteRange.{ByteRange}
@@ -41,6 +42,7 @@ use Rattle.gaspi_model.proofs.Tables.{slice_get-set_same, past-none, behind-of-j
 use Rattle.gaspi_model.proofs.Rising.{place_of-rising}
 use Rattle.gaspi_model.proofs.Accounts.{post-ok}
 use Rattle.gaspi_model.proofs.CallQueues.{found-reply}
+use Rattle.gaspi_model.proofs.Told.{told-mine}
 use Rattle.gaspi_model.proofs.Histories.{reached-sound, after-both, after-first, leads}
 use Rattle.gaspi_model.proofs.SoundSteps.{steps}
 
@@ -137,7 +139,8 @@ post-leaves s t c call rank queue posts asked sound hp so h =
     let later : made.2.posts ≡ counted (with_post posts queue rank (Ok posted.1)) =
     ap (λ (x : Parts). x.posts) m.is.leaves ∙ ap (λ (x : Posts). counted (posts_done s.limits c.rank x c.thread call)) same ∙ ap counted so.leaves
     ∙ ap (λ (a : Result (List Kind) Refusal). counted (with_post posts queue rank a)) p.asks in
-    let there : slice_get t.posts c.rank ≡ Some made.2.posts = ap (λ (x : State). slice_get x.posts c.rank) m.leaves ∙ slice_get-set_same s.posts c.rank made.0 made.2.posts m.posts_there in
+    let there : slice_get t.posts c.rank ≡ Some made.2.posts = ap (λ (x : State). slice_get x.posts c.rank) m.leaves
+    ∙ told-mine c.rank made.0 call replies.Done (slice_set s.posts c.rank made.2.posts) ∙ slice_get-set_same s.posts c.rank made.0 made.2.posts m.posts_there in
     let lanes = (sound.posts c.rank posts hp).lanes queue posted.0 p.in_posts in
     record {
       kinds = posted.1;

@@ -6,7 +6,7 @@ use Rattle.std.proofs.lemmas.Bool.{le-leb, leb-true, eqb-true}
 use Rattle.std.proofs.lemmas.List.{length-set, length-append, length-take-le}
 use Rattle.std.proofs.lemmas.Option.{slice_get-map, slice_get_within}
 use Rattle.gaspi_types.specs.Lanes.{is_carried, is_carried_phase}
-use Rattle.gaspi_types.specs.Posts.{extent_in}
+use Rattle.gaspi_types.specs.SegmentTables.{extent_in}
 use Rattle.gaspi_types.specs.SegmentBytes.{with_range}
 use Rattle.gaspi_types.specs.declared.entries.Entry.{Entry}
 use Rattle.gaspi_types.specs.declared.entries.Extent.{Extent}
@@ -18,10 +18,10 @@ use Rattle.gaspi_types.specs.declared.entries.Phase.TheVariants as phases
 use Rattle.gaspi_types.specs.declared.events.Outcome.TheVariants.{Applied}
 use Rattle.gaspi_types.specs.declared.events.Event.TheVariants.{Put}
 use Rattle.gaspi_model.specs.State.{entry_at, segment_at}
-use Rattle.gaspi_model.specs.Calls.{bytes_of, slots_of, bytes_in, slots_in}
-use Rattle.gaspi_model.specs.Transfers.{Found, Parts, is_generation, target_segment, target_generation, put_outcome, same_outcome, carried_bytes, memory_put}
+use Rattle.gaspi_model.specs.Calls.{is_generation, bytes_of, slots_of, bytes_in, slots_in}
+use Rattle.gaspi_model.specs.Transfers.{Found, Parts, target_segment, target_generation, put_outcome, same_outcome, carried_bytes, memory_put}
 use Rattle.gaspi_model.specs.Step.{step}
-use Rattle.gaspi_model.specs.Coherence.{extent_of, extents_of, slot_counts, HasSource, Fits}
+use Rattle.gaspi_model.specs.Coherence.{extent_of, extents_of, slot_counts, Tables, tables_of, HasSource, Fits}
 use Rattle.gaspi_model.specs.Sound.{IsSound}
 use Rattle.gaspi_model.specs.Changes.{IsStored, IsSlotSet, Puts, IsPutDone}
 use Rattle.gaspi_model.specs.declared.states.Posts.{Posts}
@@ -37,7 +37,7 @@ use Rattle.gaspi_model.proofs.CoherentSteps.{mine-there}
 use Rattle.gaspi_model.proofs.NotificationOrder.{found-number}
 
 -- bytes with those of a range replaced, where it lies within
-stored : (bytes new : List ℕ) (offset : ℕ) → offset + length new ≤ length bytes → IsStored bytes (with_range bytes offset new) new offset
+pub stored : (bytes new : List ℕ) (offset : ℕ) → offset + length new ≤ length bytes → IsStored bytes (with_range bytes offset new) new offset
 stored bytes new offset within =
     let is = le-leb (offset + length new) (length bytes) within in
     let front = length-take-le offset bytes (omega arith) in
@@ -77,7 +77,7 @@ slot-set slots note value within = go (slice_get slots note) refl
     }
 
 -- the segment of the target, which is there in the entry's generation
-there-in-generation : (memory : Memory) (segment generation : ℕ) → is_generation generation (segment_at memory segment) ≡ true
+pub there-in-generation : (memory : Memory) (segment generation : ℕ) → is_generation generation (segment_at memory segment) ≡ true
     → (s : Segment) × (segment_at memory segment ≡ Some s) × (s.generation ≡ generation)
 there-in-generation memory segment generation h = go (segment_at memory segment) refl
   where
@@ -94,14 +94,14 @@ applied-generation memory kind h = go (is_generation (target_generation kind) (s
     go false is = absurd (let none = rw is at h in let no : ⊥ = cc in no)
 
 -- a segment of a memory changed
-changed-there : (memory : Memory) (segment : ℕ) (s : Segment) (change : Segment → Segment) → segment_at memory segment ≡ Some s
+pub changed-there : (memory : Memory) (segment : ℕ) (s : Segment) (change : Segment → Segment) → segment_at memory segment ≡ Some s
     → segment_at (record { segments = slice_set memory.segments segment (option_map change (segment_at memory segment)) }) segment ≡ Some (change s)
 changed-there memory segment s change h =
     let at = joined memory.segments segment s h in
     let set = slice_get-set_same memory.segments segment (Some s) (option_map change (segment_at memory segment)) at in
     rw (set, h) refl
 
-changed-elsewhere : (memory : Memory) (segment : ℕ) (x : Option Segment) (k : ℕ) → (k ≡ segment → ⊥) → segment_at (record { segments = slice_set memory.segments segment x }) k ≡ segment_at memory k
+pub changed-elsewhere : (memory : Memory) (segment : ℕ) (x : Option Segment) (k : ℕ) → (k ≡ segment → ⊥) → segment_at (record { segments = slice_set memory.segments segment x }) k ≡ segment_at memory k
 changed-elsewhere memory segment x k apart = rw (slice_get-set_other memory.segments segment k x (λ same. apart (sym same))) refl
 
 -- how many slots a segment has
@@ -123,14 +123,14 @@ carried-source table own phases.Posted h source = absurd (let no : ⊥ = cc in n
 carried-source table own (phases.Carried bytes) h source = source
 carried-source table own phases.Failed h source = absurd (let no : ⊥ = cc in no)
 
-puts-into : (notes : ℕ) (memory : Memory) (number : ℕ) (kind : Kind) (phase : Phase) (mine theirs : List (Option Extent)) (old : Segment) → segment_at memory (target_segment kind) ≡ Some old
-    → old.generation ≡ target_generation kind → theirs ≡ extents_of memory → ((k n : ℕ) → entry_at (slot_counts memory) k ≡ Some n → n ≡ notes) → is_carried_phase phase ≡ true
+puts-into : (notes : ℕ) (memory : Memory) (number : ℕ) (kind : Kind) (phase : Phase) (mine theirs : Tables) (old : Segment) → segment_at memory (target_segment kind) ≡ Some old
+    → old.generation ≡ target_generation kind → theirs.own ≡ extents_of memory → ((k n : ℕ) → entry_at (slot_counts memory) k ≡ Some n → n ≡ notes) → is_carried_phase phase ≡ true
     → Fits notes mine theirs (record { number = number; kind = kind; phase = phase }) → PutsInto memory (record { number = number; kind = kind; phase = phase }) old
 puts-into notes memory number (Write own target) phase mine theirs old there generation table counts carried fits =
     let bytes = carried_bytes phase in
-    let size : length bytes ≡ target.size = carried-source mine own phase carried fits.3 ∙ fits.0 in
-    let entry : extent_in theirs target.segment ≡ Some (extent_of old) = rw table (extent-there memory target.segment old fits.1 there) in
-    let lies = fits.2 (extent_of old) entry generation in
+    let size : length bytes ≡ target.size = carried-source mine.own own phase carried fits.4 ∙ fits.0 in
+    let entry : extent_in theirs.own target.segment ≡ Some (extent_of old) = rw table (extent-there memory target.segment old fits.1 there) in
+    let lies = fits.3 (extent_of old) entry generation in
     let within : target.offset + length bytes ≤ length old.bytes = (let less = leb-true (target.offset + target.size) (length old.bytes) lies in omega arith) in
     let same : bytes_of memory target.segment ≡ old.bytes = ap bytes_in there in
     let change = λ (s : Segment). record s { bytes = with_range (bytes_of memory target.segment) target.offset bytes } in
@@ -145,7 +145,7 @@ puts-into notes memory number (Notify target value) phase mine theirs old there 
     let slots : length old.slots ≡ notes = slots-there memory target.segment notes old counts there in
     let same : slots_of memory target.segment ≡ old.slots = ap slots_in there in
     let change = λ (s : Segment). record s { slots = slice_set (slots_of memory target.segment) target.note value } in
-    let within : target.note < length old.slots = (let less : target.note < notes = fits in omega arith) in
+    let within : target.note < length old.slots = (let less : target.note < notes = fits.0 in omega arith) in
     record {
       new = change old;
       there = changed-there memory target.segment old change there;
@@ -168,8 +168,8 @@ put-done s t origin queue target number sound h =
         let carried = (both (is_carried at.entry) _ m.is.permitted).0 in
         let old = there-in-generation memory (target_segment at.entry.kind) (target_generation at.entry.kind) (applied-generation memory at.entry.kind m.is.fits) in
         let fits = coherent.entries origin posts m.posts_there queue at.queue m.is.is.in_posts target at.lane m.is.is.in_queue at.place at.entry m.is.is.in_lane
-        posts.own theirs.own (mine-there s.posts origin posts m.posts_there) (mine-there s.posts target theirs ht) in
-        let into = puts-into s.limits.notes memory at.entry.number at.entry.kind at.entry.phase posts.own theirs.own old.0 old.1 old.2
+        (tables_of posts) (tables_of theirs) (mine-there s.posts origin posts m.posts_there) (mine-there s.posts target theirs ht) in
+        let into = puts-into s.limits.notes memory at.entry.number at.entry.kind at.entry.phase (tables_of posts) (tables_of theirs) old.0 old.1 old.2
         (coherent.own target theirs memory ht m.memory_there) (coherent.slots target memory m.memory_there) carried fits in
         record {
           posts = posts;

@@ -11,8 +11,8 @@ use Rattle.std.proofs.lemmas.Option.{slice_get-map}
 use Rattle.gaspi_types.specs.World.{World, IsWorld, is_caller}
 use Rattle.gaspi_types.specs.Lanes.{lane_owed}
 use Rattle.gaspi_types.specs.declared.shapes.CallerId.{CallerId}
-use Rattle.gaspi_model.specs.State.{opening, opening_memory, opening_posts, opening_queue, opening_thread, entries_owed, queue_owed, is_running}
-use Rattle.gaspi_model.proofs.Tables.{slice_get-replicate}
+use Rattle.gaspi_model.specs.State.{opening, opening_memory, opening_posts, opening_queue, opening_thread, declared_size, generations_used, entries_owed, queue_owed, is_running}
+use Rattle.gaspi_model.proofs.Tables.{slice_get-replicate, map-at}
 use Rattle.gaspi_model.proofs.CoherentOpening.{opens-coherent}
 use Rattle.gaspi_model.specs.Sound.{lane_failed, IsSoundQueue, IsSoundPosts, IsSound}
 use Rattle.gaspi_types.specs.declared.entries.Entry.{Entry}
@@ -93,6 +93,11 @@ empty-queue ranks depth = record {
   failed = (let none = sum_by-replicate lane_failed ranks [] in none ∙ omega arith);
 }
 
+-- at most one generation of a number is used at the start
+one-used : (declared : Option ℕ) → generations_used declared ≤ 1
+one-used None = omega arith
+one-used (Some size) = omega arith
+
 opening-sound : (w : World) (rank : ℕ) → IsWorld w → IsSoundPosts w.limits (opening_posts w rank)
 opening-sound w rank world = record {
   lanes = λ queue q at. rw (slice_get-replicate w.limits.queues (opening_queue w.limits.ranks) q queue at) (length-replicate w.limits.ranks []);
@@ -102,6 +107,12 @@ opening-sound w rank world = record {
       let callers = world.callers rank in
       omega arith);
   numbers = omega arith;
+  numbered = length-map-range_with_len (λ (segment : ℕ). generations_used (declared_size w rank segment)) 0 32;
+  generations = λ segment n at.
+      let from = map-at (λ (k : ℕ). generations_used (declared_size w rank k)) (range_with_len 0 32) segment n at in
+      let few = one-used (declared_size w rank from.0) in
+      let is = from.2 in
+      omega arith;
   rising = λ queue q at target lane here.
       let opened = slice_get-replicate w.limits.queues (opening_queue w.limits.ranks) q queue at in
       let none = slice_get-replicate w.limits.ranks [] lane target (subst (λ (x : Queue). slice_get x.lanes target ≡ Some lane) opened here) in

@@ -11,7 +11,7 @@ use Rattle.gaspi_types.specs.declared.entries.Kind.{Kind}
 use Rattle.gaspi_types.specs.declared.entries.Phase.TheVariants as phases
 use Rattle.gaspi_types.specs.declared.shapes.Limits.{Limits}
 use Rattle.gaspi_types.specs.declared.calls.Call.{Call}
-use Rattle.gaspi_types.specs.declared.calls.Call.TheVariants.{Store, Load, Write, Notify, WriteNotify, Wait, Waitsome, Reset, End}
+use Rattle.gaspi_types.specs.declared.calls.Call.TheVariants.{Alloc, Register, Delete, Store, Load, Write, Notify, WriteNotify, Wait, Waitsome, Reset, FetchAdd, CompareSwap, End}
 use Rattle.gaspi_types.specs.declared.replies.Reply.{Reply}
 use Rattle.gaspi_types.specs.declared.replies.Refusal.{Refusal}
 use Rattle.gaspi_types.specs.declared.events.Outcome.{Outcome}
@@ -19,7 +19,9 @@ use Rattle.gaspi_types.specs.declared.events.Outcome.TheVariants.{Applied, Faile
 use Rattle.gaspi_types.specs.declared.events.Event.{Event}
 use Rattle.gaspi_types.specs.declared.events.Event.TheVariants.{Called, Take, Put}
 use Rattle.gaspi_model.specs.State.{owed}
-use Rattle.gaspi_model.specs.Calls.{changed_at, with_entries, with_post, posts_done, counted}
+use Rattle.gaspi_types.specs.SegmentTables.{next_generation, with_generation}
+use Rattle.gaspi_types.specs.declared.entries.Extent.{Extent}
+use Rattle.gaspi_model.specs.Calls.{changed_at, with_entries, with_post, posts_done, counted, memory_rank, told}
 use Rattle.gaspi_model.specs.Transfers.{Found, with_lane, with_phase, put_with, taken_bytes, Parts}
 use Rattle.gaspi_model.specs.Step.{step}
 use Rattle.gaspi_model.specs.Coherence.{IsCoherent}
@@ -29,7 +31,9 @@ use Rattle.gaspi_model.specs.declared.states.Queue.{Queue}
 use Rattle.gaspi_model.specs.declared.states.Posts.{Posts}
 use Rattle.gaspi_model.specs.declared.states.Memory.{Memory}
 use Rattle.gaspi_model.specs.declared.states.State.{State}
-use Rattle.gaspi_model.proofs.Tables.{sum_by-changed, slice_get-set}
+use Rattle.gaspi_model.proofs.Tables.{sum_by-changed, slice_get-set, length-changed_at}
+use Rattle.gaspi_model.proofs.Told.{told-length, told-from, told-sum}
+use Rattle.gaspi_model.proofs.Successors.{generation-within}
 use Rattle.gaspi_model.proofs.Same.{same_reply-same}
 use Rattle.gaspi_model.proofs.Made.{IsFound, IsTake, IsPut, IsCalled, step-called, step-take, step-put}
 use Rattle.gaspi_model.proofs.Accounts.{take-owed, put-owed, kinds-write, kinds-notify, kinds-two}
@@ -38,14 +42,6 @@ use Rattle.gaspi_model.proofs.Chains.{both}
 use Rattle.gaspi_model.proofs.OpenCounts.{posted-unfailed, carried-unfailed, queue-phase, queue-remove, carried-more, carried-failed}
 use Rattle.gaspi_model.proofs.CoherentSteps.{steps-coherent}
 use Rattle.gaspi_model.proofs.CallQueues.{queues-changed, called-queues}
-
--- a table keeps its length when an item is changed
-pub length-changed_at : {A : Type 0} (xs : List A) (i : ℕ) (change : A → A) → length (changed_at xs i change) ≡ length xs
-length-changed_at {A} xs i change = go (slice_get xs i) refl
-  where
-    go : (o : Option A) → slice_get xs i ≡ o → length (changed_at xs i change) ≡ length xs
-    go None at = rw at refl
-    go (Some x) at = rw at (length-set xs i (change x))
 
 -- queues keep their lanes when one is changed and keeps its own
 pub lanes-changed : (ranks : ℕ) (queues : List Queue) (queue : ℕ) (change : Queue → Queue) → ((q : Queue) → length (change q).lanes ≡ length q.lanes)
@@ -123,53 +119,99 @@ lanes-post ranks posts queue target (Err refusal) all = all
 lanes-post ranks posts queue target (Ok kinds) all =
     lanes-changed ranks posts.queues queue (with_entries target (posted_entries posts.next kinds)) (λ q. length-changed_at q.lanes target (λ lane. lane ++ posted_entries posts.next kinds)) all
 
+-- no number of a segment has had more than so many generations
+abbrev HasFewGenerations : ℕ → Posts → Type 0
+HasFewGenerations bound posts = (segment n : ℕ) → slice_get posts.next_generations segment ≡ Some n → n ≤ bound
+
+generations-more : (posts : Posts) → HasFewGenerations (posts.events + 1) posts → HasFewGenerations (posts.events + 2) posts
+generations-more posts few segment n at = let less = few segment n at in omega arith
+
+-- a new segment takes one generation of its number
+generations-alloc : (posts : Posts) (seg : ℕ) → HasFewGenerations (posts.events + 1) posts
+    → (k n : ℕ) → slice_get (with_generation posts.next_generations seg) k ≡ Some n → n ≤ posts.events + 2
+generations-alloc posts seg few k n at =
+    parts (slice_get-set posts.next_generations seg k (next_generation posts.next_generations seg + 1) n at)
+  where
+    parts : ((k ≡ seg) × (n ≡ next_generation posts.next_generations seg + 1)) ⊎ (slice_get posts.next_generations k ≡ Some n) → n ≤ posts.events + 2
+    parts (inl is) = let here = is.1 in let next = generation-within posts.next_generations (posts.events + 1) seg few in omega arith
+    parts (inr was) = let less = few k n was in omega arith
+
+with_post-generations : (posts : Posts) (queue target : ℕ) (asked : Result (List Kind) Refusal) → (with_post posts queue target asked).next_generations ≡ posts.next_generations
+with_post-generations posts queue target (Ok kinds) = refl
+with_post-generations posts queue target (Err refusal) = refl
+
 -- what a call that is done keeps of a rank's posts
 record Keeps (ranks : ℕ) (before after : Posts) : Type 0 where
   lanes : HasLanes ranks after
   events : after.events ≡ before.events
   numbers : after.next ≤ before.next + 2
+  numbered : length after.next_generations ≡ length before.next_generations
+  generations : HasFewGenerations (before.events + 2) after
   rising : RiseBelow after.next after.queues
 
+-- a call that leaves the posts as they are
+same-keeps : (ranks : ℕ) (posts : Posts) → HasLanes ranks posts → RiseBelow posts.next posts.queues → HasFewGenerations (posts.events + 1) posts → Keeps ranks posts posts
+same-keeps ranks posts all rise few = record { lanes = all; events = refl; numbers = omega arith; numbered = refl; generations = generations-more posts few; rising = rise }
+
 post-keeps : (ranks : ℕ) (posts : Posts) (queue target : ℕ) (asked : Result (List Kind) Refusal) → ((kinds : List Kind) → asked ≡ Ok kinds → length kinds ≤ 2)
-    → HasLanes ranks posts → RiseBelow posts.next posts.queues → Keeps ranks posts (with_post posts queue target asked)
-post-keeps ranks posts queue target asked counts all rise = record {
+    → HasLanes ranks posts → RiseBelow posts.next posts.queues → HasFewGenerations (posts.events + 1) posts → Keeps ranks posts (with_post posts queue target asked)
+post-keeps ranks posts queue target asked counts all rise few = record {
   lanes = lanes-post ranks posts queue target asked all;
   events = with_post-events posts queue target asked;
   numbers = numbers-post posts queue target asked counts;
+  numbered = ap length (with_post-generations posts queue target asked);
+  generations = λ segment n at.
+      generations-more posts few segment n (subst (λ (generations : List ℕ). slice_get generations segment ≡ Some n) (with_post-generations posts queue target asked) at);
   rising = rise-post posts queue target asked rise;
 }
 
-done-keeps : (ranks : ℕ) (limits : Limits) (me : ℕ) (posts : Posts) (thread : ℕ) (call : Call) → HasLanes ranks posts → RiseBelow posts.next posts.queues → Keeps ranks posts (posts_done limits me posts thread call)
-done-keeps ranks limits me posts thread (Store seg offset bytes) all rise = record { lanes = all; events = refl; numbers = omega arith; rising = rise }
-done-keeps ranks limits me posts thread (Load seg offset size) all rise = record { lanes = all; events = refl; numbers = omega arith; rising = rise }
-done-keeps ranks limits me posts thread (Write seg offset rank rseg roffset size queue) all rise =
+done-keeps : (ranks : ℕ) (limits : Limits) (me : ℕ) (posts : Posts) (thread : ℕ) (call : Call) → HasLanes ranks posts → RiseBelow posts.next posts.queues → HasFewGenerations (posts.events + 1) posts
+    → Keeps ranks posts (posts_done limits me posts thread call)
+done-keeps ranks limits me posts thread (Alloc seg size) all rise few = record {
+  lanes = all;
+  events = refl;
+  numbers = omega arith;
+  numbered = length-set posts.next_generations seg (next_generation posts.next_generations seg + 1);
+  generations = generations-alloc posts seg few;
+  rising = rise;
+}
+done-keeps ranks limits me posts thread (Register seg rank) all rise few = same-keeps ranks posts all rise few
+done-keeps ranks limits me posts thread (Delete seg) all rise few = record { lanes = all; events = refl; numbers = omega arith; numbered = refl; generations = generations-more posts few; rising = rise }
+done-keeps ranks limits me posts thread (Store seg offset bytes) all rise few = same-keeps ranks posts all rise few
+done-keeps ranks limits me posts thread (Load seg offset size) all rise few = same-keeps ranks posts all rise few
+done-keeps ranks limits me posts thread (Write seg offset rank rseg roffset size queue) all rise few =
     post-keeps ranks posts queue rank (write_kinds me posts.own posts.known seg offset rank rseg roffset size)
-    (λ kinds asks. let one = kinds-write me posts.own posts.known seg offset rank rseg roffset size kinds asks in omega arith) all rise
-done-keeps ranks limits me posts thread (Notify rseg rank note value queue) all rise =
+    (λ kinds asks. let one = kinds-write me posts.own posts.known seg offset rank rseg roffset size kinds asks in omega arith) all rise few
+done-keeps ranks limits me posts thread (Notify rseg rank note value queue) all rise few =
     post-keeps ranks posts queue rank (notify_kinds limits.notes me posts.own posts.known rseg rank note value)
-    (λ kinds asks. let one = kinds-notify limits.notes me posts.own posts.known rseg rank note value kinds asks in omega arith) all rise
-done-keeps ranks limits me posts thread (WriteNotify seg offset rank rseg roffset size note value queue) all rise =
+    (λ kinds asks. let one = kinds-notify limits.notes me posts.own posts.known rseg rank note value kinds asks in omega arith) all rise few
+done-keeps ranks limits me posts thread (WriteNotify seg offset rank rseg roffset size note value queue) all rise few =
     post-keeps ranks posts queue rank (write_notify_kinds limits.notes me posts.own posts.known seg offset rank rseg roffset size note value)
-    (λ kinds asks. let two = kinds-two limits.notes me posts.own posts.known seg offset rank rseg roffset size note value kinds asks in omega arith) all rise
-done-keeps ranks limits me posts thread (Wait queue) all rise = record {
+    (λ kinds asks. let two = kinds-two limits.notes me posts.own posts.known seg offset rank rseg roffset size note value kinds asks in omega arith) all rise few
+done-keeps ranks limits me posts thread (Wait queue) all rise few = record {
   lanes = lanes-changed ranks posts.queues queue (λ (q : Queue). record q { open_count = 0 }) (λ q. refl) all;
   events = refl;
   numbers = omega arith;
+  numbered = refl;
+  generations = generations-more posts few;
   rising = rise-changed posts.next posts.queues queue (λ (q : Queue). record q { open_count = 0 }) (λ q at. rise queue q at) rise;
 }
-done-keeps ranks limits me posts thread (Waitsome seg begin num) all rise = record { lanes = all; events = refl; numbers = omega arith; rising = rise }
-done-keeps ranks limits me posts thread (Reset seg note) all rise = record { lanes = all; events = refl; numbers = omega arith; rising = rise }
-done-keeps ranks limits me posts thread End all rise = record { lanes = all; events = refl; numbers = omega arith; rising = rise }
+done-keeps ranks limits me posts thread (Waitsome seg begin num) all rise few = same-keeps ranks posts all rise few
+done-keeps ranks limits me posts thread (Reset seg note) all rise few = same-keeps ranks posts all rise few
+done-keeps ranks limits me posts thread (FetchAdd seg offset rank value) all rise few = same-keeps ranks posts all rise few
+done-keeps ranks limits me posts thread (CompareSwap seg offset rank comparator new) all rise few = same-keeps ranks posts all rise few
+done-keeps ranks limits me posts thread End all rise few = record { lanes = all; events = refl; numbers = omega arith; numbered = refl; generations = generations-more posts few; rising = rise }
 
 -- the posts after a call, idle or not
-after-keeps : (ranks : ℕ) (b : Bool) (before done : Posts) → HasLanes ranks before → RiseBelow before.next before.queues → Keeps ranks before done → Keeps ranks before (if b then before else done)
-after-keeps ranks true before done all rise keeps = record { lanes = all; events = refl; numbers = omega arith; rising = rise }
-after-keeps ranks false before done all rise keeps = keeps
+after-keeps : (ranks : ℕ) (b : Bool) (before done : Posts) → HasLanes ranks before → RiseBelow before.next before.queues → HasFewGenerations (before.events + 1) before → Keeps ranks before done → Keeps ranks before (if b then before else done)
+after-keeps ranks true before done all rise few keeps = same-keeps ranks before all rise few
+after-keeps ranks false before done all rise few keeps = keeps
 
 called-sound : (limits : Limits) (me : ℕ) (posts : Posts) (memory : Memory) (thread : ℕ) (call : Call) (reply : Reply) (after : Parts)
     → IsSoundPosts limits posts → IsCalled limits me posts memory thread call reply after → IsSoundPosts limits after.posts
 called-sound limits me posts memory thread call reply after sound h =
-    let keeps = after-keeps limits.ranks (is_idle reply) posts (posts_done limits me posts thread call) sound.lanes sound.rising (done-keeps limits.ranks limits me posts thread call sound.lanes sound.rising) in
+    let keeps = after-keeps limits.ranks (is_idle reply) posts (posts_done limits me posts thread call) sound.lanes sound.rising sound.generations
+    (done-keeps limits.ranks limits me posts thread call sound.lanes sound.rising sound.generations) in
     let grows = call-grows limits me posts memory thread call reply sound.lanes (same_reply-same _ _ h.answered) in
     let room = leb-true _ _ h.room in
     let numbers = sound.numbers in
@@ -177,6 +219,8 @@ called-sound limits me posts memory thread call reply after sound h =
       lanes = keeps.lanes;
       room = omega arith;
       numbers = (let events = keeps.events in let next = keeps.numbers in omega arith);
+      numbered = keeps.numbered ∙ sound.numbered;
+      generations = λ segment n at. (let events = keeps.events in let less = keeps.generations segment n at in omega arith);
       rising = keeps.rising;
       queues = called-queues limits me posts memory thread call reply (same_reply-same _ _ h.answered) sound.queues sound.rising;
     })
@@ -204,6 +248,8 @@ take-sound limits posts memory queue target number outcome after at sound h =
       lanes = lanes-with_lane limits.ranks posts queue target lane sound.lanes;
       room = (let same = ap (λ (p : Posts). p.events + owed p) h.leaves in omega arith);
       numbers = omega arith;
+      numbered = sound.numbered;
+      generations = λ segment n at. (let few = sound.generations segment n at in omega arith);
       rising = rise-with_lane posts queue target number at lane h.is (AreRising-phase posts.next at.lane at.place at.entry (phases.Carried (taken_bytes memory at.entry.kind)) h.is.in_lane rises) sound.rising;
       queues = queues-changed limits.depth posts.queues queue (λ (q : Queue). record q { lanes = slice_set q.lanes target lane }) sound.queues
           (λ q here.
@@ -231,6 +277,8 @@ put-sound limits posts memory queue target number Applied after at sound h =
       lanes = lanes-with_lane limits.ranks posts queue target lane sound.lanes;
       room = (let same = ap (λ (p : Parts). p.posts.events + owed p.posts) h.leaves in omega arith);
       numbers = omega arith;
+      numbered = sound.numbered;
+      generations = λ segment n at. (let few = sound.generations segment n at in omega arith);
       rising = rise-with_lane posts queue target number at lane h.is (AreRising-remove posts.next at.lane at.place rises) sound.rising;
       queues = queues-changed limits.depth posts.queues queue (λ (q : Queue). record q { lanes = slice_set q.lanes target lane }) sound.queues
           (λ q here.
@@ -250,6 +298,8 @@ put-sound limits posts memory queue target number Failed after at sound h =
       lanes = lanes-changed limits.ranks posts.queues queue change (λ q. length-set q.lanes target lane) sound.lanes;
       room = (let same = ap (λ (p : Parts). p.posts.events + owed p.posts) h.leaves in omega arith);
       numbers = omega arith;
+      numbered = sound.numbered;
+      generations = λ segment n at. (let few = sound.generations segment n at in omega arith);
       rising = rise-changed posts.next posts.queues queue change
           (λ q here. rise-lane posts.next q.lanes target lane (AreRising-phase posts.next at.lane at.place at.entry phases.Failed h.is.in_lane rises) (sound.rising queue q here)) sound.rising;
       queues = queues-changed limits.depth posts.queues queue change sound.queues
@@ -272,24 +322,42 @@ posts-sound limits table rank after sound all r p h = parts (slice_get-set table
     parts (inl here) = rw here.1 sound
     parts (inr there) = all r p there
 
+-- posts that are told a segment
+told-sound : (limits : Limits) (me : ℕ) (p : Posts) (call : Call) (reply : Reply) (all : List Posts) → ((r : ℕ) (x : Posts) → slice_get all r ≡ Some x → IsSoundPosts limits x)
+    → (r : ℕ) (x : Posts) → slice_get (told me p call reply all) r ≡ Some x → IsSoundPosts limits x
+told-sound limits me p call reply all sound r x h =
+    let from = told-from me p call reply all r x h in
+    rw from.3 (known-sound from.0 from.1 (sound r from.0 from.2))
+  where
+    known-sound : (before : Posts) (known : List (List (Option Extent))) → IsSoundPosts limits before → IsSoundPosts limits (record before { known = known })
+    known-sound before known is = record {
+      lanes = is.lanes;
+      room = is.room;
+      numbers = is.numbers;
+      numbered = is.numbered;
+      generations = is.generations;
+      rising = is.rising;
+      queues = is.queues;
+    }
+
 pub steps : (s t : State) (e : Event) → IsSound s → step s e ≡ Ok t → IsSound t
 steps s t (Called c call reply) sound h =
     let made = step-called s t c call reply h in
     let m = made.3 in
     let after = called-sound s.limits c.rank made.0 made.1 c.thread call reply made.2 (sound.posts c.rank made.0 m.posts_there) m.is in
-    let coherent = steps-coherent s t (Called c call reply) sound.coherent h in
+    let coherent = steps-coherent s t (Called c call reply) sound h in
     rw m.leaves (record {
       limits = sound.limits;
-      ranks = length-set s.posts c.rank made.2.posts ∙ sound.ranks;
-      memories = length-set s.memories c.rank made.2.memory ∙ sound.memories;
-      posts = posts-sound s.limits s.posts c.rank made.2.posts after sound.posts;
+      ranks = told-length c.rank made.0 call reply (slice_set s.posts c.rank made.2.posts) ∙ length-set s.posts c.rank made.2.posts ∙ sound.ranks;
+      memories = length-set s.memories (memory_rank s.limits c.rank call) made.2.memory ∙ sound.memories;
+      posts = told-sound s.limits c.rank made.0 call reply (slice_set s.posts c.rank made.2.posts) (posts-sound s.limits s.posts c.rank made.2.posts after sound.posts);
       coherent = subst IsCoherent m.leaves coherent;
     })
 steps s t (Take origin queue target number outcome) sound h =
     let made = step-take s t origin queue target number outcome h in
     let m = made.4 in
     let after = take-sound s.limits made.0 made.1 queue target number outcome made.2 made.3 (sound.posts origin made.0 m.posts_there) m.is in
-    let coherent = steps-coherent s t (Take origin queue target number outcome) sound.coherent h in
+    let coherent = steps-coherent s t (Take origin queue target number outcome) sound h in
     rw m.leaves (record {
       limits = sound.limits;
       ranks = length-set s.posts origin made.2 ∙ sound.ranks;
@@ -301,7 +369,7 @@ steps s t (Put origin queue target number outcome) sound h =
     let made = step-put s t origin queue target number outcome h in
     let m = made.4 in
     let after = put-sound s.limits made.0 made.1 queue target number outcome made.2 made.3 (sound.posts origin made.0 m.posts_there) m.is in
-    let coherent = steps-coherent s t (Put origin queue target number outcome) sound.coherent h in
+    let coherent = steps-coherent s t (Put origin queue target number outcome) sound h in
     rw m.leaves (record {
       limits = sound.limits;
       ranks = length-set s.posts origin made.2.posts ∙ sound.ranks;
@@ -315,7 +383,8 @@ steps s t (Put origin queue target number outcome) sound h =
 called-events : (limits : Limits) (me : ℕ) (posts : Posts) (memory : Memory) (thread : ℕ) (call : Call) (reply : Reply) (after : Parts)
     → IsSoundPosts limits posts → IsCalled limits me posts memory thread call reply after → after.posts.events ≡ posts.events + 1
 called-events limits me posts memory thread call reply after sound h =
-    let keeps = after-keeps limits.ranks (is_idle reply) posts (posts_done limits me posts thread call) sound.lanes sound.rising (done-keeps limits.ranks limits me posts thread call sound.lanes sound.rising) in
+    let keeps = after-keeps limits.ranks (is_idle reply) posts (posts_done limits me posts thread call) sound.lanes sound.rising sound.generations
+    (done-keeps limits.ranks limits me posts thread call sound.lanes sound.rising sound.generations) in
     rw h.leaves (ap (λ (n : ℕ). n + 1) keeps.events)
 
 put-events : (posts : Posts) (memory : Memory) (queue target number : ℕ) (outcome : Outcome) (after : Parts) (at : Found)
@@ -336,7 +405,9 @@ counts s t (Called c call reply) sound h =
     let before = sound.posts c.rank made.0 m.posts_there in
     let after = called-sound s.limits c.rank made.0 made.1 c.thread call reply made.2 before m.is in
     let more = called-events s.limits c.rank made.0 made.1 c.thread call reply made.2 before m.is in
-    rw m.leaves (left-set s.limits s.posts c.rank made.0 made.2.posts m.posts_there more (let room = after.room in omega arith))
+    let left = left-set s.limits s.posts c.rank made.0 made.2.posts m.posts_there more (let room = after.room in omega arith) in
+    let told_left = told-sum (λ (p : Posts). s.limits.events - p.events) (λ x known. refl) c.rank made.0 call reply (slice_set s.posts c.rank made.2.posts) in
+    rw m.leaves (ap (λ (n : ℕ). n + 1) told_left ∙ left)
 counts s t (Take origin queue target number outcome) sound h =
     let made = step-take s t origin queue target number outcome h in
     let m = made.4 in

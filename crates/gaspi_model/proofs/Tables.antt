@@ -1,9 +1,11 @@
 -- Tables with one item changed.
-use Rattle.std.proofs.Common.{replicate, take, drop, ◌≤◌, ◌<◌, Option, None, length, ◌++◌, ◌∙◌, arith, remove, ◌≡◌, ℕ, ◌+◌, zero, suc, List, [], ◌∷◌, Some, refl, sym, ap, subst, inl, inr, ◌⊎◌}
+use Rattle.std.proofs.Common.{Bool, true, false, ◌==◌, map, replicate, take, drop, ◌≤◌, ◌<◌, Option, None, length, ◌++◌, ◌∙◌, arith, remove, ◌≡◌, ℕ, ◌+◌, zero, suc, List, [], ◌∷◌, Some, refl, sym, ap, subst, inl, inr, ◌⊎◌}
 use Rattle.std.specs.List.{slice_get, slice_set, sum_by, flat_map, enumerate_from}
-use Rattle.std.proofs.lemmas.List.{get_or-replicate, length-replicate}
+use Rattle.std.specs.Option.{option_map}
+use Rattle.std.proofs.lemmas.List.{get_or-replicate, length-replicate, length-set}
+use Rattle.std.proofs.lemmas.Bool.{eq-eqb, eqb-true}
 use Rattle.std.proofs.lemmas.List.Sums.{sum_by-set}
-use Rattle.std.proofs.lemmas.Option.{slice_get_within, get_or_from_slice_get}
+use Rattle.std.proofs.lemmas.Option.{slice_get-map, slice_get_within, get_or_from_slice_get}
 use Rattle.gaspi_model.specs.State.{entry_at}
 use Rattle.gaspi_model.specs.Calls.{changed_at}
 
@@ -25,6 +27,25 @@ sum_by-changed f xs i x y h =
     let at = get_or_from_slice_get xs i x x h in
     subst (λ (z : _). sum_by f (slice_set xs i y) + f z ≡ sum_by f xs + f y) at (sum_by-set f xs i y x (slice_get_within xs i x h))
 
+-- a table keeps its length when an item is changed
+pub length-changed_at : {A : Type 0} (xs : List A) (i : ℕ) (change : A → A) → length (changed_at xs i change) ≡ length xs
+length-changed_at {A} xs i change = go (slice_get xs i) refl
+  where
+    go : (o : Option A) → slice_get xs i ≡ o → length (changed_at xs i change) ≡ length xs
+    go None at = rw at refl
+    go (Some x) at = rw at (length-set xs i (change x))
+
+-- what stands in a list that was made from another comes from what stands there
+pub map-at : {A B : Type 0} (f : A → B) (xs : List A) (i : ℕ) (y : B) → slice_get (map f xs) i ≡ Some y → (x : A) × (slice_get xs i ≡ Some x) × (y ≡ f x)
+map-at {A} {B} f xs i y h = go (slice_get xs i) refl
+  where
+    go : (o : Option A) → slice_get xs i ≡ o → (x : A) × (slice_get xs i ≡ Some x) × (y ≡ f x)
+    go (Some x) at =
+        let some : ◌≡◌ {A = Option B} (Some (f x)) (Some y) = sym (slice_get-map f xs i ∙ ap (option_map f) at) ∙ h in
+        (x, at, (let same : f x ≡ y = cc in sym same))
+    go None at =
+        absurd (let none : ◌≡◌ {A = Option B} None (Some y) = sym (slice_get-map f xs i ∙ ap (option_map f) at) ∙ h in let no : ⊥ = cc in no)
+
 -- a change at a place where something stands
 pub changed_at-found : {A : Type 0} (xs : List A) (i : ℕ) (x : A) (change : A → A) → slice_get xs i ≡ Some x → changed_at xs i change ≡ slice_set xs i (change x)
 changed_at-found xs i x change h = rw h refl
@@ -40,6 +61,14 @@ slice_get-set_other (x ∷ xs) zero zero y apart = absurd (apart refl)
 slice_get-set_other (x ∷ xs) zero (suc j) y apart = refl
 slice_get-set_other (x ∷ xs) (suc i) zero y apart = refl
 slice_get-set_other (x ∷ xs) (suc i) (suc j) y apart = slice_get-set_other xs i j y (λ e. apart (ap (λ (n : ℕ). suc n) e))
+
+-- a number is another or not
+pub same-or-not : {P : Type 0} (a b : ℕ) → (a ≡ b → P) → ((a ≡ b → ⊥) → P) → P
+same-or-not {P} a b same apart = go (a == b) refl
+  where
+    go : (t : Bool) → (a == b) ≡ t → P
+    go true is = same (eqb-true a b is)
+    go false is = apart (λ e. let yes = eq-eqb a b e in let no : ⊥ = cc in no)
 
 -- within a list something stands at each place
 pub past-none : {A : Type 0} (xs : List A) (i : ℕ) → i < length xs → slice_get xs i ≡ None → ⊥

@@ -3,10 +3,10 @@ use Rattle.std.proofs.Common.{◌≡◌, true, List, [], ◌∷◌, Err, refl}
 use Rattle.gaspi_types.specs.World.{World}
 use Rattle.gaspi_types.specs.declared.events.Event.{Event}
 use Rattle.gaspi_types.specs.declared.events.Event.TheVariants.{Called, Take, Put}
-use Rattle.gaspi_types.specs.declared.events.Outcome.TheVariants.{Applied}
-use Rattle.gaspi_types.specs.declared.calls.Call.TheVariants.{Store, Load, WriteNotify, Wait, Waitsome, Reset, End}
+use Rattle.gaspi_types.specs.declared.events.Outcome.TheVariants.{Applied, Failed}
+use Rattle.gaspi_types.specs.declared.calls.Call.TheVariants.{Alloc, Register, Delete, Store, Load, Write, WriteNotify, Wait, Waitsome, Reset, FetchAdd, CompareSwap, End}
 use Rattle.gaspi_types.specs.declared.replies.Reply.TheVariants as replies
-use Rattle.gaspi_types.specs.declared.replies.Refusal.TheVariants.{CallerEnded}
+use Rattle.gaspi_types.specs.declared.replies.Refusal.TheVariants.{Unregistered, QueueBroken, BadAlign, SegmentBusy, CallerEnded}
 use Rattle.gaspi_model.specs.Step.{is_legal, reached}
 use Rattle.gaspi_model.specs.declared.states.Why.TheVariants as whys
 
@@ -45,3 +45,31 @@ ended_caller-is_refused : is_legal two_ranks (
     ∷ Called (record { rank = 0; thread = 0 }) (Reset 0 3) (replies.Refused CallerEnded)
     ∷ Called (record { rank = 0; thread = 0 }) End (replies.Refused CallerEnded) ∷ []) ≡ true
 ended_caller-is_refused = refl
+
+-- a segment is made and told to a rank that writes to it; it goes before the put, which fails and breaks the queue; and
+-- the next segment of its number is another, which that rank does not know
+segment_in_between-is_legal : is_legal two_ranks (
+    Called (record { rank = 1; thread = 0 }) (Alloc 5 16) replies.Done
+    ∷ Called (record { rank = 0; thread = 0 }) (Write 0 0 1 5 0 4 0) (replies.Refused Unregistered)
+    ∷ Called (record { rank = 1; thread = 0 }) (Register 5 0) replies.Done
+    ∷ Called (record { rank = 0; thread = 0 }) (Write 0 0 1 5 0 4 0) replies.Done
+    ∷ Called (record { rank = 0; thread = 0 }) (Delete 0) (replies.Refused (SegmentBusy 0))
+    ∷ Take 0 0 1 0 Applied
+    ∷ Called (record { rank = 0; thread = 0 }) (Delete 0) replies.Done
+    ∷ Called (record { rank = 1; thread = 0 }) (Delete 5) replies.Done
+    ∷ Put 0 0 1 0 Failed
+    ∷ Called (record { rank = 0; thread = 0 }) (Wait 0) (replies.Refused (QueueBroken 1))
+    ∷ Called (record { rank = 1; thread = 0 }) (Alloc 5 8) replies.Done
+    ∷ Called (record { rank = 0; thread = 0 }) (FetchAdd 5 0 1 1) (replies.Refused Unregistered) ∷ []) ≡ true
+segment_in_between-is_legal = refl
+
+-- atomics of another rank's word, and of an own one: each answers what stood there
+atomics-are_legal : is_legal two_ranks (
+    Called (record { rank = 0; thread = 0 }) (FetchAdd 0 8 1 5) (replies.Value 0)
+    ∷ Called (record { rank = 0; thread = 0 }) (CompareSwap 0 8 1 4 9) (replies.Value 5)
+    ∷ Called (record { rank = 0; thread = 0 }) (CompareSwap 0 8 1 5 258) (replies.Value 5)
+    ∷ Called (record { rank = 1; thread = 0 }) (Load 0 8 2) (replies.Bytes (2 ∷ 1 ∷ []))
+    ∷ Called (record { rank = 1; thread = 0 }) (FetchAdd 0 8 1 18446744073709551615) (replies.Value 258)
+    ∷ Called (record { rank = 1; thread = 0 }) (FetchAdd 0 8 1 0) (replies.Value 257)
+    ∷ Called (record { rank = 1; thread = 0 }) (FetchAdd 0 4 1 0) (replies.Refused BadAlign) ∷ []) ≡ true
+atomics-are_legal = refl

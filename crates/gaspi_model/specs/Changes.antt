@@ -1,5 +1,5 @@
 -- What events change, in the words of what they are for.
-use Rattle.std.specs.Prelude.{◌≡◌, ◌≢◌, ℕ, ◌+◌, ◌<◌, ◌≤◌, true, List, length, remove, slice_get, slice_set, Some}
+use Rattle.std.specs.Prelude.{◌≡◌, ◌≢◌, ℕ, ◌+◌, ◌<◌, ◌≤◌, Bool, true, false, List, length, remove, slice_get, slice_set, Option, None, Some}
 use Rattle.gaspi_types.specs.Lanes.{is_carried}
 use Rattle.gaspi_types.specs.declared.entries.Entry.{Entry}
 use Rattle.gaspi_types.specs.declared.entries.Kind.{Kind}
@@ -26,6 +26,38 @@ pub record IsStored (old new stored : List ℕ) (offset : ℕ) : Type 0 where
   pub there : (k : ℕ) → k < length stored → slice_get new (offset + k) ≡ slice_get stored k
   pub before : (k : ℕ) → k < offset → slice_get new k ≡ slice_get old k
   pub behind : (k : ℕ) → offset + length stored ≤ k → slice_get new k ≡ slice_get old k
+
+-- A call by a rank `me` that writes into a segment of a rank: that segment's bytes have what is written in its range, and
+-- nothing else has changed but the count of events of the caller's rank.
+pub record IsWritten (s t : State) (me rank segment offset : ℕ) (written : List ℕ) : Type 0 where
+  pub posts : Posts
+  pub posts_there : slice_get s.posts me ≡ Some posts
+  pub posts_after : t.posts ≡ slice_set s.posts me (counted posts)
+  pub old : Memory
+  pub new : Memory
+  pub old_there : slice_get s.memories rank ≡ Some old
+  pub memories_after : t.memories ≡ slice_set s.memories rank new
+  pub old_segment : Segment
+  pub new_segment : Segment
+  pub old_segment_there : segment_at old segment ≡ Some old_segment
+  pub new_segment_there : segment_at new segment ≡ Some new_segment
+  pub segments : (other : ℕ) → other ≢ segment → segment_at new other ≡ segment_at old other
+  pub generation : new_segment.generation ≡ old_segment.generation
+  pub slots : new_segment.slots ≡ old_segment.slots
+  pub stored : IsStored old_segment.bytes new_segment.bytes written offset
+  pub limits : t.limits ≡ s.limits
+
+-- whether a rank is corrupt for a rank (state vector)
+abbrev pub is_corrupt : State → ℕ → ℕ → Bool
+is_corrupt s rank target = in_posts (slice_get s.posts rank)
+  where
+    is_marked : Option Bool → Bool
+    is_marked None = false
+    is_marked (Some mark) = mark
+
+    in_posts : Option Posts → Bool
+    in_posts None = false
+    in_posts (Some posts) = is_marked (slice_get posts.corrupt target)
 
 -- exactly one slot
 pub record IsSlotSet (old new : List ℕ) (note value : ℕ) : Type 0 where

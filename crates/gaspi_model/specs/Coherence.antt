@@ -1,9 +1,10 @@
--- What the parts of a state have in common: the tables of segments in the posts agree with the memories, and the ranges
--- of entries lie within their segments. (GASPI: segments, one-sided communication)
+-- What the parts of a state have in common: the tables of segments in the posts agree with the memories, the ranges of
+-- entries lie within their segments, and what is known of a segment of any generation was once so. (GASPI: segments,
+-- one-sided communication)
 use Rattle.std.specs.Prelude.{◌≡◌, ℕ, ◌<◌, true, List, map, length, nat_lt, Option, Some, slice_get}
 use Rattle.std.specs.Option.{option_map}
-use Rattle.gaspi_types.specs.Posts.{extent_in}
 use Rattle.gaspi_types.specs.SegmentBytes.{is_within}
+use Rattle.gaspi_types.specs.SegmentTables.{extent_in, next_generation}
 use Rattle.gaspi_types.specs.declared.entries.Entry.{Entry}
 use Rattle.gaspi_types.specs.declared.entries.Extent.{Extent}
 use Rattle.gaspi_types.specs.declared.entries.ByteRange.{ByteRange}
@@ -30,9 +31,25 @@ extents_of memory = map (option_map extent_of) memory.segments
 abbrev pub slot_counts : Memory → List (Option ℕ)
 slot_counts memory = map (option_map (λ (s : Segment). length s.slots)) memory.segments
 
--- the tables of own segments of all ranks
-abbrev pub own_tables : List Posts → List (List (Option Extent))
-own_tables posts = map (λ (p : Posts). p.own) posts
+-- the segments of a rank in its posts: those that are there, and the generations that the next ones have
+pub record Tables : Type 0 where
+  pub own : List (Option Extent)
+  pub next : List ℕ
+
+abbrev pub tables_of : Posts → Tables
+tables_of p = record { own = p.own; next = p.next_generations }
+
+-- of all ranks
+abbrev pub all_tables : List Posts → List Tables
+all_tables posts = map tables_of posts
+
+-- a segment of that number and generation was made, whether or not it is there yet
+abbrev pub WasMade : Tables → ℕ → ℕ → Type 0
+WasMade tables segment generation = generation < next_generation tables.next segment
+
+-- so was each segment that is there
+abbrev pub AreMade : Tables → Type 0
+AreMade tables = (segment : ℕ) (x : Extent) → extent_in tables.own segment ≡ Some x → WasMade tables segment x.generation
 
 -- a range is that of a segment that is there in its generation, and lies within it
 pub record LiesIn (table : List (Option Extent)) (range : ByteRange) : Type 0 where
@@ -53,28 +70,32 @@ HasSource mine own (Carried bytes) = length bytes ≡ own.size
 HasSource mine own Failed = Unit {0}
 
 -- an entry's ranges and its slot, where its origin and its target have those segments
-abbrev pub Fits : ℕ → List (Option Extent) → List (Option Extent) → Entry → Type 0
+abbrev pub Fits : ℕ → Tables → Tables → Entry → Type 0
 Fits notes mine theirs e = of_kind e.kind
   where
     of_kind : Kind → Type 0
-    of_kind (Write own target) = (own.size ≡ target.size) × (nat_lt target.segment 32 ≡ true) × LiesInIfThere theirs target × HasSource mine own e.phase
-    of_kind (Notify target value) = (target.note < notes)
+    of_kind (Write own target) =
+        (own.size ≡ target.size) × (nat_lt target.segment 32 ≡ true) × WasMade theirs target.segment target.generation
+        × LiesInIfThere theirs.own target × HasSource mine.own own e.phase
+    of_kind (Notify target value) = (target.note < notes) × WasMade theirs target.segment target.generation
 
 -- each entry of the queues of an origin fits
-abbrev pub AllFit : ℕ → List (List (Option Extent)) → ℕ → List Queue → Type 0
+abbrev pub AllFit : ℕ → List Tables → ℕ → List Queue → Type 0
 AllFit notes tables origin queues =
     (queue : ℕ) (q : Queue) → slice_get queues queue ≡ Some q → (target : ℕ) (lane : List Entry) → slice_get q.lanes target ≡ Some lane
-    → (place : ℕ) (e : Entry) → slice_get lane place ≡ Some e → (mine theirs : List (Option Extent)) → slice_get tables origin ≡ Some mine → slice_get tables target ≡ Some theirs
+    → (place : ℕ) (e : Entry) → slice_get lane place ≡ Some e → (mine theirs : Tables) → slice_get tables origin ≡ Some mine → slice_get tables target ≡ Some theirs
     → Fits notes mine theirs e
 
--- what a rank knows of the segments of others is their size, where they are there in that generation
-abbrev pub Knows : List (List (Option Extent)) → List (List (Option Extent)) → Type 0
+-- what a rank knows of the segments of others was made, and is their size where they are there in that generation
+abbrev pub Knows : List Tables → List (List (Option Extent)) → Type 0
 Knows tables known =
-    (rank : ℕ) (table theirs : List (Option Extent)) → slice_get known rank ≡ Some table → slice_get tables rank ≡ Some theirs
-    → (segment : ℕ) (x y : Extent) → extent_in table segment ≡ Some x → extent_in theirs segment ≡ Some y → y.generation ≡ x.generation → y.size ≡ x.size
+    (rank : ℕ) (table : List (Option Extent)) (theirs : Tables) → slice_get known rank ≡ Some table → slice_get tables rank ≡ Some theirs
+    → (segment : ℕ) (x : Extent) → extent_in table segment ≡ Some x
+    → WasMade theirs segment x.generation × ((y : Extent) → extent_in theirs.own segment ≡ Some y → y.generation ≡ x.generation → y.size ≡ x.size)
 
 pub record IsCoherent (s : State) : Type 0 where
   pub own : (rank : ℕ) (posts : Posts) (memory : Memory) → slice_get s.posts rank ≡ Some posts → slice_get s.memories rank ≡ Some memory → posts.own ≡ extents_of memory
   pub slots : (rank : ℕ) (memory : Memory) → slice_get s.memories rank ≡ Some memory → (segment n : ℕ) → entry_at (slot_counts memory) segment ≡ Some n → n ≡ s.limits.notes
-  pub known : (rank : ℕ) (posts : Posts) → slice_get s.posts rank ≡ Some posts → Knows (own_tables s.posts) posts.known
-  pub entries : (origin : ℕ) (posts : Posts) → slice_get s.posts origin ≡ Some posts → AllFit s.limits.notes (own_tables s.posts) origin posts.queues
+  pub made : (rank : ℕ) (posts : Posts) → slice_get s.posts rank ≡ Some posts → AreMade (tables_of posts)
+  pub known : (rank : ℕ) (posts : Posts) → slice_get s.posts rank ≡ Some posts → Knows (all_tables s.posts) posts.known
+  pub entries : (origin : ℕ) (posts : Posts) → slice_get s.posts origin ≡ Some posts → AllFit s.limits.notes (all_tables s.posts) origin posts.queues

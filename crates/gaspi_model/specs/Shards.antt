@@ -1,7 +1,9 @@
 -- The shards of an event: the ranks whose parts it reads and changes. The part of a rank is its posts and its memory.
 -- (own choice)
-use Rattle.std.specs.Prelude.{◌≡◌, ℕ, Bool, true, ◌==◌, List, [], ◌∷◌, Option, None, Some, Result, Ok, Err, slice_get}
+use Rattle.std.specs.Prelude.{◌≡◌, ℕ, Bool, true, ◌==◌, nat_lt, List, [], ◌∷◌, Option, None, Some, Result, Ok, Err, slice_get, if◌then◌else◌}
 use Rattle.std.specs.List.{list_any}
+use Rattle.gaspi_types.specs.declared.calls.Call.{Call}
+use Rattle.gaspi_types.specs.declared.calls.Call.TheVariants.{Alloc, Register, Delete, Store, Load, Write, Notify, WriteNotify, Wait, Waitsome, Reset, FetchAdd, CompareSwap, End}
 use Rattle.gaspi_types.specs.declared.entries.Entry.{Entry}
 use Rattle.gaspi_types.specs.declared.events.Event.{Event}
 use Rattle.gaspi_types.specs.declared.events.Event.TheVariants.{Called, Take, Put}
@@ -34,9 +36,31 @@ abbrev pub put_shards : ℕ → ℕ → Option Entry → List ℕ
 put_shards origin target None = origin ∷ []
 put_shards origin target (Some e) = origin ∷ target ∷ []
 
--- A call reads and changes its caller's rank alone, and a write takes its bytes from its origin.
+-- the rank that a call names, where the call reads or changes a part of it
+abbrev pub rank_named : Call → Option ℕ
+rank_named (Alloc seg size) = None
+rank_named (Register seg rank) = Some rank
+rank_named (Delete seg) = None
+rank_named (Store seg offset bytes) = None
+rank_named (Load seg offset size) = None
+rank_named (Write seg offset rank rseg roffset size queue) = None
+rank_named (Notify rseg rank note value queue) = None
+rank_named (WriteNotify seg offset rank rseg roffset size note value queue) = None
+rank_named (Wait queue) = None
+rank_named (Waitsome seg begin num) = None
+rank_named (Reset seg note) = None
+rank_named (FetchAdd seg offset rank value) = Some rank
+rank_named (CompareSwap seg offset rank comparator new) = Some rank
+rank_named End = None
+
+-- one that is no rank has no part
+abbrev pub call_shards : ℕ → ℕ → Option ℕ → List ℕ
+call_shards ranks me None = me ∷ []
+call_shards ranks me (Some rank) = if nat_lt rank ranks then me ∷ rank ∷ [] else me ∷ []
+
+-- A call reads and changes its caller's rank and that which it names, and a write takes its bytes from its origin.
 abbrev pub shards : State → Event → List ℕ
-shards s (Called c call reply) = c.rank ∷ []
+shards s (Called c call reply) = call_shards s.limits.ranks c.rank (rank_named call)
 shards s (Take origin queue target number outcome) = origin ∷ []
 shards s (Put origin queue target number outcome) = put_shards origin target (standing s origin queue target number)
 

@@ -49,11 +49,14 @@ pub record IsSoundQueue (depth : ℕ) (q : Queue) : Type 0 where
   pub failed : queue_failed q ≡ failures q.broken
 
 -- The posts of a rank: each queue has a lane to each rank, and is sound; what is recorded and owed has room; no event
--- gave more than 256 numbers to entries; and the numbers of each lane rise, and are below the next one.
+-- gave more than 256 numbers to entries, nor a number of a segment more than one generation; and the numbers of each lane
+-- rise, and are below the next one.
 pub record IsSoundPosts (limits : Limits) (posts : Posts) : Type 0 where
   pub lanes : (queue : ℕ) (q : Queue) → slice_get posts.queues queue ≡ Some q → length q.lanes ≡ limits.ranks
   pub room : posts.events + owed posts ≤ limits.events
   pub numbers : posts.next ≤ 256 * posts.events
+  pub numbered : length posts.next_generations ≡ 32
+  pub generations : (segment n : ℕ) → slice_get posts.next_generations segment ≡ Some n → n ≤ posts.events + 1
   pub rising : (queue : ℕ) (q : Queue) → slice_get posts.queues queue ≡ Some q → (target : ℕ) (lane : List Entry) → slice_get q.lanes target ≡ Some lane → AreRising posts.next lane
   pub queues : (queue : ℕ) (q : Queue) → slice_get posts.queues queue ≡ Some q → IsSoundQueue limits.depth q
 

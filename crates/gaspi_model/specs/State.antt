@@ -26,6 +26,14 @@ abbrev pub opening_extents : World → ℕ → List (Option Extent)
 opening_extents w rank =
     map (λ segment. option_map (λ size. record { generation = 0; size = size }) (declared_size w rank segment)) (range_with_len 0 32)
 
+-- the generation that the next segment of a number has: one is used where it is declared (own choice)
+abbrev pub generations_used : Option ℕ → ℕ
+generations_used None = 0
+generations_used (Some size) = 1
+
+abbrev pub opening_generations : World → ℕ → List ℕ
+opening_generations w rank = map (λ segment. generations_used (declared_size w rank segment)) (range_with_len 0 32)
+
 abbrev pub opening_thread : World → ℕ → ℕ → ThreadState
 opening_thread w rank thread = if list_any (is_caller rank thread) w.callers then Running else Absent
 
@@ -39,14 +47,18 @@ opening_posts w rank = record {
   corrupt = replicate w.limits.ranks false;
   own = opening_extents w rank;
   known = map (opening_extents w) (range_with_len 0 w.limits.ranks);
+  next_generations = opening_generations w rank;
   threads = map (opening_thread w rank) (range_with_len 0 4);
   events = 0;
   next = 0;
 }
 
--- zeros, with all slots zero
+-- a segment as it is made: zeros, with all slots zero
+abbrev pub new_segment : ℕ → ℕ → ℕ → Segment
+new_segment notes generation size = record { generation = generation; bytes = replicate size 0; slots = replicate notes 0 }
+
 abbrev pub opening_segment : ℕ → ℕ → Segment
-opening_segment notes size = record { generation = 0; bytes = replicate size 0; slots = replicate notes 0 }
+opening_segment notes size = new_segment notes 0 size
 
 abbrev pub opening_memory : World → ℕ → Memory
 opening_memory w rank = record {

@@ -5,7 +5,7 @@ use Rattle.gaspi_types.specs.Replies.{same_reply}
 use Rattle.gaspi_types.specs.World.{World, is_caller}
 use Rattle.gaspi_types.specs.declared.shapes.Limits.{Limits}
 use Rattle.gaspi_types.specs.declared.calls.Call.{Call}
-use Rattle.gaspi_types.specs.declared.calls.Call.TheVariants.{Store, Load, Write, Notify, WriteNotify, Wait, Waitsome, Reset, End}
+use Rattle.gaspi_types.specs.declared.calls.Call.TheVariants.{Alloc, Register, Delete, Store, Load, Write, Notify, WriteNotify, Wait, Waitsome, Reset, FetchAdd, CompareSwap, End}
 use Rattle.gaspi_types.specs.declared.replies.Reply.{Reply}
 use Rattle.gaspi_types.specs.declared.replies.Ready.{Ready}
 use Rattle.gaspi_types.specs.declared.events.Outcome.{Outcome}
@@ -14,7 +14,7 @@ use Rattle.gaspi_types.specs.declared.events.Transfer.{Transfer}
 use Rattle.gaspi_types.specs.declared.events.Event.{Event}
 use Rattle.gaspi_types.specs.declared.events.Event.TheVariants.{Called, Take, Put}
 use Rattle.gaspi_model.specs.State.{opening, owed, thread_at, is_running}
-use Rattle.gaspi_model.specs.Calls.{answer, recorded_reply, charge, posts_after, memory_after}
+use Rattle.gaspi_model.specs.Calls.{answer, recorded_reply, charge, posts_after, memory_after, memory_rank, told}
 use Rattle.gaspi_model.specs.Transfers.{take, put, Parts, Found, find_entry, put_outcome}
 use Rattle.gaspi_model.specs.declared.states.ThreadState.{ThreadState}
 use Rattle.gaspi_model.specs.declared.states.ThreadState.TheVariants.{Absent, Running, Ended}
@@ -31,22 +31,25 @@ is_there Absent = false
 is_there Running = true
 is_there Ended = true
 
--- A call with its reply, on its caller's posts and memory: the caller has a section, the reply is the one that may be
+-- A call with its reply, on its caller's posts and the memory that it works on: the caller has a section, the reply is the one that may be
 -- recorded, and the rank has room.
 abbrev pub called : Limits → ℕ → Posts → Memory → ℕ → Call → Reply → Result Parts Why
 called limits me posts memory thread call reply = do
   there ← check (is_there (thread_at posts thread)) whys.Caller
   answered ← check (same_reply reply (recorded_reply (answer limits me posts memory thread call))) whys.Reply
   room ← check (nat_le (posts.events + owed posts + charge (thread_at posts thread) call reply) limits.events) whys.Limit
-  Ok (record { posts = posts_after limits me posts thread call reply; memory = memory_after memory call reply })
+  Ok (record { posts = posts_after limits me posts thread call reply; memory = memory_after limits posts memory call reply })
 
 -- The step: the state after the event, or why it is none.
 abbrev pub step : State → Event → Result State Why
 step s (Called c call reply) = do
   posts ← found (slice_get s.posts c.rank) whys.Caller
-  memory ← found (slice_get s.memories c.rank) whys.Caller
+  memory ← found (slice_get s.memories (memory_rank s.limits c.rank call)) whys.Caller
   after ← called s.limits c.rank posts memory c.thread call reply
-  Ok (record s { posts = slice_set s.posts c.rank after.posts; memories = slice_set s.memories c.rank after.memory })
+  Ok (record s {
+    posts = told c.rank posts call reply (slice_set s.posts c.rank after.posts);
+    memories = slice_set s.memories (memory_rank s.limits c.rank call) after.memory;
+  })
 step s (Take origin queue target number outcome) = do
   posts ← found (slice_get s.posts origin) whys.Take
   memory ← found (slice_get s.memories origin) whys.Take
@@ -89,7 +92,7 @@ Steps (Err faults.NoMemory) old new outcome = new ≡ old
 
 -- what a look at a call of a caller answers in a state; of a rank that is not there, nothing
 abbrev pub answer_in : State → ℕ → ℕ → Call → Option Ready
-answer_in s rank thread call = answer_with (slice_get s.posts rank) (slice_get s.memories rank)
+answer_in s rank thread call = answer_with (slice_get s.posts rank) (slice_get s.memories (memory_rank s.limits rank call))
   where
     answer_with : Option Posts → Option Memory → Option Ready
     answer_with None memory = None
@@ -134,6 +137,9 @@ transfer_event s t = if t.put then Put t.origin t.queue t.target t.number (outco
     outcome_of (Some posts) (Some memory) = outcome_at (find_entry posts t.queue t.target t.number whys.Put) memory
 
 abbrev pub is_end : Call → Bool
+is_end (Alloc seg size) = false
+is_end (Register seg rank) = false
+is_end (Delete seg) = false
 is_end (Store seg offset bytes) = false
 is_end (Load seg offset size) = false
 is_end (Write seg offset rank rseg roffset size queue) = false
@@ -142,6 +148,8 @@ is_end (WriteNotify seg offset rank rseg roffset size note value queue) = false
 is_end (Wait queue) = false
 is_end (Waitsome seg begin num) = false
 is_end (Reset seg note) = false
+is_end (FetchAdd seg offset rank value) = false
+is_end (CompareSwap seg offset rank comparator new) = false
 is_end End = true
 
 -- the end of a caller

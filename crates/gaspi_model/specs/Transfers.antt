@@ -1,5 +1,5 @@
 -- Takes and puts: what a transfer may do, and what it leaves. (GASPI: one-sided communication, notification order)
-use Rattle.std.specs.Prelude.{ℕ, Bool, true, false, ◌==◌, List, [], ◌∷◌, remove, Option, None, Some, Result, Ok, if◌then◌else◌, slice_get, slice_set, is_none}
+use Rattle.std.specs.Prelude.{ℕ, Bool, true, false, List, [], ◌∷◌, remove, Some, Result, Ok, if◌then◌else◌, slice_get, slice_set, is_none}
 use Rattle.std.specs.List.{flat_map, enumerate_from}
 use Rattle.gaspi_types.specs.Checks.{◌>>=◌, check, found}
 use Rattle.gaspi_types.specs.SegmentBytes.{range_of, with_range}
@@ -14,10 +14,9 @@ use Rattle.gaspi_types.specs.declared.events.Outcome.TheVariants.{Applied, Faile
 use Rattle.gaspi_types.specs.declared.events.Transfer.{Transfer}
 use Rattle.gaspi_types.specs.declared.shapes.Limits.{Limits}
 use Rattle.gaspi_model.specs.State.{segment_at}
-use Rattle.gaspi_model.specs.Calls.{bytes_of, slots_of, with_bytes, with_slots, changed_at, counted}
+use Rattle.gaspi_model.specs.Calls.{is_generation, bytes_of, slots_of, with_bytes, with_slots, changed_at, counted}
 use Rattle.gaspi_model.specs.declared.states.Queue.{Queue}
 use Rattle.gaspi_model.specs.declared.states.Posts.{Posts}
-use Rattle.gaspi_model.specs.declared.states.Segment.{Segment}
 use Rattle.gaspi_model.specs.declared.states.Memory.{Memory}
 use Rattle.gaspi_model.specs.declared.states.Why.{Why}
 use Rattle.gaspi_model.specs.declared.states.Why.TheVariants as whys
@@ -75,10 +74,6 @@ target_segment (Notify target value) = target.segment
 abbrev pub target_generation : Kind → ℕ
 target_generation (Write own target) = target.generation
 target_generation (Notify target value) = target.generation
-
-abbrev pub is_generation : ℕ → Option Segment → Bool
-is_generation generation None = false
-is_generation generation (Some s) = s.generation == generation
 
 -- a put fails where the target's segment of the entry's generation is gone (state vector)
 abbrev pub put_outcome : Memory → Kind → Outcome

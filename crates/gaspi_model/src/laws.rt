@@ -1,12 +1,13 @@
 //! Laws of the machine: the contracts of functions that do nothing.
 
-ghost use Rattle.std.specs.Prelude.{◌≡◌, ◌≢◌, ℕ, ◌+◌, ◌<◌, ◌≤◌, ◌∷◌, ◌++◌, [], List, Ok, Some, IsOk, true, false, slice_get};
+ghost use Rattle.std.specs.Prelude.{◌≡◌, ◌≢◌, ℕ, ◌+◌, ◌%◌, ◌^◌, ◌<◌, ◌≤◌, ◌∷◌, ◌++◌, [], List, Ok, Some, IsOk, true, false, slice_get};
+ghost use Rattle.byteorder.specs.Endian.{little_bytes};
 ghost use Rattle.gaspi_types.specs.Need.{need_of};
 ghost use Rattle.gaspi_types.specs.Replies.{is_idle};
 ghost use Rattle.std.specs.List.{list_any};
 ghost use Rattle.gaspi_types.specs.World.{World, IsWorld, is_caller};
 ghost use Rattle.gaspi_types.specs.declared.calls.Call.{Call};
-ghost use Rattle.gaspi_types.specs.declared.calls.Call.TheVariants.{Write, Notify, WriteNotify, End};
+ghost use Rattle.gaspi_types.specs.declared.calls.Call.TheVariants.{Store, Write, Notify, WriteNotify, FetchAdd, CompareSwap, End};
 ghost use Rattle.gaspi_types.specs.declared.events.Event.{Event};
 ghost use Rattle.gaspi_types.specs.declared.events.Event.TheVariants.{Called, Put};
 ghost use Rattle.gaspi_types.specs.declared.events.Outcome.TheVariants.{Applied};
@@ -16,7 +17,7 @@ ghost use Rattle.gaspi_types.specs.declared.replies.Reply.{Reply};
 ghost use Rattle.gaspi_types.specs.declared.replies.Reply.TheVariants as replies;
 ghost use Rattle.gaspi_types.specs.declared.shapes.CallerId.{CallerId};
 ghost use Rattle.gaspi_model.specs.Calls.{recorded_reply};
-ghost use Rattle.gaspi_model.specs.Changes.{IsOnlyCounted, IsPutDone};
+ghost use Rattle.gaspi_model.specs.Changes.{IsOnlyCounted, IsPutDone, IsWritten, is_corrupt};
 ghost use Rattle.gaspi_model.specs.Order.{IsNotificationStanding, IsWriteStanding};
 ghost use Rattle.gaspi_model.specs.Shards.{AgreeOn, ComeToSame, HaveSamePart, is_shard, owner_of, shards};
 ghost use Rattle.gaspi_model.specs.Settled.{AreLanesEmpty};
@@ -28,10 +29,12 @@ ghost use Rattle.gaspi_model.specs.declared.states.Posts.{Posts};
 ghost use Rattle.gaspi_model.specs.declared.states.State.{State};
 
 /// The opening state is sound, and every step keeps a state sound, so every state of a legal history is: what a rank has
-/// recorded and owes is at most EVENTS; its next entry number is at most 256 times its events; the numbers of a lane
-/// rise and are below its origin's next number; a lane has at most DEPTH carried entries; the entries of a queue from
-/// its least posted one on are at most its open count, which is at most DEPTH; and the tables of segments, the memories
-/// and the ranges of entries agree.
+/// recorded and owes is at most EVENTS; its next entry number is at most 256 times its events, and the next generation of
+/// a segment number at most one more than its events; the numbers of a lane rise and are below its origin's next number; a
+/// lane has at most DEPTH carried entries; the entries of a queue from its least posted one on are at most its open count,
+/// which is at most DEPTH; a queue is broken exactly while it has a failed entry, and then has just one; the generations
+/// and sizes in a rank's table of segments are those in its memory; the own segment of a posted write is there in its
+/// generation; and the ranges of entries lie within their segments.
 pub fn soundness()
     ensures opens { (w : World) → IsWorld w → IsSound (opening w) }
     ensures steps { (s t : State) (e : Event) → IsSound s → step s e ≡ Ok t → IsSound t }
@@ -55,13 +58,28 @@ pub fn enabled()
 {}
 
 /// What events change. A put that is made changes exactly the range or the one slot that its entry states, and takes the
-/// entry out of its lane; a refusal or a timeout changes nothing; and in both cases nothing else has changed but the
-/// count of events. (GASPI: one-sided communication, notifications, timeouts)
+/// entry out of its lane; a store changes exactly its range, and an atomic exactly its word, a `compare_swap` only where
+/// it answers the comparator; a refusal or a timeout changes nothing; and in each case nothing else has changed but the
+/// count of events. (GASPI: one-sided communication, notifications, atomics, timeouts)
 pub fn changes()
     ensures put { (s t : State) (origin queue target number : ℕ) → IsSound s → step s (Put origin queue target number Applied) ≡ Ok t
         → IsPutDone s t origin queue target number }
     ensures idle { (s t : State) (c : CallerId) (call : Call) (reply : Reply) → is_idle reply ≡ true → step s (Called c call reply) ≡ Ok t
         → IsOnlyCounted s t c.rank }
+    ensures store { (s t : State) (c : CallerId) (seg offset : ℕ) (bytes : List ℕ) → IsSound s → step s (Called c (Store seg offset bytes) replies.Done) ≡ Ok t
+        → IsWritten s t c.rank c.rank seg offset bytes }
+    ensures fetch_add { (s t : State) (c : CallerId) (seg offset rank value old : ℕ) → IsSound s → step s (Called c (FetchAdd seg offset rank value) (replies.Value old)) ≡ Ok t
+        → IsWritten s t c.rank rank seg offset (little_bytes 8 ((old + value) % 2 ^ 64)) }
+    ensures swapped { (s t : State) (c : CallerId) (seg offset rank comparator new : ℕ) → IsSound s → step s (Called c (CompareSwap seg offset rank comparator new) (replies.Value comparator)) ≡ Ok t
+        → IsWritten s t c.rank rank seg offset (little_bytes 8 new) }
+    ensures kept { (s t : State) (c : CallerId) (seg offset rank comparator new old : ℕ) → old ≢ comparator → step s (Called c (CompareSwap seg offset rank comparator new) (replies.Value old)) ≡ Ok t
+        → IsOnlyCounted s t c.rank }
+{}
+
+/// A rank that is once corrupt in the state vector of a rank stays so. (GASPI: state vector)
+pub fn corruption()
+    ensures { (w : World) (earlier later : List Event) (s t : State) (rank target : ℕ) → reached w earlier ≡ Ok s → reached w (earlier ++ later) ≡ Ok t
+        → is_corrupt s rank target ≡ true → is_corrupt t rank target ≡ true }
 {}
 
 /// A notification comes after the earlier writes of its lane. The entries of a post stand in their lane from the post on.
@@ -99,7 +117,7 @@ pub fn locality()
     ensures frame { (s t : State) (e : Event) (rank : ℕ) → step s e ≡ Ok t → is_shard (shards s e) rank ≡ false → HaveSamePart t s rank }
     ensures determined { (s s' : State) (e : Event) → AgreeOn (shards s e) s s' → ComeToSame (shards s e) (step s e) (step s' e) }
     ensures owner { (s : State) (e : Event) → is_shard (shards s e) (owner_of e) ≡ true }
-    ensures shards { (s s' : State) (e : Event) → HaveSamePart s s' (owner_of e) → shards s e ≡ shards s' e }
+    ensures shards { (s s' : State) (e : Event) → s.limits ≡ s'.limits → HaveSamePart s s' (owner_of e) → shards s e ≡ shards s' e }
 {}
 
 /// Where no transfer may come next, every lane of a queue that is not broken is empty: nothing stands still for want of

@@ -5,6 +5,7 @@ mod laws;
 mod states;
 
 pub use laws::{
-    changes, enabled, endings, locality, notification_order, prefixes, settling, soundness,
+    changes, corruption, enabled, endings, locality, notification_order, prefixes, settling,
+    soundness,
 };
 pub use states::{Memory, Posts, Queue, Segment, State, StepFault, ThreadState, Why};

@@ -31,6 +31,8 @@ pub struct Posts {
     pub own: Rows<Option<Extent>>,
     /// What it knows of the segments of each rank.
     pub known: Rows<Rows<Option<Extent>>>,
+    /// The generation that its next segment of each number has.
+    pub next_generations: Rows<u32>,
     /// Its threads, by their numbers.
     pub threads: Rows<ThreadState>,
     /// How many events it has recorded.

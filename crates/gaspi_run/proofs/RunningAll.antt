@@ -59,6 +59,9 @@ pub record Laws : Type 0 where
   pub stops : StopsRun
 
 not-end : (call : Call) → call ≢ End → is_end call ≡ false
+not-end (calls.Alloc seg size) other = refl
+not-end (calls.Register seg rank) other = refl
+not-end (calls.Delete seg) other = refl
 not-end (calls.Store seg offset bytes) other = refl
 not-end (calls.Load seg offset size) other = refl
 not-end (calls.Write seg offset rank rseg roffset size queue) other = refl
@@ -67,6 +70,8 @@ not-end (calls.WriteNotify seg offset rank rseg roffset size note value queue) o
 not-end (calls.Wait queue) other = refl
 not-end (calls.Waitsome seg begin num) other = refl
 not-end (calls.Reset seg note) other = refl
+not-end (calls.FetchAdd seg offset rank value) other = refl
+not-end (calls.CompareSwap seg offset rank comparator new) other = refl
 not-end End other = absurd (other refl)
 
 all-at : {X : Type 0} (P : X → Type 0) (xs : List X) (place : ℕ) (x : X) → All P xs → slice_get xs place ≡ Some x → P x

@@ -1,17 +1,12 @@
 -- What words spell is in range.
-use Rattle.std.proofs.Common.{◌≡◌, ℕ, ℤ, ◌+◌, ◌^◌, ◌<◌, ◌≤◌, Bool, true, false, ◌&&◌, ◌==◌, if◌then◌else◌, nat_le, nat_lt, List, [], ◌∷◌, length, take, drop, position, codes, Option, Some, None, Result, Ok, Err, IfSome, refl, subst, arith}
+use Rattle.std.proofs.Common.{◌≡◌, ℕ, ℤ, ◌+◌, ◌^◌, ◌<◌, Bool, true, false, ◌==◌, if◌then◌else◌, nat_lt, List, [], ◌∷◌, take, drop, position, codes, Option, Some, None, IfSome, refl, subst, arith}
 use Rattle.std.specs.List.{AllByRecursion}
 use Rattle.std.specs.Option.{option_map}
-use Rattle.std.specs.Result.{result_ok}
 use Rattle.std.specs.Str.{bytes_eq}
-use Rattle.std.specs.Str.Parse.{digits_value}
 use Rattle.std.proofs.lemmas.Bool.Decides.{nat_tests}
-use Rattle.hex.specs.Hex.{decode_of, IsBytes}
-use Rattle.hex.specs.declared.error.FromHexError.{FromHexError}
-use Rattle.hex.proofs.HexLemmas.{decode_of-ok}
+use Rattle.hex.specs.Hex.{IsBytes}
 use Rattle.gaspi_types.specs.Replies.{refusal_fields, coll_fields, stage_number, op_number, type_number}
 use Rattle.gaspi_types.specs.declared.calls.Call.{Call}
-use Rattle.gaspi_types.specs.declared.calls.Call.TheVariants as calls
 use Rattle.gaspi_types.specs.declared.collectives.NumType.{NumType}
 use Rattle.gaspi_types.specs.declared.collectives.NumType.TheVariants.{Int, Uint, Long, Ulong, Float, Double}
 use Rattle.gaspi_types.specs.declared.collectives.Op.{Op}
@@ -28,16 +23,15 @@ use Rattle.gaspi_types.specs.declared.shapes.CallerId.{CallerId}
 use Rattle.gaspi_types.specs.declared.events.Event.{Event}
 use Rattle.gaspi_types.specs.declared.events.Event.TheVariants.{Called}
 use Rattle.gaspi_types.specs.declared.events.Outcome.{Outcome}
-use Rattle.gaspi_texts.specs.CallText.{◌>>=◌, call_word_of, call_with, store_of, load_of, write_of, notify_of, write_notify_of, wait_of, waitsome_of, reset_of, call_of, is_end_text, recorded_call_of, IsNumber, IsWritable}
-use Rattle.gaspi_texts.specs.declared.call_words.CallWord.{CallWord}
-use Rattle.gaspi_texts.specs.declared.call_words.CallWord.TheVariants as call_words
+use Rattle.call_texts.specs.CallText.{◌>>=◌, recorded_call_of, IsNumber, IsWritable}
 use Rattle.gaspi_texts.specs.declared.event_reading.Moved.{Moved}
 use Rattle.gaspi_texts.specs.declared.reply_words.ReplyWord.{ReplyWord}
 use Rattle.gaspi_texts.specs.declared.reply_words.ReplyWord.TheVariants as reply_words
+use Rattle.gaspi_texts.specs.CallLaws.{CallLaws}
 use Rattle.gaspi_texts.specs.EventReading.{number_below, outcome_of, caller_of, called_with, called_of, moved_of, taken, put, event_of}
 use Rattle.gaspi_texts.specs.EventText.{arrow, IsInEventRange}
-use Rattle.gaspi_texts.specs.Hex.{no_bytes, bytes_of}
-use Rattle.gaspi_texts.specs.Numbers.{number_up_to, is_numeral, number_of, value_of}
+use Rattle.call_texts.specs.Hex.{bytes_of}
+use Rattle.call_texts.specs.Numbers.{number_of, value_of}
 use Rattle.gaspi_texts.specs.ReplyText.{is_in_type, signed_of, element_of, elements_of, type_of, op_of, stage_of, bare, one_field, queue_full_of, group_stage_of, allreduce_of, create_of, barrier_of, coll_of, refusal_of, plain_reply, value_reply, bytes_reply, list_reply, refused_reply, reply_word_of, reply_with, reply_of, IsInRange}
 
 -- Steps that may find nothing.
@@ -71,441 +65,271 @@ guarded_int : (P : ℤ → Type 0) (b : Bool) (z : ℤ) → (b ≡ true → P z)
 guarded_int P true z h = h refl
 guarded_int P false z h = tt
 
--- Numbers and bytes.
-
-within : (word : List ℕ) (limit : ℕ) → (is_numeral word && nat_le (digits_value 10 word) limit) ≡ true → digits_value 10 word ≤ limit
-within word limit h = grind (arith, nat_tests)
-
-number_up_to-range : (limit : ℕ) (word : List ℕ) → IfSome (number_up_to limit word) (λ n. n ≤ limit)
-number_up_to-range limit word =
-    guarded (λ n. n ≤ limit) (is_numeral word && nat_le (digits_value 10 word) limit) (digits_value 10 word) (within word limit)
-
-below_64 : (o : Option ℕ) → IfSome o (λ n. n ≤ 18446744073709551615) → IfSome o IsNumber
-below_64 (Some n) h = omega (arith, h)
-below_64 None h = tt
-
-below_32 : (o : Option ℕ) → IfSome o (λ n. n ≤ 4294967295) → IfSome o (λ n. n < 2 ^ 32)
-below_32 (Some n) h = omega (arith, h)
-below_32 None h = tt
-
-number_range : (word : List ℕ) → IfSome (number_of word) IsNumber
-unfolding number_of
-number_range word = below_64 (number_up_to 18446744073709551615 word) (number_up_to-range 18446744073709551615 word)
-
-value_range : (word : List ℕ) → IfSome (value_of word) (λ n. n < 2 ^ 32)
-unfolding value_of
-value_range word = below_32 (number_up_to 4294967295 word) (number_up_to-range 4294967295 word)
-
-decoded_range : (word : List ℕ) (r : Result (List ℕ) FromHexError) → decode_of word ≡ r → IfSome (result_ok r) IsBytes
-decoded_range word (Ok bytes) e = (decode_of-ok word bytes e).3
-decoded_range word (Err fault) e = tt
-
-no_bytes_range : IsBytes []
-no_bytes_range i = omega arith
-
-bytes_range : (word : List ℕ) → IfSome (bytes_of word) IsBytes
-unfolding bytes_of
-bytes_range word =
-    either IsBytes (bytes_eq word no_bytes) (Some []) (if length word == 0 then None else result_ok (decode_of word)) no_bytes_range
-    (either IsBytes (length word == 0) None (result_ok (decode_of word)) tt (decoded_range word (decode_of word) refl))
-
--- Calls.
-
-store_range : (seg_found : Option ℕ) (offset_found : Option ℕ) (bytes_found : Option (List ℕ))
-    → IfSome seg_found IsNumber → IfSome offset_found IsNumber → IfSome bytes_found IsBytes
-    → IfSome (seg_found >>= λ seg. (offset_found >>= λ offset. (bytes_found >>= λ bytes. Some (calls.Store seg offset bytes)))) IsWritable
-store_range (Some seg) (Some offset) (Some bytes) h0 h1 h2 = (h0, h1, h2)
-store_range None offset_found bytes_found h0 h1 h2 = tt
-store_range (Some seg) None bytes_found h0 h1 h2 = tt
-store_range (Some seg) (Some offset) None h0 h1 h2 = tt
-
-store_of-range : (words : List (List ℕ)) → IfSome (store_of words) IsWritable
-unfolding store_of
-store_of-range (w0 ∷ w1 ∷ w2 ∷ []) =
-    store_range (number_of w0) (number_of w1) (bytes_of w2) (number_range w0) (number_range w1) (bytes_range w2)
-store_of-range other = tt
-
-load_range : (seg_found : Option ℕ) (offset_found : Option ℕ) (size_found : Option ℕ)
-    → IfSome seg_found IsNumber → IfSome offset_found IsNumber → IfSome size_found IsNumber
-    → IfSome (seg_found >>= λ seg. (offset_found >>= λ offset. (size_found >>= λ size. Some (calls.Load seg offset size)))) IsWritable
-load_range (Some seg) (Some offset) (Some size) h0 h1 h2 = (h0, h1, h2)
-load_range None offset_found size_found h0 h1 h2 = tt
-load_range (Some seg) None size_found h0 h1 h2 = tt
-load_range (Some seg) (Some offset) None h0 h1 h2 = tt
-
-load_of-range : (words : List (List ℕ)) → IfSome (load_of words) IsWritable
-unfolding load_of
-load_of-range (w0 ∷ w1 ∷ w2 ∷ []) =
-    load_range (number_of w0) (number_of w1) (number_of w2) (number_range w0) (number_range w1) (number_range w2)
-load_of-range other = tt
-
-write_range : (seg_found : Option ℕ) (offset_found : Option ℕ) (rank_found : Option ℕ) (rseg_found : Option ℕ) (roffset_found : Option ℕ) (size_found : Option ℕ) (queue_found : Option ℕ)
-    → IfSome seg_found IsNumber → IfSome offset_found IsNumber → IfSome rank_found IsNumber → IfSome rseg_found IsNumber → IfSome roffset_found IsNumber → IfSome size_found IsNumber → IfSome queue_found IsNumber
-    → IfSome (seg_found >>= λ seg. (offset_found >>= λ offset. (rank_found >>= λ rank. (rseg_found >>= λ rseg. (roffset_found >>= λ roffset. (size_found >>= λ size. (queue_found >>= λ queue. Some (calls.Write seg offset rank rseg roffset size queue)))))))) IsWritable
-write_range (Some seg) (Some offset) (Some rank) (Some rseg) (Some roffset) (Some size) (Some queue) h0 h1 h2 h3 h4 h5 h6 = (h0, h1, h2, h3, h4, h5, h6)
-write_range None offset_found rank_found rseg_found roffset_found size_found queue_found h0 h1 h2 h3 h4 h5 h6 = tt
-write_range (Some seg) None rank_found rseg_found roffset_found size_found queue_found h0 h1 h2 h3 h4 h5 h6 = tt
-write_range (Some seg) (Some offset) None rseg_found roffset_found size_found queue_found h0 h1 h2 h3 h4 h5 h6 = tt
-write_range (Some seg) (Some offset) (Some rank) None roffset_found size_found queue_found h0 h1 h2 h3 h4 h5 h6 = tt
-write_range (Some seg) (Some offset) (Some rank) (Some rseg) None size_found queue_found h0 h1 h2 h3 h4 h5 h6 = tt
-write_range (Some seg) (Some offset) (Some rank) (Some rseg) (Some roffset) None queue_found h0 h1 h2 h3 h4 h5 h6 = tt
-write_range (Some seg) (Some offset) (Some rank) (Some rseg) (Some roffset) (Some size) None h0 h1 h2 h3 h4 h5 h6 = tt
-
-write_of-range : (words : List (List ℕ)) → IfSome (write_of words) IsWritable
-unfolding write_of
-write_of-range (w0 ∷ w1 ∷ w2 ∷ w3 ∷ w4 ∷ w5 ∷ w6 ∷ []) =
-    write_range (number_of w0) (number_of w1) (number_of w2) (number_of w3) (number_of w4) (number_of w5) (number_of w6) (number_range w0) (number_range w1) (number_range w2) (number_range w3) (number_range w4) (number_range w5) (number_range w6)
-write_of-range other = tt
-
-notify_range : (rseg_found : Option ℕ) (rank_found : Option ℕ) (note_found : Option ℕ) (value_found : Option ℕ) (queue_found : Option ℕ)
-    → IfSome rseg_found IsNumber → IfSome rank_found IsNumber → IfSome note_found IsNumber → IfSome value_found (λ n. n < 2 ^ 32) → IfSome queue_found IsNumber
-    → IfSome (rseg_found >>= λ rseg. (rank_found >>= λ rank. (note_found >>= λ note. (value_found >>= λ value. (queue_found >>= λ queue. Some (calls.Notify rseg rank note value queue)))))) IsWritable
-notify_range (Some rseg) (Some rank) (Some note) (Some value) (Some queue) h0 h1 h2 h3 h4 = (h0, h1, h2, h3, h4)
-notify_range None rank_found note_found value_found queue_found h0 h1 h2 h3 h4 = tt
-notify_range (Some rseg) None note_found value_found queue_found h0 h1 h2 h3 h4 = tt
-notify_range (Some rseg) (Some rank) None value_found queue_found h0 h1 h2 h3 h4 = tt
-notify_range (Some rseg) (Some rank) (Some note) None queue_found h0 h1 h2 h3 h4 = tt
-notify_range (Some rseg) (Some rank) (Some note) (Some value) None h0 h1 h2 h3 h4 = tt
-
-notify_of-range : (words : List (List ℕ)) → IfSome (notify_of words) IsWritable
-unfolding notify_of
-notify_of-range (w0 ∷ w1 ∷ w2 ∷ w3 ∷ w4 ∷ []) =
-    notify_range (number_of w0) (number_of w1) (number_of w2) (value_of w3) (number_of w4) (number_range w0) (number_range w1) (number_range w2) (value_range w3) (number_range w4)
-notify_of-range other = tt
-
-write_notify_range : (seg_found : Option ℕ) (offset_found : Option ℕ) (rank_found : Option ℕ) (rseg_found : Option ℕ) (roffset_found : Option ℕ) (size_found : Option ℕ) (note_found : Option ℕ) (value_found : Option ℕ) (queue_found : Option ℕ)
-    → IfSome seg_found IsNumber → IfSome offset_found IsNumber → IfSome rank_found IsNumber → IfSome rseg_found IsNumber → IfSome roffset_found IsNumber → IfSome size_found IsNumber → IfSome note_found IsNumber → IfSome value_found (λ n. n < 2 ^ 32) → IfSome queue_found IsNumber
-    → IfSome (seg_found >>= λ seg. (offset_found >>= λ offset. (rank_found >>= λ rank. (rseg_found >>= λ rseg. (roffset_found >>= λ roffset. (size_found >>= λ size. (note_found >>= λ note. (value_found >>= λ value. (queue_found >>= λ queue. Some (calls.WriteNotify seg offset rank rseg roffset size note value queue)))))))))) IsWritable
-write_notify_range (Some seg) (Some offset) (Some rank) (Some rseg) (Some roffset) (Some size) (Some note) (Some value) (Some queue) h0 h1 h2 h3 h4 h5 h6 h7 h8 = (h0, h1, h2, h3, h4, h5, h6, h7, h8)
-write_notify_range None offset_found rank_found rseg_found roffset_found size_found note_found value_found queue_found h0 h1 h2 h3 h4 h5 h6 h7 h8 = tt
-write_notify_range (Some seg) None rank_found rseg_found roffset_found size_found note_found value_found queue_found h0 h1 h2 h3 h4 h5 h6 h7 h8 = tt
-write_notify_range (Some seg) (Some offset) None rseg_found roffset_found size_found note_found value_found queue_found h0 h1 h2 h3 h4 h5 h6 h7 h8 = tt
-write_notify_range (Some seg) (Some offset) (Some rank) None roffset_found size_found note_found value_found queue_found h0 h1 h2 h3 h4 h5 h6 h7 h8 = tt
-write_notify_range (Some seg) (Some offset) (Some rank) (Some rseg) None size_found note_found value_found queue_found h0 h1 h2 h3 h4 h5 h6 h7 h8 = tt
-write_notify_range (Some seg) (Some offset) (Some rank) (Some rseg) (Some roffset) None note_found value_found queue_found h0 h1 h2 h3 h4 h5 h6 h7 h8 = tt
-write_notify_range (Some seg) (Some offset) (Some rank) (Some rseg) (Some roffset) (Some size) None value_found queue_found h0 h1 h2 h3 h4 h5 h6 h7 h8 = tt
-write_notify_range (Some seg) (Some offset) (Some rank) (Some rseg) (Some roffset) (Some size) (Some note) None queue_found h0 h1 h2 h3 h4 h5 h6 h7 h8 = tt
-write_notify_range (Some seg) (Some offset) (Some rank) (Some rseg) (Some roffset) (Some size) (Some note) (Some value) None h0 h1 h2 h3 h4 h5 h6 h7 h8 = tt
-
-write_notify_of-range : (words : List (List ℕ)) → IfSome (write_notify_of words) IsWritable
-unfolding write_notify_of
-write_notify_of-range (w0 ∷ w1 ∷ w2 ∷ w3 ∷ w4 ∷ w5 ∷ w6 ∷ w7 ∷ w8 ∷ []) =
-    write_notify_range (number_of w0) (number_of w1) (number_of w2) (number_of w3) (number_of w4) (number_of w5) (number_of w6) (value_of w7) (number_of w8) (number_range w0) (number_range w1) (number_range w2) (number_range w3) (number_range w4) (number_range w5) (number_range w6) (value_range w7) (number_range w8)
-write_notify_of-range other = tt
-
-wait_range : (queue_found : Option ℕ)
-    → IfSome queue_found IsNumber
-    → IfSome (queue_found >>= λ queue. Some (calls.Wait queue)) IsWritable
-wait_range (Some queue) h0 = h0
-wait_range None h0 = tt
-
-wait_of-range : (words : List (List ℕ)) → IfSome (wait_of words) IsWritable
-unfolding wait_of
-wait_of-range (w0 ∷ []) =
-    wait_range (number_of w0) (number_range w0)
-wait_of-range other = tt
-
-waitsome_range : (seg_found : Option ℕ) (begin_found : Option ℕ) (num_found : Option ℕ)
-    → IfSome seg_found IsNumber → IfSome begin_found IsNumber → IfSome num_found IsNumber
-    → IfSome (seg_found >>= λ seg. (begin_found >>= λ begin. (num_found >>= λ num. Some (calls.Waitsome seg begin num)))) IsWritable
-waitsome_range (Some seg) (Some begin) (Some num) h0 h1 h2 = (h0, h1, h2)
-waitsome_range None begin_found num_found h0 h1 h2 = tt
-waitsome_range (Some seg) None num_found h0 h1 h2 = tt
-waitsome_range (Some seg) (Some begin) None h0 h1 h2 = tt
-
-waitsome_of-range : (words : List (List ℕ)) → IfSome (waitsome_of words) IsWritable
-unfolding waitsome_of
-waitsome_of-range (w0 ∷ w1 ∷ w2 ∷ []) =
-    waitsome_range (number_of w0) (number_of w1) (number_of w2) (number_range w0) (number_range w1) (number_range w2)
-waitsome_of-range other = tt
-
-reset_range : (seg_found : Option ℕ) (note_found : Option ℕ)
-    → IfSome seg_found IsNumber → IfSome note_found IsNumber
-    → IfSome (seg_found >>= λ seg. (note_found >>= λ note. Some (calls.Reset seg note))) IsWritable
-reset_range (Some seg) (Some note) h0 h1 = (h0, h1)
-reset_range None note_found h0 h1 = tt
-reset_range (Some seg) None h0 h1 = tt
-
-reset_of-range : (words : List (List ℕ)) → IfSome (reset_of words) IsWritable
-unfolding reset_of
-reset_of-range (w0 ∷ w1 ∷ []) =
-    reset_range (number_of w0) (number_of w1) (number_range w0) (number_range w1)
-reset_of-range other = tt
-
-call_with-range : (word : CallWord) (arguments : List (List ℕ)) → IfSome (call_with word arguments) IsWritable
-call_with-range call_words.Store arguments = store_of-range arguments
-call_with-range call_words.Load arguments = load_of-range arguments
-call_with-range call_words.Write arguments = write_of-range arguments
-call_with-range call_words.Notify arguments = notify_of-range arguments
-call_with-range call_words.WriteNotify arguments = write_notify_of-range arguments
-call_with-range call_words.Wait arguments = wait_of-range arguments
-call_with-range call_words.Waitsome arguments = waitsome_of-range arguments
-call_with-range call_words.Reset arguments = reset_of-range arguments
-
-call_of-range : (words : List (List ℕ)) → IfSome (call_of words) IsWritable
-unfolding call_of
-call_of-range [] = tt
-call_of-range (word ∷ arguments) =
-    bound (λ kind. Unit {0}) IsWritable (call_word_of word) (λ kind. call_with kind arguments) (anything (call_word_of word)) (λ kind h. call_with-range kind arguments)
-
-recorded_call_of-range : (words : List (List ℕ)) → IfSome (recorded_call_of words) IsWritable
-unfolding recorded_call_of
-recorded_call_of-range words = either IsWritable (is_end_text words) (Some calls.End) (call_of words) tt (call_of-range words)
-
--- Replies.
-
-one_field-range : (fields : List (List ℕ)) → IfSome (one_field fields) (λ n. n < 2 ^ 32)
-one_field-range [] = tt
-one_field-range (word ∷ []) = value_range word
-one_field-range (word ∷ next ∷ words) = tt
-
-elements_of-range : (t : NumType) (words : List (List ℕ)) → IfSome (elements_of t words) (λ items. AllByRecursion (λ z. is_in_type t z ≡ true) items)
-unfolding element_of
-elements_of-range t [] = tt
-elements_of-range t (word ∷ words) =
-    bound (λ z. is_in_type t z ≡ true) (λ items. AllByRecursion (λ z. is_in_type t z ≡ true) items) (element_of t word) (λ z. elements_of t words >>= λ rest. Some (z ∷ rest))
-    (bound (λ z. Unit {0}) (λ z. is_in_type t z ≡ true) (signed_of word) (λ z. if is_in_type t z then Some z else None) (anything (signed_of word)) (λ z h. guarded_int (λ y. is_in_type t y ≡ true) (is_in_type t z) z (λ e. e)))
-    (λ z h. bound (λ items. AllByRecursion (λ y. is_in_type t y ≡ true) items) (λ items. AllByRecursion (λ y. is_in_type t y ≡ true) items) (elements_of t words) (λ rest. Some (z ∷ rest)) (elements_of-range t words) (λ rest more. (h, more)))
-
-type_small : (t : NumType) → type_number t < 2 ^ 32
-type_small Int = omega arith
-type_small Uint = omega arith
-type_small Long = omega arith
-type_small Ulong = omega arith
-type_small Float = omega arith
-type_small Double = omega arith
-
-op_small : (op : Op) → op_number op < 2 ^ 32
-op_small Min = omega arith
-op_small Max = omega arith
-op_small Sum = omega arith
-
-stage_small : (stage : Stage) → stage_number stage < 2 ^ 32
-stage_small Building = omega arith
-stage_small Committed = omega arith
-
-allreduce_range : (op : Option Op) (t : Option NumType) (count : Option ℕ) → IfSome count (λ n. n < 2 ^ 32)
-    → IfSome (op >>= λ o. (t >>= λ num_type. (count >>= λ n. Some (Allreduce o num_type n)))) (λ c. AllByRecursion (λ n. n < 2 ^ 32) (coll_fields c))
-allreduce_range (Some op) (Some t) (Some count) h = (omega arith, (op_small op, (type_small t, (h, tt))))
-allreduce_range None t count h = tt
-allreduce_range (Some op) None count h = tt
-allreduce_range (Some op) (Some t) None h = tt
-
-create_range : (segment size : Option ℕ) → IfSome segment (λ n. n < 2 ^ 32) → IfSome size (λ n. n < 2 ^ 32)
-    → IfSome (segment >>= λ s. (size >>= λ n. Some (Create s n))) (λ c. AllByRecursion (λ n. n < 2 ^ 32) (coll_fields c))
-create_range (Some segment) (Some size) h k = (omega arith, (h, (k, tt)))
-create_range None size h k = tt
-create_range (Some segment) None h k = tt
-
-allreduce_of-range : (arguments : List (List ℕ)) → IfSome (allreduce_of arguments) (λ c. AllByRecursion (λ n. n < 2 ^ 32) (coll_fields c))
-allreduce_of-range (first ∷ second ∷ third ∷ []) =
-    allreduce_range (op_of first) (type_of second) (value_of third) (value_range third)
-allreduce_of-range other = tt
-
-create_of-range : (arguments : List (List ℕ)) → IfSome (create_of arguments) (λ c. AllByRecursion (λ n. n < 2 ^ 32) (coll_fields c))
-create_of-range (first ∷ second ∷ []) = create_range (value_of first) (value_of second) (value_range first) (value_range second)
-create_of-range other = tt
-
-barrier_of-range : (arguments : List (List ℕ)) → IfSome (barrier_of arguments) (λ c. AllByRecursion (λ n. n < 2 ^ 32) (coll_fields c))
-barrier_of-range [] = (omega arith, tt)
-barrier_of-range (word ∷ words) = tt
-
-commit_range : (o : Option ℕ) → IfSome o (λ n. n < 2 ^ 32) → IfSome (option_map Commit o) (λ c. AllByRecursion (λ n. n < 2 ^ 32) (coll_fields c))
-commit_range (Some mask) h = (omega arith, (h, tt))
-commit_range None h = tt
-
-coll_of-range : (fields : List (List ℕ)) → IfSome (coll_of fields) (λ c. AllByRecursion (λ n. n < 2 ^ 32) (coll_fields c))
-unfolding coll_of
-coll_of-range [] = tt
-coll_of-range (word ∷ arguments) =
-    either _ (bytes_eq (codes "barrier") word) _ _ (barrier_of-range arguments)
-    (either _ (bytes_eq (codes "allreduce") word) _ _ (allreduce_of-range arguments)
-    (either _ (bytes_eq (codes "create") word) _ _ (create_of-range arguments)
-    (either _ (bytes_eq (codes "commit") word) _ None (commit_range (one_field arguments) (one_field-range arguments)) tt)))
-
-bare-range : (r : Refusal) (fields : List (List ℕ)) → AllByRecursion (λ n. n < 2 ^ 32) (refusal_fields r)
-    → IfSome (bare r fields) (λ found. AllByRecursion (λ n. n < 2 ^ 32) (refusal_fields found))
-bare-range r [] h = h
-bare-range r (word ∷ words) h = tt
-
-single_range : (f : ℕ → Refusal) → ((n : ℕ) → n < 2 ^ 32 → AllByRecursion (λ k. k < 2 ^ 32) (refusal_fields (f n))) → (o : Option ℕ)
-    → IfSome o (λ n. n < 2 ^ 32) → IfSome (option_map f o) (λ found. AllByRecursion (λ n. n < 2 ^ 32) (refusal_fields found))
-single_range f h (Some n) small = h n small
-single_range f h None small = tt
-
-kept_range : (f : Coll → Refusal) → ((c : Coll) → AllByRecursion (λ n. n < 2 ^ 32) (coll_fields c) → AllByRecursion (λ k. k < 2 ^ 32) (refusal_fields (f c)))
-    → (o : Option Coll) → IfSome o (λ c. AllByRecursion (λ n. n < 2 ^ 32) (coll_fields c)) → IfSome (option_map f o) (λ found. AllByRecursion (λ n. n < 2 ^ 32) (refusal_fields found))
-kept_range f h (Some c) small = h c small
-kept_range f h None small = tt
-
-queue_full_range : (count need : Option ℕ) → IfSome count (λ n. n < 2 ^ 32) → IfSome need (λ n. n < 2 ^ 32)
-    → IfSome (count >>= λ m. (need >>= λ n. Some (QueueFull m n))) (λ found. AllByRecursion (λ n. n < 2 ^ 32) (refusal_fields found))
-queue_full_range (Some count) (Some need) h k = (h, (k, tt))
-queue_full_range None need h k = tt
-queue_full_range (Some count) None h k = tt
-
-group_stage_range : (o : Option Stage) → IfSome (option_map GroupStage o) (λ found. AllByRecursion (λ n. n < 2 ^ 32) (refusal_fields found))
-group_stage_range (Some stage) = (stage_small stage, tt)
-group_stage_range None = tt
-
-single-range : (f : ℕ → Refusal) → ((n : ℕ) → n < 2 ^ 32 → AllByRecursion (λ k. k < 2 ^ 32) (refusal_fields (f n))) → (fields : List (List ℕ))
-    → IfSome (option_map f (one_field fields)) (λ found. AllByRecursion (λ n. n < 2 ^ 32) (refusal_fields found))
-single-range f h fields = single_range f h (one_field fields) (one_field-range fields)
-
-kept-range : (f : Coll → Refusal) → ((c : Coll) → AllByRecursion (λ n. n < 2 ^ 32) (coll_fields c) → AllByRecursion (λ k. k < 2 ^ 32) (refusal_fields (f c)))
-    → (fields : List (List ℕ)) → IfSome (option_map f (coll_of fields)) (λ found. AllByRecursion (λ n. n < 2 ^ 32) (refusal_fields found))
-kept-range f h fields = kept_range f h (coll_of fields) (coll_of-range fields)
-
-queue_full_of-range : (fields : List (List ℕ)) → IfSome (queue_full_of fields) (λ found. AllByRecursion (λ n. n < 2 ^ 32) (refusal_fields found))
-queue_full_of-range (first ∷ second ∷ []) = queue_full_range (value_of first) (value_of second) (value_range first) (value_range second)
-queue_full_of-range other = tt
-
-group_stage_of-range : (fields : List (List ℕ)) → IfSome (group_stage_of fields) (λ found. AllByRecursion (λ n. n < 2 ^ 32) (refusal_fields found))
-group_stage_of-range [] = tt
-group_stage_of-range (word ∷ []) = group_stage_range (stage_of word)
-group_stage_of-range (word ∷ next ∷ words) = tt
-
-refusal_of-range : (number : ℕ) (fields : List (List ℕ)) → IfSome (refusal_of number fields) (λ found. AllByRecursion (λ n. n < 2 ^ 32) (refusal_fields found))
-unfolding refusal_of
-refusal_of-range number fields =
-    (either _ (number == 1) _ _ (bare-range BadRank fields tt)
-    (either _ (number == 2) _ _ (bare-range NoSegment fields tt)
-    (either _ (number == 3) _ _ (bare-range SegmentThere fields tt)
-    (either _ (number == 4) _ _ (bare-range Unregistered fields tt)
-    (either _ (number == 5) _ _ (single-range BadRange (λ n h. (h, tt)) fields)
-    (either _ (number == 6) _ _ (bare-range BadSize fields tt)
-    (either _ (number == 7) _ _ (bare-range BadQueue fields tt)
-    (either _ (number == 8) _ _ (queue_full_of-range fields)
-    (either _ (number == 9) _ _ (single-range QueueBroken (λ n h. (h, tt)) fields)
-    (either _ (number == 10) _ _ (bare-range BadNote fields tt)
-    (either _ (number == 11) _ _ (bare-range ZeroValue fields tt)
-    (either _ (number == 12) _ _ (bare-range BadAlign fields tt)
-    (either _ (number == 13) _ _ (single-range PassiveSize (λ n h. (h, tt)) fields)
-    (either _ (number == 14) _ _ (bare-range NoGroup fields tt)
-    (either _ (number == 15) _ _ (group_stage_of-range fields)
-    (either _ (number == 16) _ _ (bare-range NotMember fields tt)
-    (either _ (number == 17) _ _ (single-range GroupMismatch (λ n h. (h, tt)) fields)
-    (either _ (number == 18) _ _ (single-range ActiveCollective (λ n h. (h, tt)) fields)
-    (either _ (number == 19) _ _ (kept-range ResumeOther (λ c h. h) fields)
-    (either _ (number == 20) _ _ (kept-range CollectiveMismatch (λ c h. h) fields)
-    (either _ (number == 21) _ _ (bare-range BadCount fields tt)
-    (either _ (number == 22) _ _ (bare-range FloatType fields tt)
-    (either _ (number == 23) _ _ (single-range SegmentBusy (λ n h. (h, tt)) fields)
-    (either _ (number == 24) _ _ (bare-range GroupsFull fields tt)
-    (either _ (number == 25) _ None (bare-range CallerEnded fields tt) tt)))))))))))))))))))))))))
-
-bytes_reply-range : (arguments : List (List ℕ)) → IfSome (bytes_reply arguments) IsInRange
-bytes_reply-range [] = tt
-bytes_reply-range (word ∷ []) = mapped IsInRange replies.Bytes (bytes_of word) (bytes_range word)
-bytes_reply-range (word ∷ next ∷ words) = tt
-
-value_reply-range : (arguments : List (List ℕ)) → IfSome (value_reply arguments) IsInRange
-value_reply-range [] = tt
-value_reply-range (word ∷ []) = mapped IsInRange replies.Value (number_of word) (number_range word)
-value_reply-range (word ∷ next ∷ words) = tt
-
-list_reply-range : (arguments : List (List ℕ)) → IfSome (list_reply arguments) IsInRange
-list_reply-range [] = tt
-list_reply-range (word ∷ elements) =
-    bound (λ t. Unit {0}) IsInRange (type_of word) (λ t. elements_of t elements >>= λ items. Some (replies.List (record { num_type = t; items = items }))) (anything (type_of word))
-    (λ t h. bound (λ items. AllByRecursion (λ z. is_in_type t z ≡ true) items) IsInRange (elements_of t elements) (λ items. Some (replies.List (record { num_type = t; items = items }))) (elements_of-range t elements) (λ items k. k))
-
-refused_reply-range : (arguments : List (List ℕ)) → IfSome (refused_reply arguments) IsInRange
-refused_reply-range [] = tt
-refused_reply-range (word ∷ fields) =
-    bound (λ n. Unit {0}) IsInRange (number_of word) (λ number. refusal_of number fields >>= λ refusal. Some (replies.Refused refusal)) (anything (number_of word))
-    (λ number h. bound (λ r. AllByRecursion (λ n. n < 2 ^ 32) (refusal_fields r)) IsInRange (refusal_of number fields) (λ refusal. Some (replies.Refused refusal)) (refusal_of-range number fields) (λ refusal k. k))
-
-plain_reply-range : (reply : Reply) (arguments : List (List ℕ)) → IsInRange reply → IfSome (plain_reply reply arguments) IsInRange
-plain_reply-range reply [] h = h
-plain_reply-range reply (word ∷ words) h = tt
-
-reply_with-range : (kind : ReplyWord) (arguments : List (List ℕ)) → IfSome (reply_with kind arguments) IsInRange
-reply_with-range reply_words.Done arguments = plain_reply-range replies.Done arguments tt
-reply_with-range reply_words.Value arguments = value_reply-range arguments
-reply_with-range reply_words.Id arguments = mapped IsInRange replies.Id (one_field arguments) (one_field-range arguments)
-reply_with-range reply_words.Bytes arguments = bytes_reply-range arguments
-reply_with-range reply_words.Mask arguments = mapped IsInRange replies.Mask (one_field arguments) (one_field-range arguments)
-reply_with-range reply_words.List arguments = list_reply-range arguments
-reply_with-range reply_words.Timeout arguments = plain_reply-range replies.Timeout arguments tt
-reply_with-range reply_words.Refused arguments = refused_reply-range arguments
-
-reply_of-range : (words : List (List ℕ)) → IfSome (reply_of words) IsInRange
-unfolding reply_of
-reply_of-range [] = tt
-reply_of-range (word ∷ arguments) =
-    bound (λ kind. Unit {0}) IsInRange (reply_word_of word) (λ kind. reply_with kind arguments) (anything (reply_word_of word)) (λ kind h. reply_with-range kind arguments)
-
-pub reply_in_range : (words : List (List ℕ)) (reply : Reply) → reply_of words ≡ Some reply → IsInRange reply
-reply_in_range words reply e = in_range_from IsInRange (reply_of words) reply (reply_of-range words) e
-
--- Events.
-
-number_below-range : (limit : ℕ) (word : List ℕ) → IfSome (number_below limit word) (λ n. n < limit)
-number_below-range limit word =
-    bound (λ n. Unit {0}) (λ n. n < limit) (value_of word) (λ n. if nat_lt n limit then Some n else None) (anything (value_of word))
-    (λ n h. guarded (λ k. k < limit) (nat_lt n limit) n (λ e. grind (arith, nat_tests)))
-
-pair_range : (first second : Option ℕ) → IfSome first (λ n. n < 16) → IfSome second (λ n. n < 4)
-    → IfSome (first >>= λ rank. (second >>= λ thread. Some (record { rank = rank; thread = thread }))) (λ (c : CallerId). (c.rank < 16) × (c.thread < 4))
-pair_range (Some rank) (Some thread) h k = (h, k)
-pair_range None second h k = tt
-pair_range (Some rank) None h k = tt
-
-called_range : (c : CallerId) (call_found : Option Call) (reply_found : Option Reply) → c.rank < 16 → c.thread < 4 → IfSome call_found IsWritable → IfSome reply_found IsInRange
-    → IfSome (call_found >>= λ call. (reply_found >>= λ reply. Some (Called c call reply))) IsInEventRange
-called_range c (Some call) (Some reply) rank thread h k = (rank, thread, h, k)
-called_range c None reply rank thread h k = tt
-called_range c (Some call) None rank thread h k = tt
-
-caller_range : (o : Option ℕ) (word : List ℕ)
-    → IfSome (o >>= λ dot. (number_below 16 (take dot word) >>= λ rank. (number_below 4 (drop (dot + 1) word) >>= λ thread. Some (record { rank = rank; thread = thread })))) (λ (c : CallerId). (c.rank < 16) × (c.thread < 4))
-caller_range None word = tt
-caller_range (Some dot) word =
-    pair_range (number_below 16 (take dot word)) (number_below 4 (drop (dot + 1) word)) (number_below-range 16 (take dot word)) (number_below-range 4 (drop (dot + 1) word))
-
-caller_of-range : (word : List ℕ) → IfSome (caller_of word) (λ c. (c.rank < 16) × (c.thread < 4))
-unfolding caller_of
-caller_of-range word = caller_range (position (λ byte. byte == 46) word) word
-
-called_with-range : (c : CallerId) (call_words reply_words : List (List ℕ)) → c.rank < 16 → c.thread < 4 → IfSome (called_with c call_words reply_words) IsInEventRange
-called_with-range c first second rank thread =
-    called_range c (recorded_call_of first) (reply_of second) rank thread (recorded_call_of-range first) (reply_of-range second)
-
-called_of-range : (words : List (List ℕ)) → IfSome (called_of words) IsInEventRange
-unfolding called_of
-called_of-range [] = tt
-called_of-range (word ∷ words) =
-    bound (λ c. (c.rank < 16) × (c.thread < 4)) IsInEventRange (caller_of word)
-    (λ c. position (λ w. bytes_eq arrow w) words >>= λ place. called_with c (take place words) (drop (place + 1) words)) (caller_of-range word)
-    (λ c h. bound (λ place. Unit {0}) IsInEventRange (position (λ w. bytes_eq arrow w) words) (λ place. called_with c (take place words) (drop (place + 1) words)) (anything (position (λ w. bytes_eq arrow w) words))
-    (λ place k. called_with-range c (take place words) (drop (place + 1) words) h.0 h.1))
-
-moved_range : (origin_found queue_found target_found number_found : Option ℕ) (outcome_found : Option Outcome)
-    → IfSome origin_found (λ n. n < 16) → IfSome queue_found (λ n. n < 8) → IfSome target_found (λ n. n < 16) → IfSome number_found (λ n. n < 2 ^ 32)
-    → IfSome (origin_found >>= λ origin. (queue_found >>= λ queue. (target_found >>= λ target. (number_found >>= λ number. (outcome_found >>= λ outcome. Some (record { origin = origin; queue = queue; target = target; number = number; outcome = outcome }))))))
-    (λ (m : Moved). (m.origin < 16) × (m.queue < 8) × (m.target < 16) × (m.number < 2 ^ 32))
-moved_range (Some origin) (Some queue) (Some target) (Some number) (Some outcome) h0 h1 h2 h3 = (h0, h1, h2, h3)
-moved_range None queue target number outcome h0 h1 h2 h3 = tt
-moved_range (Some origin) None target number outcome h0 h1 h2 h3 = tt
-moved_range (Some origin) (Some queue) None number outcome h0 h1 h2 h3 = tt
-moved_range (Some origin) (Some queue) (Some target) None outcome h0 h1 h2 h3 = tt
-moved_range (Some origin) (Some queue) (Some target) (Some number) None h0 h1 h2 h3 = tt
-
-moved_of-range : (words : List (List ℕ)) → IfSome (moved_of words) (λ m. (m.origin < 16) × (m.queue < 8) × (m.target < 16) × (m.number < 2 ^ 32))
-unfolding moved_of
-moved_of-range (first ∷ second ∷ third ∷ fourth ∷ fifth ∷ []) =
-    moved_range (number_below 16 first) (number_below 8 second) (number_below 16 third) (value_of fourth) (outcome_of fifth)
-    (number_below-range 16 first) (number_below-range 8 second) (number_below-range 16 third) (value_range fourth)
-moved_of-range other = tt
-
-event_of-range : (words : List (List ℕ)) → IfSome (event_of words) IsInEventRange
-unfolding event_of
-event_of-range [] = tt
-event_of-range (word ∷ arguments) =
-    either IsInEventRange (bytes_eq (codes "called") word) (called_of arguments) (if bytes_eq (codes "take") word then option_map taken (moved_of arguments) else (if bytes_eq (codes "put") word then option_map put (moved_of arguments) else None)) (called_of-range arguments)
-    (either IsInEventRange (bytes_eq (codes "take") word) (option_map taken (moved_of arguments)) (if bytes_eq (codes "put") word then option_map put (moved_of arguments) else None) (mapped IsInEventRange taken (moved_of arguments) (moved_of-range arguments))
-    (either IsInEventRange (bytes_eq (codes "put") word) (option_map put (moved_of arguments)) None (mapped IsInEventRange put (moved_of arguments) (moved_of-range arguments)) tt))
-
-pub event_in_range : (words : List (List ℕ)) (event : Event) → event_of words ≡ Some event → IsInEventRange event
-event_in_range words event e = in_range_from IsInEventRange (event_of words) event (event_of-range words) e
+-- what holds of each value that an option can be
+held : {A : Type 0} (P : A → Type 0) (o : Option A) → ((x : A) → o ≡ Some x → P x) → IfSome o P
+held P (Some x) h = h x refl
+held P None h = tt
+
+module _ (laws : CallLaws) where
+  -- Numbers, bytes and calls.
+
+  value_range : (word : List ℕ) → IfSome (value_of word) (λ n. n < 2 ^ 32)
+  value_range word = held (λ n. n < 2 ^ 32) (value_of word) (laws.value_range word)
+
+  -- Replies.
+
+  one_field-range : (fields : List (List ℕ)) → IfSome (one_field fields) (λ n. n < 2 ^ 32)
+  one_field-range [] = tt
+  one_field-range (word ∷ []) = value_range word
+  one_field-range (word ∷ next ∷ words) = tt
+
+  elements_of-range : (t : NumType) (words : List (List ℕ)) → IfSome (elements_of t words) (λ items. AllByRecursion (λ z. is_in_type t z ≡ true) items)
+  unfolding element_of
+  elements_of-range t [] = tt
+  elements_of-range t (word ∷ words) =
+      bound (λ z. is_in_type t z ≡ true) (λ items. AllByRecursion (λ z. is_in_type t z ≡ true) items) (element_of t word) (λ z. elements_of t words >>= λ rest. Some (z ∷ rest))
+      (bound (λ z. Unit {0}) (λ z. is_in_type t z ≡ true) (signed_of word) (λ z. if is_in_type t z then Some z else None) (anything (signed_of word)) (λ z h. guarded_int (λ y. is_in_type t y ≡ true) (is_in_type t z) z (λ e. e)))
+      (λ z h. bound (λ items. AllByRecursion (λ y. is_in_type t y ≡ true) items) (λ items. AllByRecursion (λ y. is_in_type t y ≡ true) items) (elements_of t words) (λ rest. Some (z ∷ rest)) (elements_of-range t words) (λ rest more. (h, more)))
+
+  type_small : (t : NumType) → type_number t < 2 ^ 32
+  type_small Int = omega arith
+  type_small Uint = omega arith
+  type_small Long = omega arith
+  type_small Ulong = omega arith
+  type_small Float = omega arith
+  type_small Double = omega arith
+
+  op_small : (op : Op) → op_number op < 2 ^ 32
+  op_small Min = omega arith
+  op_small Max = omega arith
+  op_small Sum = omega arith
+
+  stage_small : (stage : Stage) → stage_number stage < 2 ^ 32
+  stage_small Building = omega arith
+  stage_small Committed = omega arith
+
+  allreduce_range : (op : Option Op) (t : Option NumType) (count : Option ℕ) → IfSome count (λ n. n < 2 ^ 32)
+      → IfSome (op >>= λ o. (t >>= λ num_type. (count >>= λ n. Some (Allreduce o num_type n)))) (λ c. AllByRecursion (λ n. n < 2 ^ 32) (coll_fields c))
+  allreduce_range (Some op) (Some t) (Some count) h = (omega arith, (op_small op, (type_small t, (h, tt))))
+  allreduce_range None t count h = tt
+  allreduce_range (Some op) None count h = tt
+  allreduce_range (Some op) (Some t) None h = tt
+
+  create_range : (segment size : Option ℕ) → IfSome segment (λ n. n < 2 ^ 32) → IfSome size (λ n. n < 2 ^ 32)
+      → IfSome (segment >>= λ s. (size >>= λ n. Some (Create s n))) (λ c. AllByRecursion (λ n. n < 2 ^ 32) (coll_fields c))
+  create_range (Some segment) (Some size) h k = (omega arith, (h, (k, tt)))
+  create_range None size h k = tt
+  create_range (Some segment) None h k = tt
+
+  allreduce_of-range : (arguments : List (List ℕ)) → IfSome (allreduce_of arguments) (λ c. AllByRecursion (λ n. n < 2 ^ 32) (coll_fields c))
+  allreduce_of-range (first ∷ second ∷ third ∷ []) =
+      allreduce_range (op_of first) (type_of second) (value_of third) (value_range third)
+  allreduce_of-range other = tt
+
+  create_of-range : (arguments : List (List ℕ)) → IfSome (create_of arguments) (λ c. AllByRecursion (λ n. n < 2 ^ 32) (coll_fields c))
+  create_of-range (first ∷ second ∷ []) = create_range (value_of first) (value_of second) (value_range first) (value_range second)
+  create_of-range other = tt
+
+  barrier_of-range : (arguments : List (List ℕ)) → IfSome (barrier_of arguments) (λ c. AllByRecursion (λ n. n < 2 ^ 32) (coll_fields c))
+  barrier_of-range [] = (omega arith, tt)
+  barrier_of-range (word ∷ words) = tt
+
+  commit_range : (o : Option ℕ) → IfSome o (λ n. n < 2 ^ 32) → IfSome (option_map Commit o) (λ c. AllByRecursion (λ n. n < 2 ^ 32) (coll_fields c))
+  commit_range (Some mask) h = (omega arith, (h, tt))
+  commit_range None h = tt
+
+  coll_of-range : (fields : List (List ℕ)) → IfSome (coll_of fields) (λ c. AllByRecursion (λ n. n < 2 ^ 32) (coll_fields c))
+  unfolding coll_of
+  coll_of-range [] = tt
+  coll_of-range (word ∷ arguments) =
+      either _ (bytes_eq (codes "barrier") word) _ _ (barrier_of-range arguments)
+      (either _ (bytes_eq (codes "allreduce") word) _ _ (allreduce_of-range arguments)
+      (either _ (bytes_eq (codes "create") word) _ _ (create_of-range arguments)
+      (either _ (bytes_eq (codes "commit") word) _ None (commit_range (one_field arguments) (one_field-range arguments)) tt)))
+
+  bare-range : (r : Refusal) (fields : List (List ℕ)) → AllByRecursion (λ n. n < 2 ^ 32) (refusal_fields r)
+      → IfSome (bare r fields) (λ found. AllByRecursion (λ n. n < 2 ^ 32) (refusal_fields found))
+  bare-range r [] h = h
+  bare-range r (word ∷ words) h = tt
+
+  single_range : (f : ℕ → Refusal) → ((n : ℕ) → n < 2 ^ 32 → AllByRecursion (λ k. k < 2 ^ 32) (refusal_fields (f n))) → (o : Option ℕ)
+      → IfSome o (λ n. n < 2 ^ 32) → IfSome (option_map f o) (λ found. AllByRecursion (λ n. n < 2 ^ 32) (refusal_fields found))
+  single_range f h (Some n) small = h n small
+  single_range f h None small = tt
+
+  kept_range : (f : Coll → Refusal) → ((c : Coll) → AllByRecursion (λ n. n < 2 ^ 32) (coll_fields c) → AllByRecursion (λ k. k < 2 ^ 32) (refusal_fields (f c)))
+      → (o : Option Coll) → IfSome o (λ c. AllByRecursion (λ n. n < 2 ^ 32) (coll_fields c)) → IfSome (option_map f o) (λ found. AllByRecursion (λ n. n < 2 ^ 32) (refusal_fields found))
+  kept_range f h (Some c) small = h c small
+  kept_range f h None small = tt
+
+  queue_full_range : (count need : Option ℕ) → IfSome count (λ n. n < 2 ^ 32) → IfSome need (λ n. n < 2 ^ 32)
+      → IfSome (count >>= λ m. (need >>= λ n. Some (QueueFull m n))) (λ found. AllByRecursion (λ n. n < 2 ^ 32) (refusal_fields found))
+  queue_full_range (Some count) (Some need) h k = (h, (k, tt))
+  queue_full_range None need h k = tt
+  queue_full_range (Some count) None h k = tt
+
+  group_stage_range : (o : Option Stage) → IfSome (option_map GroupStage o) (λ found. AllByRecursion (λ n. n < 2 ^ 32) (refusal_fields found))
+  group_stage_range (Some stage) = (stage_small stage, tt)
+  group_stage_range None = tt
+
+  single-range : (f : ℕ → Refusal) → ((n : ℕ) → n < 2 ^ 32 → AllByRecursion (λ k. k < 2 ^ 32) (refusal_fields (f n))) → (fields : List (List ℕ))
+      → IfSome (option_map f (one_field fields)) (λ found. AllByRecursion (λ n. n < 2 ^ 32) (refusal_fields found))
+  single-range f h fields = single_range f h (one_field fields) (one_field-range fields)
+
+  kept-range : (f : Coll → Refusal) → ((c : Coll) → AllByRecursion (λ n. n < 2 ^ 32) (coll_fields c) → AllByRecursion (λ k. k < 2 ^ 32) (refusal_fields (f c)))
+      → (fields : List (List ℕ)) → IfSome (option_map f (coll_of fields)) (λ found. AllByRecursion (λ n. n < 2 ^ 32) (refusal_fields found))
+  kept-range f h fields = kept_range f h (coll_of fields) (coll_of-range fields)
+
+  queue_full_of-range : (fields : List (List ℕ)) → IfSome (queue_full_of fields) (λ found. AllByRecursion (λ n. n < 2 ^ 32) (refusal_fields found))
+  queue_full_of-range (first ∷ second ∷ []) = queue_full_range (value_of first) (value_of second) (value_range first) (value_range second)
+  queue_full_of-range other = tt
+
+  group_stage_of-range : (fields : List (List ℕ)) → IfSome (group_stage_of fields) (λ found. AllByRecursion (λ n. n < 2 ^ 32) (refusal_fields found))
+  group_stage_of-range [] = tt
+  group_stage_of-range (word ∷ []) = group_stage_range (stage_of word)
+  group_stage_of-range (word ∷ next ∷ words) = tt
+
+  refusal_of-range : (number : ℕ) (fields : List (List ℕ)) → IfSome (refusal_of number fields) (λ found. AllByRecursion (λ n. n < 2 ^ 32) (refusal_fields found))
+  unfolding refusal_of
+  refusal_of-range number fields =
+      (either _ (number == 1) _ _ (bare-range BadRank fields tt)
+      (either _ (number == 2) _ _ (bare-range NoSegment fields tt)
+      (either _ (number == 3) _ _ (bare-range SegmentThere fields tt)
+      (either _ (number == 4) _ _ (bare-range Unregistered fields tt)
+      (either _ (number == 5) _ _ (single-range BadRange (λ n h. (h, tt)) fields)
+      (either _ (number == 6) _ _ (bare-range BadSize fields tt)
+      (either _ (number == 7) _ _ (bare-range BadQueue fields tt)
+      (either _ (number == 8) _ _ (queue_full_of-range fields)
+      (either _ (number == 9) _ _ (single-range QueueBroken (λ n h. (h, tt)) fields)
+      (either _ (number == 10) _ _ (bare-range BadNote fields tt)
+      (either _ (number == 11) _ _ (bare-range ZeroValue fields tt)
+      (either _ (number == 12) _ _ (bare-range BadAlign fields tt)
+      (either _ (number == 13) _ _ (single-range PassiveSize (λ n h. (h, tt)) fields)
+      (either _ (number == 14) _ _ (bare-range NoGroup fields tt)
+      (either _ (number == 15) _ _ (group_stage_of-range fields)
+      (either _ (number == 16) _ _ (bare-range NotMember fields tt)
+      (either _ (number == 17) _ _ (single-range GroupMismatch (λ n h. (h, tt)) fields)
+      (either _ (number == 18) _ _ (single-range ActiveCollective (λ n h. (h, tt)) fields)
+      (either _ (number == 19) _ _ (kept-range ResumeOther (λ c h. h) fields)
+      (either _ (number == 20) _ _ (kept-range CollectiveMismatch (λ c h. h) fields)
+      (either _ (number == 21) _ _ (bare-range BadCount fields tt)
+      (either _ (number == 22) _ _ (bare-range FloatType fields tt)
+      (either _ (number == 23) _ _ (single-range SegmentBusy (λ n h. (h, tt)) fields)
+      (either _ (number == 24) _ _ (bare-range GroupsFull fields tt)
+      (either _ (number == 25) _ None (bare-range CallerEnded fields tt) tt)))))))))))))))))))))))))
+
+  bytes_reply-range : (arguments : List (List ℕ)) → IfSome (bytes_reply arguments) IsInRange
+  bytes_reply-range [] = tt
+  bytes_reply-range (word ∷ []) = mapped IsInRange replies.Bytes (bytes_of word) (held IsBytes (bytes_of word) (laws.bytes_range word))
+  bytes_reply-range (word ∷ next ∷ words) = tt
+
+  value_reply-range : (arguments : List (List ℕ)) → IfSome (value_reply arguments) IsInRange
+  value_reply-range [] = tt
+  value_reply-range (word ∷ []) = mapped IsInRange replies.Value (number_of word) (held IsNumber (number_of word) (laws.number_range word))
+  value_reply-range (word ∷ next ∷ words) = tt
+
+  list_reply-range : (arguments : List (List ℕ)) → IfSome (list_reply arguments) IsInRange
+  list_reply-range [] = tt
+  list_reply-range (word ∷ elements) =
+      bound (λ t. Unit {0}) IsInRange (type_of word) (λ t. elements_of t elements >>= λ items. Some (replies.List (record { num_type = t; items = items }))) (anything (type_of word))
+      (λ t h. bound (λ items. AllByRecursion (λ z. is_in_type t z ≡ true) items) IsInRange (elements_of t elements) (λ items. Some (replies.List (record { num_type = t; items = items }))) (elements_of-range t elements) (λ items k. k))
+
+  refused_reply-range : (arguments : List (List ℕ)) → IfSome (refused_reply arguments) IsInRange
+  refused_reply-range [] = tt
+  refused_reply-range (word ∷ fields) =
+      bound (λ n. Unit {0}) IsInRange (number_of word) (λ number. refusal_of number fields >>= λ refusal. Some (replies.Refused refusal)) (anything (number_of word))
+      (λ number h. bound (λ r. AllByRecursion (λ n. n < 2 ^ 32) (refusal_fields r)) IsInRange (refusal_of number fields) (λ refusal. Some (replies.Refused refusal)) (refusal_of-range number fields) (λ refusal k. k))
+
+  plain_reply-range : (reply : Reply) (arguments : List (List ℕ)) → IsInRange reply → IfSome (plain_reply reply arguments) IsInRange
+  plain_reply-range reply [] h = h
+  plain_reply-range reply (word ∷ words) h = tt
+
+  reply_with-range : (kind : ReplyWord) (arguments : List (List ℕ)) → IfSome (reply_with kind arguments) IsInRange
+  reply_with-range reply_words.Done arguments = plain_reply-range replies.Done arguments tt
+  reply_with-range reply_words.Value arguments = value_reply-range arguments
+  reply_with-range reply_words.Id arguments = mapped IsInRange replies.Id (one_field arguments) (one_field-range arguments)
+  reply_with-range reply_words.Bytes arguments = bytes_reply-range arguments
+  reply_with-range reply_words.Mask arguments = mapped IsInRange replies.Mask (one_field arguments) (one_field-range arguments)
+  reply_with-range reply_words.List arguments = list_reply-range arguments
+  reply_with-range reply_words.Timeout arguments = plain_reply-range replies.Timeout arguments tt
+  reply_with-range reply_words.Refused arguments = refused_reply-range arguments
+
+  reply_of-range : (words : List (List ℕ)) → IfSome (reply_of words) IsInRange
+  unfolding reply_of
+  reply_of-range [] = tt
+  reply_of-range (word ∷ arguments) =
+      bound (λ kind. Unit {0}) IsInRange (reply_word_of word) (λ kind. reply_with kind arguments) (anything (reply_word_of word)) (λ kind h. reply_with-range kind arguments)
+
+  pub reply_in_range : (words : List (List ℕ)) (reply : Reply) → reply_of words ≡ Some reply → IsInRange reply
+  reply_in_range words reply e = in_range_from IsInRange (reply_of words) reply (reply_of-range words) e
+
+  -- Events.
+
+  number_below-range : (limit : ℕ) (word : List ℕ) → IfSome (number_below limit word) (λ n. n < limit)
+  number_below-range limit word =
+      bound (λ n. Unit {0}) (λ n. n < limit) (value_of word) (λ n. if nat_lt n limit then Some n else None) (anything (value_of word))
+      (λ n h. guarded (λ k. k < limit) (nat_lt n limit) n (λ e. grind (arith, nat_tests)))
+
+  pair_range : (first second : Option ℕ) → IfSome first (λ n. n < 16) → IfSome second (λ n. n < 4)
+      → IfSome (first >>= λ rank. (second >>= λ thread. Some (record { rank = rank; thread = thread }))) (λ (c : CallerId). (c.rank < 16) × (c.thread < 4))
+  pair_range (Some rank) (Some thread) h k = (h, k)
+  pair_range None second h k = tt
+  pair_range (Some rank) None h k = tt
+
+  called_range : (c : CallerId) (call_found : Option Call) (reply_found : Option Reply) → c.rank < 16 → c.thread < 4 → IfSome call_found IsWritable → IfSome reply_found IsInRange
+      → IfSome (call_found >>= λ call. (reply_found >>= λ reply. Some (Called c call reply))) IsInEventRange
+  called_range c (Some call) (Some reply) rank thread h k = (rank, thread, h, k)
+  called_range c None reply rank thread h k = tt
+  called_range c (Some call) None rank thread h k = tt
+
+  caller_range : (o : Option ℕ) (word : List ℕ)
+      → IfSome (o >>= λ dot. (number_below 16 (take dot word) >>= λ rank. (number_below 4 (drop (dot + 1) word) >>= λ thread. Some (record { rank = rank; thread = thread })))) (λ (c : CallerId). (c.rank < 16) × (c.thread < 4))
+  caller_range None word = tt
+  caller_range (Some dot) word =
+      pair_range (number_below 16 (take dot word)) (number_below 4 (drop (dot + 1) word)) (number_below-range 16 (take dot word)) (number_below-range 4 (drop (dot + 1) word))
+
+  caller_of-range : (word : List ℕ) → IfSome (caller_of word) (λ c. (c.rank < 16) × (c.thread < 4))
+  unfolding caller_of
+  caller_of-range word = caller_range (position (λ byte. byte == 46) word) word
+
+  called_with-range : (c : CallerId) (call_words reply_words : List (List ℕ)) → c.rank < 16 → c.thread < 4 → IfSome (called_with c call_words reply_words) IsInEventRange
+  called_with-range c first second rank thread =
+      called_range c (recorded_call_of first) (reply_of second) rank thread (held IsWritable (recorded_call_of first) (laws.call_range first)) (reply_of-range second)
+
+  called_of-range : (words : List (List ℕ)) → IfSome (called_of words) IsInEventRange
+  unfolding called_of
+  called_of-range [] = tt
+  called_of-range (word ∷ words) =
+      bound (λ c. (c.rank < 16) × (c.thread < 4)) IsInEventRange (caller_of word)
+      (λ c. position (λ w. bytes_eq arrow w) words >>= λ place. called_with c (take place words) (drop (place + 1) words)) (caller_of-range word)
+      (λ c h. bound (λ place. Unit {0}) IsInEventRange (position (λ w. bytes_eq arrow w) words) (λ place. called_with c (take place words) (drop (place + 1) words)) (anything (position (λ w. bytes_eq arrow w) words))
+      (λ place k. called_with-range c (take place words) (drop (place + 1) words) h.0 h.1))
+
+  moved_range : (origin_found queue_found target_found number_found : Option ℕ) (outcome_found : Option Outcome)
+      → IfSome origin_found (λ n. n < 16) → IfSome queue_found (λ n. n < 8) → IfSome target_found (λ n. n < 16) → IfSome number_found (λ n. n < 2 ^ 32)
+      → IfSome (origin_found >>= λ origin. (queue_found >>= λ queue. (target_found >>= λ target. (number_found >>= λ number. (outcome_found >>= λ outcome. Some (record { origin = origin; queue = queue; target = target; number = number; outcome = outcome }))))))
+      (λ (m : Moved). (m.origin < 16) × (m.queue < 8) × (m.target < 16) × (m.number < 2 ^ 32))
+  moved_range (Some origin) (Some queue) (Some target) (Some number) (Some outcome) h0 h1 h2 h3 = (h0, h1, h2, h3)
+  moved_range None queue target number outcome h0 h1 h2 h3 = tt
+  moved_range (Some origin) None target number outcome h0 h1 h2 h3 = tt
+  moved_range (Some origin) (Some queue) None number outcome h0 h1 h2 h3 = tt
+  moved_range (Some origin) (Some queue) (Some target) None outcome h0 h1 h2 h3 = tt
+  moved_range (Some origin) (Some queue) (Some target) (Some number) None h0 h1 h2 h3 = tt
+
+  moved_of-range : (words : List (List ℕ)) → IfSome (moved_of words) (λ m. (m.origin < 16) × (m.queue < 8) × (m.target < 16) × (m.number < 2 ^ 32))
+  unfolding moved_of
+  moved_of-range (first ∷ second ∷ third ∷ fourth ∷ fifth ∷ []) =
+      moved_range (number_below 16 first) (number_below 8 second) (number_below 16 third) (value_of fourth) (outcome_of fifth)
+      (number_below-range 16 first) (number_below-range 8 second) (number_below-range 16 third) (value_range fourth)
+  moved_of-range other = tt
+
+  event_of-range : (words : List (List ℕ)) → IfSome (event_of words) IsInEventRange
+  unfolding event_of
+  event_of-range [] = tt
+  event_of-range (word ∷ arguments) =
+      either IsInEventRange (bytes_eq (codes "called") word) (called_of arguments) (if bytes_eq (codes "take") word then option_map taken (moved_of arguments) else (if bytes_eq (codes "put") word then option_map put (moved_of arguments) else None)) (called_of-range arguments)
+      (either IsInEventRange (bytes_eq (codes "take") word) (option_map taken (moved_of arguments)) (if bytes_eq (codes "put") word then option_map put (moved_of arguments) else None) (mapped IsInEventRange taken (moved_of arguments) (moved_of-range arguments))
+      (either IsInEventRange (bytes_eq (codes "put") word) (option_map put (moved_of arguments)) None (mapped IsInEventRange put (moved_of arguments) (moved_of-range arguments)) tt))
+
+  pub event_in_range : (words : List (List ℕ)) (event : Event) → event_of words ≡ Some event → IsInEventRange event
+  event_in_range words event e = in_range_from IsInEventRange (event_of words) event (event_of-range words) e

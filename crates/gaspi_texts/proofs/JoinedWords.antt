@@ -1,7 +1,6 @@
 -- Words joined by spaces, and the same words each behind a space.
 use Rattle.std.proofs.Common.{◌≡◌, ℕ, ◌<◌, List, [], ◌∷◌, ◌++◌, length, map, codes, refl, sym, ap, ◌∙◌, append-nil, arith}
 use Rattle.std.proofs.lemmas.Grind.{flat_map-append}
-use Rattle.std.specs.Fmt.{decimal}
 use Rattle.std.specs.List.{flat_map, join_with_byte}
 use Rattle.gaspi_types.specs.declared.calls.Call.{Call}
 use Rattle.gaspi_types.specs.declared.calls.Call.TheVariants as calls
@@ -9,10 +8,10 @@ use Rattle.gaspi_types.specs.declared.events.Event.TheVariants.{Called}
 use Rattle.gaspi_types.specs.declared.replies.Reply.{Reply}
 use Rattle.gaspi_types.specs.declared.replies.Reply.TheVariants as replies
 use Rattle.gaspi_types.specs.declared.shapes.CallerId.{CallerId}
-use Rattle.gaspi_texts.specs.CallText.{words_of_call, call_text}
+use Rattle.call_texts.specs.CallText.{words_of_call, call_text}
 use Rattle.gaspi_texts.specs.EventText.{arrow, caller_word, words_of_event, event_text}
 use Rattle.gaspi_texts.specs.ReplyText.{words_of_reply, reply_text}
-use Rattle.gaspi_texts.specs.Written.{spaced, spaced_numbers}
+use Rattle.call_texts.specs.Written.{spaced}
 
 pub join_spaced : (word : List ℕ) (words : List (List ℕ)) → join_with_byte 32 (word ∷ words) ≡ word ++ spaced words
 join_spaced word [] = sym (append-nil word)
@@ -26,15 +25,15 @@ pub join_map : {A : Type 0} (f : A → List ℕ) (word : List ℕ) (items : List
     → join_with_byte 32 (word ∷ map f items) ≡ word ++ flat_map (λ x. 32 ∷ f x) items
 join_map f word items = join_spaced word (map f items) ∙ ap (λ (rest : List ℕ). word ++ rest) (spaced-map f items)
 
-pub join_numbers : (word : List ℕ) (numbers : List ℕ) → join_with_byte 32 (word ∷ map decimal numbers) ≡ word ++ spaced_numbers numbers
-join_numbers word numbers = join_map decimal word numbers
-
 -- words behind a space are the words joined, behind a space
 spaced_filled : (words : List (List ℕ)) → 0 < length words → spaced words ≡ 32 ∷ join_with_byte 32 words
 spaced_filled [] filled = absurd (omega arith)
 spaced_filled (word ∷ words) filled = ap (λ (text : List ℕ). 32 ∷ text) (sym (join_spaced word words))
 
 call_filled : (call : Call) → 0 < length (words_of_call call)
+call_filled (calls.Alloc seg size) = omega arith
+call_filled (calls.Register seg rank) = omega arith
+call_filled (calls.Delete seg) = omega arith
 call_filled (calls.Store seg offset bytes) = omega arith
 call_filled (calls.Load seg offset size) = omega arith
 call_filled (calls.Write seg offset rank rseg roffset size queue) = omega arith
@@ -43,6 +42,8 @@ call_filled (calls.WriteNotify seg offset rank rseg roffset size note value queu
 call_filled (calls.Wait queue) = omega arith
 call_filled (calls.Waitsome seg begin num) = omega arith
 call_filled (calls.Reset seg note) = omega arith
+call_filled (calls.FetchAdd seg offset rank value) = omega arith
+call_filled (calls.CompareSwap seg offset rank comparator new) = omega arith
 call_filled calls.End = omega arith
 
 reply_filled : (reply : Reply) → 0 < length (words_of_reply reply)

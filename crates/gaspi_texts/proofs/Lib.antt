@@ -1,12 +1,9 @@
-pub mod CallTexts
 pub mod Elements
 pub mod EventTexts
 pub mod FoundEvents
 pub mod GraphicWords
-pub mod HexWords
 pub mod InRange
 pub mod JoinedWords
-pub mod NumberWords
 pub mod Places
 pub mod ReplyTexts
 pub mod WordTexts

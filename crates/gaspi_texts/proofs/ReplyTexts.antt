@@ -5,7 +5,6 @@ use Rattle.std.specs.Fmt.{decimal, signed_decimal}
 use Rattle.std.specs.List.{list_all, AllByRecursion}
 use Rattle.std.specs.Option.{option_map}
 use Rattle.std.proofs.lemmas.Bool.Decides.{nat_tests}
-use Rattle.std.proofs.lemmas.Fmt.{digits_decimal}
 use Rattle.gaspi_types.specs.Replies.{refusal_number, refusal_fields, coll_fields}
 use Rattle.gaspi_types.specs.declared.collectives.NumType.{NumType}
 use Rattle.gaspi_types.specs.declared.collectives.NumType.TheVariants.{Int, Uint, Long, Ulong, Float, Double}
@@ -19,12 +18,11 @@ use Rattle.gaspi_types.specs.declared.replies.Refusal.{Refusal}
 use Rattle.gaspi_types.specs.declared.replies.Refusal.TheVariants.{BadRank, NoSegment, SegmentThere, Unregistered, BadRange, BadSize, BadQueue, QueueFull, QueueBroken, BadNote, ZeroValue, BadAlign, PassiveSize, NoGroup, GroupStage, NotMember, GroupMismatch, ActiveCollective, ResumeOther, CollectiveMismatch, BadCount, FloatType, SegmentBusy, GroupsFull, CallerEnded}
 use Rattle.gaspi_types.specs.declared.replies.Reply.{Reply}
 use Rattle.gaspi_types.specs.declared.replies.Reply.TheVariants as replies
-use Rattle.gaspi_texts.specs.Numbers.{number_of}
+use Rattle.call_texts.specs.Numbers.{number_of}
 use Rattle.gaspi_texts.specs.ReplyText.{type_word, op_word, stage_word, type_of, op_of, stage_of, is_in_type, signed_of, element_of, elements_of, coll_words, coll_of, field_words, refusal_of, reply_word_of, words_of_reply, reply_text, reply_of, IsInRange}
-use Rattle.gaspi_texts.specs.Words.{words_of}
-use Rattle.gaspi_texts.proofs.GraphicWords.{number_word, small_word, fixed_word, hex_word, signed_word, IsWide}
-use Rattle.gaspi_texts.proofs.HexWords.{bytes_of-hex_text}
-use Rattle.gaspi_texts.proofs.NumberWords.{digit_words, number_of-decimal, value_of-decimal}
+use Rattle.call_texts.specs.Words.{words_of}
+use Rattle.gaspi_texts.specs.CallLaws.{CallLaws}
+use Rattle.gaspi_texts.proofs.GraphicWords.{number_word, small_word, fixed_word, hex_word, signed_word, are_digits, IsWide}
 use Rattle.gaspi_texts.proofs.WordTexts.{is_graphic, IsGraphic, words_of-graphic}
 
 -- Types, operations and stages.
@@ -94,161 +92,162 @@ signed_of-digits (byte ∷ bytes) digits =
     let other : (byte == 45) ≡ false = grind (arith, nat_tests) in
     rw other refl
 
-signed_of-decimal : (z : ℤ) → IsWide z → signed_of (signed_decimal z) ≡ Some z
-unfolding IsWide signed_of
-signed_of-decimal (pos n) wide = signed_of-digits (decimal n) (digits_decimal digit_words n wide) ∙ rw (number_of-decimal n wide) refl
-signed_of-decimal (negsuc n) wide = rw (number_of-decimal (suc n) wide) refl
+module _ (laws : CallLaws) where
+  signed_of-decimal : (z : ℤ) → IsWide z → signed_of (signed_decimal z) ≡ Some z
+  unfolding IsWide signed_of
+  signed_of-decimal (pos n) wide = signed_of-digits (decimal n) (are_digits laws n wide) ∙ rw (laws.number n wide) refl
+  signed_of-decimal (negsuc n) wide = rw (laws.number (suc n) wide) refl
 
-element_of-decimal : (t : NumType) (z : ℤ) → is_in_type t z ≡ true → element_of t (signed_decimal z) ≡ Some z
-unfolding element_of
-element_of-decimal t z h = rw (signed_of-decimal z (wide_in_type t z h), h) refl
+  element_of-decimal : (t : NumType) (z : ℤ) → is_in_type t z ≡ true → element_of t (signed_decimal z) ≡ Some z
+  unfolding element_of
+  element_of-decimal t z h = rw (signed_of-decimal z (wide_in_type t z h), h) refl
 
-elements_of-decimals : (t : NumType) (items : List ℤ) → AllByRecursion (λ z. is_in_type t z ≡ true) items
-    → elements_of t (map signed_decimal items) ≡ Some items
-elements_of-decimals t [] h = refl
-elements_of-decimals t (z ∷ items) h = rw (element_of-decimal t z h.0, elements_of-decimals t items h.1) refl
+  elements_of-decimals : (t : NumType) (items : List ℤ) → AllByRecursion (λ z. is_in_type t z ≡ true) items
+      → elements_of t (map signed_decimal items) ≡ Some items
+  elements_of-decimals t [] h = refl
+  elements_of-decimals t (z ∷ items) h = rw (element_of-decimal t z h.0, elements_of-decimals t items h.1) refl
 
-elements_graphic : (t : NumType) (items : List ℤ) → AllByRecursion (λ z. is_in_type t z ≡ true) items
-    → AllByRecursion IsGraphic (map signed_decimal items)
-elements_graphic t [] h = tt
-elements_graphic t (z ∷ items) h = (signed_word z (wide_in_type t z h.0), elements_graphic t items h.1)
+  elements_graphic : (t : NumType) (items : List ℤ) → AllByRecursion (λ z. is_in_type t z ≡ true) items
+      → AllByRecursion IsGraphic (map signed_decimal items)
+  elements_graphic t [] h = tt
+  elements_graphic t (z ∷ items) h = (signed_word laws z (wide_in_type t z h.0), elements_graphic t items h.1)
 
--- Refusals.
+  -- Refusals.
 
-coll_of-words : (c : Coll) → AllByRecursion (λ n. n < 2 ^ 32) (coll_fields c) → coll_of (coll_words c) ≡ Some c
-unfolding coll_of
-coll_of-words Barrier h = refl
-coll_of-words (Allreduce op num_type count) h =
-    rw (op_of-word op, type_of-word num_type, value_of-decimal count h.1.1.1.0) refl
-coll_of-words (Create segment size) h = rw (value_of-decimal segment h.1.0, value_of-decimal size h.1.1.0) refl
-coll_of-words (Commit mask) h = rw (value_of-decimal mask h.1.0) refl
+  coll_of-words : (c : Coll) → AllByRecursion (λ n. n < 2 ^ 32) (coll_fields c) → coll_of (coll_words c) ≡ Some c
+  unfolding coll_of
+  coll_of-words Barrier h = refl
+  coll_of-words (Allreduce op num_type count) h =
+      rw (op_of-word op, type_of-word num_type, laws.value count h.1.1.1.0) refl
+  coll_of-words (Create segment size) h = rw (laws.value segment h.1.0, laws.value size h.1.1.0) refl
+  coll_of-words (Commit mask) h = rw (laws.value mask h.1.0) refl
 
-coll_graphic : (c : Coll) → AllByRecursion (λ n. n < 2 ^ 32) (coll_fields c) → AllByRecursion IsGraphic (coll_words c)
-unfolding is_graphic
-coll_graphic Barrier h = (fixed_word (codes "barrier") (lit< tt) refl, tt)
-coll_graphic (Allreduce op num_type count) h =
-    (fixed_word (codes "allreduce") (lit< tt) refl, (op_graphic op, (type_graphic num_type, (small_word count h.1.1.1.0, tt))))
-coll_graphic (Create segment size) h =
-    (fixed_word (codes "create") (lit< tt) refl, (small_word segment h.1.0, (small_word size h.1.1.0, tt)))
-coll_graphic (Commit mask) h = (fixed_word (codes "commit") (lit< tt) refl, (small_word mask h.1.0, tt))
+  coll_graphic : (c : Coll) → AllByRecursion (λ n. n < 2 ^ 32) (coll_fields c) → AllByRecursion IsGraphic (coll_words c)
+  unfolding is_graphic
+  coll_graphic Barrier h = (fixed_word (codes "barrier") (lit< tt) refl, tt)
+  coll_graphic (Allreduce op num_type count) h =
+      (fixed_word (codes "allreduce") (lit< tt) refl, (op_graphic op, (type_graphic num_type, (small_word laws count h.1.1.1.0, tt))))
+  coll_graphic (Create segment size) h =
+      (fixed_word (codes "create") (lit< tt) refl, (small_word laws segment h.1.0, (small_word laws size h.1.1.0, tt)))
+  coll_graphic (Commit mask) h = (fixed_word (codes "commit") (lit< tt) refl, (small_word laws mask h.1.0, tt))
 
-refusal_of-words : (r : Refusal) → AllByRecursion (λ n. n < 2 ^ 32) (refusal_fields r)
-    → refusal_of (refusal_number r) (field_words r) ≡ Some r
-unfolding refusal_of
-refusal_of-words BadRank h = refl
-refusal_of-words NoSegment h = refl
-refusal_of-words SegmentThere h = refl
-refusal_of-words Unregistered h = refl
-refusal_of-words (BadRange size) h = rw (value_of-decimal size h.0) refl
-refusal_of-words BadSize h = refl
-refusal_of-words BadQueue h = refl
-refusal_of-words (QueueFull count need) h = rw (value_of-decimal count h.0, value_of-decimal need h.1.0) refl
-refusal_of-words (QueueBroken rank) h = rw (value_of-decimal rank h.0) refl
-refusal_of-words BadNote h = refl
-refusal_of-words ZeroValue h = refl
-refusal_of-words BadAlign h = refl
-refusal_of-words (PassiveSize waiting) h = rw (value_of-decimal waiting h.0) refl
-refusal_of-words NoGroup h = refl
-refusal_of-words (GroupStage stage) h = rw (stage_of-word stage) refl
-refusal_of-words NotMember h = refl
-refusal_of-words (GroupMismatch kept) h = rw (value_of-decimal kept h.0) refl
-refusal_of-words (ActiveCollective thread) h = rw (value_of-decimal thread h.0) refl
-refusal_of-words (ResumeOther kept) h = rw (coll_of-words kept h) refl
-refusal_of-words (CollectiveMismatch kept) h = rw (coll_of-words kept h) refl
-refusal_of-words BadCount h = refl
-refusal_of-words FloatType h = refl
-refusal_of-words (SegmentBusy queue) h = rw (value_of-decimal queue h.0) refl
-refusal_of-words GroupsFull h = refl
-refusal_of-words CallerEnded h = refl
+  refusal_of-words : (r : Refusal) → AllByRecursion (λ n. n < 2 ^ 32) (refusal_fields r)
+      → refusal_of (refusal_number r) (field_words r) ≡ Some r
+  unfolding refusal_of
+  refusal_of-words BadRank h = refl
+  refusal_of-words NoSegment h = refl
+  refusal_of-words SegmentThere h = refl
+  refusal_of-words Unregistered h = refl
+  refusal_of-words (BadRange size) h = rw (laws.value size h.0) refl
+  refusal_of-words BadSize h = refl
+  refusal_of-words BadQueue h = refl
+  refusal_of-words (QueueFull count need) h = rw (laws.value count h.0, laws.value need h.1.0) refl
+  refusal_of-words (QueueBroken rank) h = rw (laws.value rank h.0) refl
+  refusal_of-words BadNote h = refl
+  refusal_of-words ZeroValue h = refl
+  refusal_of-words BadAlign h = refl
+  refusal_of-words (PassiveSize waiting) h = rw (laws.value waiting h.0) refl
+  refusal_of-words NoGroup h = refl
+  refusal_of-words (GroupStage stage) h = rw (stage_of-word stage) refl
+  refusal_of-words NotMember h = refl
+  refusal_of-words (GroupMismatch kept) h = rw (laws.value kept h.0) refl
+  refusal_of-words (ActiveCollective thread) h = rw (laws.value thread h.0) refl
+  refusal_of-words (ResumeOther kept) h = rw (coll_of-words kept h) refl
+  refusal_of-words (CollectiveMismatch kept) h = rw (coll_of-words kept h) refl
+  refusal_of-words BadCount h = refl
+  refusal_of-words FloatType h = refl
+  refusal_of-words (SegmentBusy queue) h = rw (laws.value queue h.0) refl
+  refusal_of-words GroupsFull h = refl
+  refusal_of-words CallerEnded h = refl
 
-fields_graphic : (r : Refusal) → AllByRecursion (λ n. n < 2 ^ 32) (refusal_fields r) → AllByRecursion IsGraphic (field_words r)
-fields_graphic BadRank h = tt
-fields_graphic NoSegment h = tt
-fields_graphic SegmentThere h = tt
-fields_graphic Unregistered h = tt
-fields_graphic (BadRange size) h = (small_word size h.0, tt)
-fields_graphic BadSize h = tt
-fields_graphic BadQueue h = tt
-fields_graphic (QueueFull count need) h = (small_word count h.0, (small_word need h.1.0, tt))
-fields_graphic (QueueBroken rank) h = (small_word rank h.0, tt)
-fields_graphic BadNote h = tt
-fields_graphic ZeroValue h = tt
-fields_graphic BadAlign h = tt
-fields_graphic (PassiveSize waiting) h = (small_word waiting h.0, tt)
-fields_graphic NoGroup h = tt
-fields_graphic (GroupStage stage) h = (stage_graphic stage, tt)
-fields_graphic NotMember h = tt
-fields_graphic (GroupMismatch kept) h = (small_word kept h.0, tt)
-fields_graphic (ActiveCollective thread) h = (small_word thread h.0, tt)
-fields_graphic (ResumeOther kept) h = coll_graphic kept h
-fields_graphic (CollectiveMismatch kept) h = coll_graphic kept h
-fields_graphic BadCount h = tt
-fields_graphic FloatType h = tt
-fields_graphic (SegmentBusy queue) h = (small_word queue h.0, tt)
-fields_graphic GroupsFull h = tt
-fields_graphic CallerEnded h = tt
+  fields_graphic : (r : Refusal) → AllByRecursion (λ n. n < 2 ^ 32) (refusal_fields r) → AllByRecursion IsGraphic (field_words r)
+  fields_graphic BadRank h = tt
+  fields_graphic NoSegment h = tt
+  fields_graphic SegmentThere h = tt
+  fields_graphic Unregistered h = tt
+  fields_graphic (BadRange size) h = (small_word laws size h.0, tt)
+  fields_graphic BadSize h = tt
+  fields_graphic BadQueue h = tt
+  fields_graphic (QueueFull count need) h = (small_word laws count h.0, (small_word laws need h.1.0, tt))
+  fields_graphic (QueueBroken rank) h = (small_word laws rank h.0, tt)
+  fields_graphic BadNote h = tt
+  fields_graphic ZeroValue h = tt
+  fields_graphic BadAlign h = tt
+  fields_graphic (PassiveSize waiting) h = (small_word laws waiting h.0, tt)
+  fields_graphic NoGroup h = tt
+  fields_graphic (GroupStage stage) h = (stage_graphic stage, tt)
+  fields_graphic NotMember h = tt
+  fields_graphic (GroupMismatch kept) h = (small_word laws kept h.0, tt)
+  fields_graphic (ActiveCollective thread) h = (small_word laws thread h.0, tt)
+  fields_graphic (ResumeOther kept) h = coll_graphic kept h
+  fields_graphic (CollectiveMismatch kept) h = coll_graphic kept h
+  fields_graphic BadCount h = tt
+  fields_graphic FloatType h = tt
+  fields_graphic (SegmentBusy queue) h = (small_word laws queue h.0, tt)
+  fields_graphic GroupsFull h = tt
+  fields_graphic CallerEnded h = tt
 
-refusal_number-small : (r : Refusal) → refusal_number r < 2 ^ 64
-refusal_number-small BadRank = lit< tt
-refusal_number-small NoSegment = lit< tt
-refusal_number-small SegmentThere = lit< tt
-refusal_number-small Unregistered = lit< tt
-refusal_number-small (BadRange size) = lit< tt
-refusal_number-small BadSize = lit< tt
-refusal_number-small BadQueue = lit< tt
-refusal_number-small (QueueFull count need) = lit< tt
-refusal_number-small (QueueBroken rank) = lit< tt
-refusal_number-small BadNote = lit< tt
-refusal_number-small ZeroValue = lit< tt
-refusal_number-small BadAlign = lit< tt
-refusal_number-small (PassiveSize waiting) = lit< tt
-refusal_number-small NoGroup = lit< tt
-refusal_number-small (GroupStage stage) = lit< tt
-refusal_number-small NotMember = lit< tt
-refusal_number-small (GroupMismatch kept) = lit< tt
-refusal_number-small (ActiveCollective thread) = lit< tt
-refusal_number-small (ResumeOther kept) = lit< tt
-refusal_number-small (CollectiveMismatch kept) = lit< tt
-refusal_number-small BadCount = lit< tt
-refusal_number-small FloatType = lit< tt
-refusal_number-small (SegmentBusy queue) = lit< tt
-refusal_number-small GroupsFull = lit< tt
-refusal_number-small CallerEnded = lit< tt
+  refusal_number-small : (r : Refusal) → refusal_number r < 2 ^ 64
+  refusal_number-small BadRank = lit< tt
+  refusal_number-small NoSegment = lit< tt
+  refusal_number-small SegmentThere = lit< tt
+  refusal_number-small Unregistered = lit< tt
+  refusal_number-small (BadRange size) = lit< tt
+  refusal_number-small BadSize = lit< tt
+  refusal_number-small BadQueue = lit< tt
+  refusal_number-small (QueueFull count need) = lit< tt
+  refusal_number-small (QueueBroken rank) = lit< tt
+  refusal_number-small BadNote = lit< tt
+  refusal_number-small ZeroValue = lit< tt
+  refusal_number-small BadAlign = lit< tt
+  refusal_number-small (PassiveSize waiting) = lit< tt
+  refusal_number-small NoGroup = lit< tt
+  refusal_number-small (GroupStage stage) = lit< tt
+  refusal_number-small NotMember = lit< tt
+  refusal_number-small (GroupMismatch kept) = lit< tt
+  refusal_number-small (ActiveCollective thread) = lit< tt
+  refusal_number-small (ResumeOther kept) = lit< tt
+  refusal_number-small (CollectiveMismatch kept) = lit< tt
+  refusal_number-small BadCount = lit< tt
+  refusal_number-small FloatType = lit< tt
+  refusal_number-small (SegmentBusy queue) = lit< tt
+  refusal_number-small GroupsFull = lit< tt
+  refusal_number-small CallerEnded = lit< tt
 
--- Replies.
+  -- Replies.
 
-pub reply_of-words : (r : Reply) → IsInRange r → reply_of (words_of_reply r) ≡ Some r
-unfolding reply_of reply_word_of words_of_reply
-reply_of-words replies.Done h = refl
-reply_of-words (replies.Value n) h = rw (number_of-decimal n h) refl
-reply_of-words (replies.Id n) h = rw (value_of-decimal n h) refl
-reply_of-words (replies.Bytes bytes) h = rw (bytes_of-hex_text bytes h) refl
-reply_of-words (replies.Mask mask) h = rw (value_of-decimal mask h) refl
-reply_of-words (replies.List numbers) h =
-    rw (type_of-word numbers.num_type, elements_of-decimals numbers.num_type numbers.items h) refl
-reply_of-words replies.Timeout h = refl
-reply_of-words (replies.Refused refusal) h =
-    rw (number_of-decimal (refusal_number refusal) (refusal_number-small refusal), refusal_of-words refusal h) refl
+  pub reply_of-words : (r : Reply) → IsInRange r → reply_of (words_of_reply r) ≡ Some r
+  unfolding reply_of reply_word_of words_of_reply
+  reply_of-words replies.Done h = refl
+  reply_of-words (replies.Value n) h = rw (laws.number n h) refl
+  reply_of-words (replies.Id n) h = rw (laws.value n h) refl
+  reply_of-words (replies.Bytes bytes) h = rw (laws.bytes bytes h) refl
+  reply_of-words (replies.Mask mask) h = rw (laws.value mask h) refl
+  reply_of-words (replies.List numbers) h =
+      rw (type_of-word numbers.num_type, elements_of-decimals numbers.num_type numbers.items h) refl
+  reply_of-words replies.Timeout h = refl
+  reply_of-words (replies.Refused refusal) h =
+      rw (laws.number (refusal_number refusal) (refusal_number-small refusal), refusal_of-words refusal h) refl
 
-pub words_of_reply-graphic : (r : Reply) → IsInRange r → AllByRecursion IsGraphic (words_of_reply r)
-unfolding words_of_reply is_graphic
-words_of_reply-graphic replies.Done h = (fixed_word (codes "done") (lit< tt) refl, tt)
-words_of_reply-graphic (replies.Value n) h = (fixed_word (codes "value") (lit< tt) refl, (number_word n h, tt))
-words_of_reply-graphic (replies.Id n) h = (fixed_word (codes "id") (lit< tt) refl, (small_word n h, tt))
-words_of_reply-graphic (replies.Bytes bytes) h = (fixed_word (codes "bytes") (lit< tt) refl, (hex_word bytes h, tt))
-words_of_reply-graphic (replies.Mask mask) h = (fixed_word (codes "mask") (lit< tt) refl, (small_word mask h, tt))
-words_of_reply-graphic (replies.List numbers) h =
-    (fixed_word (codes "list") (lit< tt) refl, (type_graphic numbers.num_type, elements_graphic numbers.num_type numbers.items h))
-words_of_reply-graphic replies.Timeout h = (fixed_word (codes "timeout") (lit< tt) refl, tt)
-words_of_reply-graphic (replies.Refused refusal) h =
-    (fixed_word (codes "refused") (lit< tt) refl, (number_word (refusal_number refusal) (refusal_number-small refusal), fields_graphic refusal h))
+  pub words_of_reply-graphic : (r : Reply) → IsInRange r → AllByRecursion IsGraphic (words_of_reply r)
+  unfolding words_of_reply is_graphic
+  words_of_reply-graphic replies.Done h = (fixed_word (codes "done") (lit< tt) refl, tt)
+  words_of_reply-graphic (replies.Value n) h = (fixed_word (codes "value") (lit< tt) refl, (number_word laws n h, tt))
+  words_of_reply-graphic (replies.Id n) h = (fixed_word (codes "id") (lit< tt) refl, (small_word laws n h, tt))
+  words_of_reply-graphic (replies.Bytes bytes) h = (fixed_word (codes "bytes") (lit< tt) refl, (hex_word laws bytes h, tt))
+  words_of_reply-graphic (replies.Mask mask) h = (fixed_word (codes "mask") (lit< tt) refl, (small_word laws mask h, tt))
+  words_of_reply-graphic (replies.List numbers) h =
+      (fixed_word (codes "list") (lit< tt) refl, (type_graphic numbers.num_type, elements_graphic numbers.num_type numbers.items h))
+  words_of_reply-graphic replies.Timeout h = (fixed_word (codes "timeout") (lit< tt) refl, tt)
+  words_of_reply-graphic (replies.Refused refusal) h =
+      (fixed_word (codes "refused") (lit< tt) refl, (number_word laws (refusal_number refusal) (refusal_number-small refusal), fields_graphic refusal h))
 
-pub reply_of-reply_text : (r : Reply) → IsInRange r → reply_of (words_of (reply_text r)) ≡ Some r
-reply_of-reply_text r h = ap reply_of (words_of-graphic (words_of_reply r) (words_of_reply-graphic r h)) ∙ reply_of-words r h
+  pub reply_of-reply_text : (r : Reply) → IsInRange r → reply_of (words_of (reply_text r)) ≡ Some r
+  reply_of-reply_text r h = ap reply_of (words_of-graphic laws (words_of_reply r) (words_of_reply-graphic r h)) ∙ reply_of-words r h
 
-pub same_reply : (a b : Reply) → IsInRange a → IsInRange b → reply_text a ≡ reply_text b → a ≡ b
-same_reply a b small also e =
-    let first = reply_of-reply_text a small in
-    let second = reply_of-reply_text b also in
-    let read : Some a ≡ Some b = sym first ∙ ap (λ (text : List ℕ). reply_of (words_of text)) e ∙ second in
+-- replies that read back from their texts differ in them
+pub same_reply : ((r : Reply) → IsInRange r → reply_of (words_of (reply_text r)) ≡ Some r)
+    → (a b : Reply) → IsInRange a → IsInRange b → reply_text a ≡ reply_text b → a ≡ b
+same_reply back a b small also e =
+    let read : Some a ≡ Some b = sym (back a small) ∙ ap (λ (text : List ℕ). reply_of (words_of text)) e ∙ back b also in
     cc

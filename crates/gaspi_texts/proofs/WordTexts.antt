@@ -1,27 +1,10 @@
 -- The words of a text that was put together from words.
-use Rattle.std.proofs.Common.{◌≡◌, ℕ, ◌<◌, Bool, true, false, not, ◌==◌, nat_lt, List, [], ◌∷◌, length, refl, ap, ◌∙◌, arith}
-use Rattle.std.specs.List.{filter, slice_split, join_with_byte, All, AllByRecursion, AllPass}
+use Rattle.std.proofs.Common.{◌≡◌, ℕ, ◌<◌, Bool, true, false, ◌==◌, nat_lt, List, [], ◌∷◌, length, refl, arith}
+use Rattle.std.specs.List.{join_with_byte, All, AllByRecursion, AllPass}
 use Rattle.std.proofs.lemmas.Bool.Decides.{nat_tests}
 use Rattle.std.proofs.lemmas.List.Elements.{All-nil, All-cons, All-append, All-weaker}
-use Rattle.std.proofs.lemmas.List.Splits.{slice_split_none, slice_split_at}
-use Rattle.gaspi_texts.specs.Words.{is_blank, words_of, IsWord}
-
--- a piece that is not empty stays
-filter-word : (word : List ℕ) (rest : List (List ℕ)) → 0 < length word
-    → filter (λ w. not (length w == 0)) (word ∷ rest) ≡ word ∷ filter (λ w. not (length w == 0)) rest
-filter-word word rest filled =
-    let stays : not (length word == 0) ≡ true = grind (arith, nat_tests) in
-    rw stays refl
-
-pub words_of-join : (words : List (List ℕ)) → AllByRecursion IsWord words → words_of (join_with_byte 32 words) ≡ words
-unfolding words_of
-words_of-join [] h = refl
-words_of-join (word ∷ []) h =
-    ap (filter (λ w. not (length w == 0))) (slice_split_none is_blank word h.0.blankless) ∙ filter-word word [] h.0.filled
-words_of-join (word ∷ next ∷ words) h =
-    ap (filter (λ w. not (length w == 0))) (slice_split_at is_blank word 32 (join_with_byte 32 (next ∷ words)) h.0.blankless refl)
-    ∙ filter-word word (slice_split is_blank (join_with_byte 32 (next ∷ words))) h.0.filled
-    ∙ ap (λ ws. word ∷ ws) (words_of-join (next ∷ words) h.1)
+use Rattle.call_texts.specs.Words.{is_blank, words_of, IsWord}
+use Rattle.gaspi_texts.specs.CallLaws.{CallLaws}
 
 -- the words of all texts that are written are of bytes behind the space
 unfoldable pub is_graphic : ℕ → Bool
@@ -44,8 +27,8 @@ are_words [] h = tt
 are_words (word ∷ words) h =
     (record { filled = h.0.filled; blankless = All-weaker (λ byte. is_graphic byte ≡ true) (λ byte. is_blank byte ≡ false) is_blank-graphic word h.0.graphic }, are_words words h.1)
 
-pub words_of-graphic : (words : List (List ℕ)) → AllByRecursion IsGraphic words → words_of (join_with_byte 32 words) ≡ words
-words_of-graphic words h = words_of-join words (are_words words h)
+pub words_of-graphic : CallLaws → (words : List (List ℕ)) → AllByRecursion IsGraphic words → words_of (join_with_byte 32 words) ≡ words
+words_of-graphic laws words h = laws.words words (are_words words h)
 
 no_line_feed : (word : List ℕ) → IsGraphic word → All (λ byte. (byte == 10) ≡ false) word
 no_line_feed word h = All-weaker (λ byte. is_graphic byte ≡ true) (λ byte. (byte == 10) ≡ false) line_feed-graphic word h.graphic

@@ -1,5 +1,5 @@
 -- The event that words spell, as the reader finds it before it compares the text with the event's own. No public
--- contract speaks of it.
+-- contract speaks of it. (own choice)
 use Rattle.std.specs.Prelude.{ℕ, ◌+◌, ◌==◌, nat_lt, List, [], ◌∷◌, take, drop, position, Option, Some, None, find, if◌then◌else◌, codes}
 use Rattle.std.specs.Option.{option_map}
 use Rattle.std.specs.Str.{bytes_eq}
@@ -8,9 +8,9 @@ use Rattle.gaspi_types.specs.declared.events.Outcome.{Outcome}
 use Rattle.gaspi_types.specs.declared.events.Outcome.TheVariants.{Applied, Failed}
 use Rattle.gaspi_types.specs.declared.events.Event.{Event}
 use Rattle.gaspi_types.specs.declared.events.Event.TheVariants.{Called, Take, Put}
-use Rattle.gaspi_texts.specs.CallText.{◌>>=◌, recorded_call_of}
+use Rattle.call_texts.specs.CallText.{◌>>=◌, recorded_call_of}
 use Rattle.gaspi_texts.specs.EventText.{arrow, outcome_word}
-use Rattle.gaspi_texts.specs.Numbers.{value_of}
+use Rattle.call_texts.specs.Numbers.{value_of}
 use Rattle.gaspi_texts.specs.ReplyText.{reply_of}
 use Rattle.gaspi_texts.specs.declared.event_reading.Moved.{Moved}
 

@@ -1,4 +1,4 @@
--- The texts of events, in the one form that there is.
+-- The texts of events, in the one form that there is. (own choice)
 use Rattle.std.specs.Prelude.{◌^◌, ◌<◌, ℕ, List, [], ◌∷◌, ◌++◌, codes}
 use Rattle.std.specs.Fmt.{decimal}
 use Rattle.std.specs.List.{join_with_byte}
@@ -7,7 +7,7 @@ use Rattle.gaspi_types.specs.declared.events.Outcome.{Outcome}
 use Rattle.gaspi_types.specs.declared.events.Outcome.TheVariants.{Applied, Failed}
 use Rattle.gaspi_types.specs.declared.events.Event.{Event}
 use Rattle.gaspi_types.specs.declared.events.Event.TheVariants.{Called, Take, Put}
-use Rattle.gaspi_texts.specs.CallText.{words_of_call, IsWritable}
+use Rattle.call_texts.specs.CallText.{words_of_call, IsWritable}
 use Rattle.gaspi_texts.specs.ReplyText.{words_of_reply, IsInRange}
 
 -- a caller as its rank and thread

@@ -1,9 +1,5 @@
-pub mod CallText
+pub mod CallLaws
 pub mod EventReading
 pub mod EventText
-pub mod Hex
 pub mod Lines
-pub mod Numbers
 pub mod ReplyText
-pub mod Words
-pub mod Written

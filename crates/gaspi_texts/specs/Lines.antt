@@ -1,4 +1,4 @@
--- The lines of a text, each with its line feed, which the last one may lack.
+-- The lines of a text, each with its line feed, which the last one may lack. (own choice)
 use Rattle.std.specs.Prelude.{ℕ, ◌==◌, List, [], ◌∷◌, if◌then◌else◌}
 
 -- a byte at the front of the first line

@@ -1,13 +1,13 @@
--- The texts of replies: the one form that is written, and what is read.
-use Rattle.std.specs.Prelude.{◌≡◌, ◌^◌, ◌<◌, ℕ, ℤ, pos, negsuc, neg_ℤ, int_le, Bool, true, ◌&&◌, ◌==◌, List, [], ◌∷◌, map, Option, Some, None, find, if◌then◌else◌, codes}
+-- The texts of replies: the one form that is written, and what is read. (own choice)
+use Rattle.std.specs.Prelude.{◌≡◌, ◌^◌, ◌<◌, ℕ, ℤ, pos, negsuc, neg_ℤ, int_le, Bool, true, false, ◌&&◌, ◌==◌, List, [], ◌∷◌, map, Option, Some, None, find, if◌then◌else◌, codes}
 use Rattle.std.specs.Fmt.{decimal, signed_decimal}
 use Rattle.std.specs.List.{join_with_byte, AllByRecursion}
-use Rattle.std.specs.Option.{option_map}
+use Rattle.std.specs.Option.{option_map, option_map_or}
 use Rattle.std.specs.Str.{bytes_eq}
 use Rattle.hex.specs.Hex.{IsBytes}
-use Rattle.gaspi_texts.specs.CallText.{◌>>=◌}
-use Rattle.gaspi_texts.specs.Hex.{bytes_of, hex_text}
-use Rattle.gaspi_texts.specs.Numbers.{number_of, value_of}
+use Rattle.call_texts.specs.CallText.{◌>>=◌}
+use Rattle.call_texts.specs.Hex.{bytes_of, hex_text}
+use Rattle.call_texts.specs.Numbers.{number_of, value_of}
 use Rattle.gaspi_types.specs.Replies.{refusal_number, refusal_fields}
 use Rattle.gaspi_types.specs.declared.collectives.NumType.{NumType}
 use Rattle.gaspi_types.specs.declared.collectives.NumType.TheVariants.{Int, Uint, Long, Ulong, Float, Double}
@@ -24,7 +24,7 @@ use Rattle.gaspi_types.specs.declared.replies.Reply.TheVariants as replies
 use Rattle.gaspi_texts.specs.declared.reply_words.ReplyWord.{ReplyWord}
 use Rattle.gaspi_texts.specs.declared.reply_words.ReplyWord.TheVariants as words
 
--- Words that stand for types, operations and stages. (own choice)
+-- Words that stand for types, operations and stages.
 
 abbrev pub type_word : NumType → List ℕ
 type_word Int = codes "INT"
@@ -254,6 +254,22 @@ unfoldable pub reply_word_of : List ℕ → Option ReplyWord
 reply_word_of word =
     find (λ reply. bytes_eq (reply_spelling reply) word)
     (words.Done ∷ words.Value ∷ words.Id ∷ words.Bytes ∷ words.Mask ∷ words.List ∷ words.Timeout ∷ words.Refused ∷ [])
+
+-- whether the reply's text holds bytes or elements, which take memory as they are read
+abbrev pub holds_items : ReplyWord → Bool
+holds_items words.Done = false
+holds_items words.Value = false
+holds_items words.Id = false
+holds_items words.Bytes = true
+holds_items words.Mask = false
+holds_items words.List = true
+holds_items words.Timeout = false
+holds_items words.Refused = false
+
+-- whether reading these words as a reply may take memory
+abbrev pub takes_memory : List (List ℕ) → Bool
+takes_memory [] = false
+takes_memory (word ∷ arguments) = option_map_or holds_items (reply_word_of word) false
 
 -- a reply without an argument, and with one
 abbrev pub plain_reply : Reply → List (List ℕ) → Option Reply

@@ -4,13 +4,11 @@ ghost use Rattle.std.specs.Prelude.{◌≡◌, ◌<◌, ◌==◌, map, length, p
 ghost use Rattle.std.specs.Option.{option_map};
 ghost use Rattle.std.specs.Str.{bytes_eq};
 ghost use Rattle.gaspi_texts.specs.EventText.{arrow, outcome_word};
-ghost use Rattle.gaspi_texts.specs.Words.{words_of};
+ghost use Rattle.call_texts.specs.Words.{words_of};
 ghost use Rattle.gaspi_texts.specs.EventReading.{number_below, outcome_of, caller_of, called_with, called_of, moved_of, taken, put, event_of};
 
-use crate::blanks::words;
-use crate::call_texts::read_recorded_call;
-use crate::numbers::read_value;
 use crate::reply_texts::read_reply_words;
+use call_texts::{read_recorded_call, read_value, words};
 use gaspi_types::{CallerId, Event, NoMemory, Outcome, QueueId, RankId, ThreadId};
 use std::alloc::Global;
 

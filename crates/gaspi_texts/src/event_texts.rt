@@ -4,11 +4,10 @@ ghost use Rattle.std.specs.Prelude.{◌≡◌, ◌≢◌, ◌++◌, ◌∷◌, t
 ghost use Rattle.gaspi_types.specs.declared.events.Event.{Event};
 ghost use Rattle.gaspi_texts.specs.EventText.{caller_word, event_text, IsInEventRange};
 
-use crate::call_texts::write_call;
 use crate::event_reading::{outcome_word, read_spelled_event};
-use crate::numbers::write_number;
 use crate::reply_texts::write_reply;
-use crate::words_written::{append_line, append_word};
+use crate::text_laws::{events_read_back, read_events_are_in_range};
+use call_texts::{append_line, append_word, write_call, write_number};
 use gaspi_types::{Bytes, CallerId, Event, NoMemory, Rows};
 use std::alloc::Global;
 
@@ -91,6 +90,9 @@ pub fn read_event_with(
         ((event : Event) → IsInEventRange event → text.now ≢ event_text event)
         (λ event. IsInEventRange event × (text.now ≡ event_text event))) }
 {
+    // The laws that tie what is spelled to what would be written.
+    events_read_back();
+    read_events_are_in_range();
     let Some(event) = read_spelled_event(alloc, text)? else {
         return Ok(None);
     };

@@ -1,10 +1,12 @@
-//! The elements of a list of numbers, read from words.
+//! The elements of a list of numbers, as words of a text.
 
-ghost use Rattle.std.specs.Prelude.{◌≡◌, map, IfOk};
+ghost use Rattle.std.specs.Prelude.{◌≡◌, ◌++◌, ◌∷◌, map, flat_map, take, length, IfOk, OnOk, OnErr};
+ghost use Rattle.std.specs.Fmt.{signed_decimal};
 ghost use Rattle.gaspi_texts.specs.ReplyText.{lowest, highest, is_in_type, signed_of, element_of, elements_of};
 
-use crate::numbers::read_number;
-use gaspi_types::{NoMemory, NumType, Rows};
+use call_texts::{append_word, read_number};
+use gaspi_types::{Bytes, NoMemory, NumType, Rows};
+use itoa::Buffer;
 use std::alloc::Global;
 
 /// The least number of a type.
@@ -84,4 +86,16 @@ pub(crate) fn read_elements(
         elements.push(element)?;
     }
     Ok(Some(elements))
+}
+
+/// Adds numbers in decimal, each behind a space, those below zero with a sign. Without memory the text keeps its front.
+pub(crate) fn append_elements(text: &mut Bytes, elements: &[i128]) -> Result<(), NoMemory>
+    ensures ok { OnOk result (text.new ≡ text.old ++ flat_map (λ z. 32 ∷ signed_decimal z) elements.now) }
+    ensures err { OnErr result (take (length text.old) text.new ≡ text.old) }
+{
+    let mut buffer = Buffer::new();
+    for element in elements {
+        append_word(text, buffer.format(*element).as_bytes())?;
+    }
+    Ok(())
 }

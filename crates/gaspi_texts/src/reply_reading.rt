@@ -1,14 +1,13 @@
 //! Replies read from words.
 
-ghost use Rattle.std.specs.Prelude.{◌≡◌, map, IfOk};
+ghost use Rattle.std.specs.Prelude.{◌≡◌, map, IfOk, OnErr, true};
 ghost use Rattle.std.specs.Option.{option_map};
 ghost use Rattle.gaspi_types.specs.declared.replies.Reply.TheVariants.{Id, Mask};
-ghost use Rattle.gaspi_texts.specs.ReplyText.{bare, one_field, queue_full_of, group_stage_of, allreduce_of, create_of, barrier_of, coll_of, refusal_of, plain_reply, value_reply, bytes_reply, list_reply, refused_reply, reply_with};
+ghost use Rattle.gaspi_texts.specs.ReplyText.{bare, one_field, queue_full_of, group_stage_of, allreduce_of, create_of, barrier_of, coll_of, refusal_of, plain_reply, value_reply, bytes_reply, list_reply, refused_reply, reply_with, holds_items};
 
-use crate::hexes::read_bytes;
-use crate::numbers::{read_number, read_value};
 use crate::reply_elements::read_elements;
 use crate::reply_words::{ReplyWord, read_op, read_stage, read_type};
+use call_texts::{read_bytes, read_number, read_value};
 use gaspi_types::{Coll, NoMemory, Numbers, Refusal, Reply};
 use std::alloc::Global;
 
@@ -223,7 +222,8 @@ pub(crate) fn read_arguments(
     kind: ReplyWord,
     arguments: &[&[u8]],
 ) -> Result<Option<Reply>, NoMemory>
-    ensures { IfOk result (λ reply. reply ≡ reply_with kind (map (λ word. word.now) arguments.now)) }
+    ensures ok { IfOk result (λ reply. reply ≡ reply_with kind (map (λ word. word.now) arguments.now)) }
+    ensures memory { OnErr result (holds_items kind ≡ true) }
 {
     match kind {
         ReplyWord::Done => Ok(read_plain(Reply::Done, arguments)),

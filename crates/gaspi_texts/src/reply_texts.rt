@@ -1,19 +1,17 @@
 //! Texts of replies.
 
-ghost use Rattle.std.specs.Prelude.{◌≡◌, ◌++◌, ◌∷◌, map, take, length, OnOk, OnErr, IfOk, codes};
+ghost use Rattle.std.specs.Prelude.{◌≡◌, ◌++◌, ◌∷◌, map, take, length, OnOk, OnErr, IfOk, codes, true};
 ghost use Rattle.std.specs.Fmt.{decimal};
 ghost use Rattle.std.specs.List.{join_with_byte};
 ghost use Rattle.gaspi_types.specs.Replies.{refusal_number};
-ghost use Rattle.gaspi_texts.specs.ReplyText.{coll_words, field_words, words_of_reply, reply_text, reply_of};
-ghost use Rattle.gaspi_texts.specs.Words.{words_of};
-ghost use Rattle.gaspi_texts.specs.Written.{spaced};
+ghost use Rattle.gaspi_texts.specs.ReplyText.{coll_words, field_words, words_of_reply, reply_text, reply_of, takes_memory};
+ghost use Rattle.call_texts.specs.Words.{words_of};
+ghost use Rattle.call_texts.specs.Written.{spaced};
 
-use crate::blanks::words;
+use crate::reply_elements::append_elements;
 use crate::reply_reading::read_arguments;
 use crate::reply_words::{ReplyWord, op_word, stage_word, type_word};
-use crate::words_written::{
-    append_bytes, append_elements, append_line, append_numbers, append_word,
-};
+use call_texts::{append_bytes, append_line, append_numbers, append_word, words};
 use gaspi_types::{Bytes, Coll, NoMemory, Refusal, Reply};
 use std::alloc::Global;
 
@@ -119,10 +117,12 @@ pub fn write_reply(text: &mut Bytes, reply: &Reply) -> Result<(), NoMemory>
     written
 }
 
-/// The reply that words spell: numbers may have leading zeros, bytes digits of either case, and zero a sign.
+/// The reply that words spell: numbers may have leading zeros, bytes digits of either case, and zero a sign. Only bytes
+/// and lists take memory.
 #[tactic(auto, unfolding(crate::specs::ReplyText::reply_of))]
 pub fn read_reply_words(alloc: Global, words: &[&[u8]]) -> Result<Option<Reply>, NoMemory>
-    ensures { IfOk result (λ reply. reply ≡ reply_of (map (λ word. word.now) words.now)) }
+    ensures ok { IfOk result (λ reply. reply ≡ reply_of (map (λ word. word.now) words.now)) }
+    ensures memory { OnErr result (takes_memory (map (λ word. word.now) words.now) ≡ true) }
 {
     let [word, arguments @ ..] = words else {
         return Ok(None);

@@ -1,63 +1,80 @@
-//! Laws of the texts. Each is a function without a body: what it ensures is the law.
+//! Laws of the texts. Each is a function whose body names, at most, the laws that it stands on: what it ensures is the
+//! law.
 
-ghost use Rattle.std.specs.Prelude.{◌≡◌, ◌^◌, ◌<◌, ◌==◌, ℕ, List, Some, false};
-ghost use Rattle.std.specs.Fmt.{decimal};
-ghost use Rattle.std.specs.List.{All, AllByRecursion, join_with_byte};
-ghost use Rattle.hex.specs.Hex.{IsBytes};
-ghost use Rattle.gaspi_texts.specs.CallText.{call_of_text, call_text, IsWritable};
-ghost use Rattle.gaspi_types.specs.declared.calls.Call.{Call};
+ghost use Rattle.std.specs.Prelude.{◌≡◌, ◌==◌, ℕ, List, Some, false};
+ghost use Rattle.std.specs.List.{All};
 ghost use Rattle.gaspi_types.specs.declared.events.Event.{Event};
 ghost use Rattle.gaspi_types.specs.declared.replies.Reply.{Reply};
+ghost use Rattle.call_texts.specs.Words.{words_of};
+ghost use Rattle.gaspi_texts.specs.CallLaws.{CallLaws};
+ghost use Rattle.gaspi_texts.specs.EventReading.{event_of};
 ghost use Rattle.gaspi_texts.specs.EventText.{event_text, IsInEventRange};
-ghost use Rattle.gaspi_texts.specs.Hex.{bytes_of, hex_text};
-ghost use Rattle.gaspi_texts.specs.Numbers.{number_of, value_of};
 ghost use Rattle.gaspi_texts.specs.ReplyText.{reply_text, reply_of, IsInRange};
-ghost use Rattle.gaspi_texts.specs.Words.{words_of, IsWord};
 
-/// A text has the words that it was put together from.
-pub fn words_read_back()
-    ensures { (words : List (List ℕ)) → AllByRecursion IsWord words → words_of (join_with_byte 32 words) ≡ words }
-{}
+use call_texts::{
+    bytes_read_back, calls_read_back, numbers_read_back, read_words_are_in_range, words_read_back,
+    written_words_are_plain,
+};
 
-/// A number in decimal reads back as that number.
-pub fn numbers_read_back()
-    ensures number { (n : ℕ) → n < 2 ^ 64 → number_of (decimal n) ≡ Some n }
-    ensures value { (n : ℕ) → n < 2 ^ 32 → value_of (decimal n) ≡ Some n }
-{}
-
-/// Bytes in hex read back as those bytes.
-pub fn bytes_read_back()
-    ensures { (bytes : List ℕ) → IsBytes bytes → bytes_of (hex_text bytes) ≡ Some bytes }
-{}
+/// The laws of the texts of calls, on which those of replies and events stand.
+fn call_laws()
+    ensures { CallLaws }
+{
+    words_read_back();
+    numbers_read_back();
+    bytes_read_back();
+    calls_read_back();
+    read_words_are_in_range();
+    written_words_are_plain();
+}
 
 /// Different replies have different texts.
 pub fn replies_differ_in_text()
     ensures { (first second : Reply) → IsInRange first → IsInRange second
         → reply_text first ≡ reply_text second → first ≡ second }
-{}
+{
+    replies_read_back();
+}
 
 /// A reply in the one form that is written reads back as that reply.
 pub fn replies_read_back()
     ensures { (reply : Reply) → IsInRange reply → reply_of (words_of (reply_text reply)) ≡ Some reply }
-{}
+{
+    call_laws();
+}
 
 /// The numbers of a reply that words spell are those of its types.
 pub fn read_replies_are_in_range()
     ensures { (words : List (List ℕ)) (reply : Reply) → reply_of words ≡ Some reply → IsInRange reply }
-{}
+{
+    call_laws();
+}
 
-/// A call in the one form that is written reads back as that call.
-pub fn calls_read_back()
-    ensures { (call : Call) → IsWritable call → call_of_text (call_text call) ≡ Some call }
-{}
+/// An event in the one form that there is reads back as that event.
+pub(crate) fn events_read_back()
+    ensures { (event : Event) → IsInEventRange event → event_of (words_of (event_text event)) ≡ Some event }
+{
+    call_laws();
+}
+
+/// The numbers of an event that words spell are those of its types.
+pub(crate) fn read_events_are_in_range()
+    ensures { (words : List (List ℕ)) (event : Event) → event_of words ≡ Some event → IsInEventRange event }
+{
+    call_laws();
+}
 
 /// Different events have different texts.
 pub fn events_differ_in_text()
     ensures { (first second : Event) → IsInEventRange first → IsInEventRange second
         → event_text first ≡ event_text second → first ≡ second }
-{}
+{
+    events_read_back();
+}
 
 /// No text of an event has a line feed.
 pub fn events_have_no_line_feed()
     ensures { (event : Event) → IsInEventRange event → All (λ byte. (byte == 10) ≡ false) (event_text event) }
-{}
+{
+    call_laws();
+}

@@ -83,3 +83,15 @@ may_put lane e = is_carried e && may_put_kind lane e.number e.kind
 abbrev pub posted_entries : ℕ → List Kind → List Entry
 posted_entries number [] = []
 posted_entries number (kind ∷ kinds) = record { number = number; kind = kind; phase = Posted } ∷ posted_entries (number + 1) kinds
+
+-- An entry uses an own segment while it has to read or write it yet: a write until it has taken its bytes. A failed
+-- entry uses nothing.
+abbrev pub is_source : ℕ → Kind → Bool
+is_source segment (Write own target) = own.segment == segment
+is_source segment (Notify target value) = false
+
+abbrev pub is_user : ℕ → Entry → Bool
+is_user segment e = is_posted e && is_source segment e.kind
+
+abbrev pub has_user : ℕ → List Entry → Bool
+has_user segment lane = list_any (is_user segment) lane

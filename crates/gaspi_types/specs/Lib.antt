@@ -8,5 +8,7 @@ pub mod Posts
 pub mod Ranges
 pub mod Replies
 pub mod SegmentBytes
+pub mod SegmentTables
+pub mod SegmentWords
 pub mod Slots
 pub mod World

@@ -1,23 +1,14 @@
 -- What a post asks for: its entries, or the first refusal up to the notification value.
 -- (GASPI: one-sided communication)
-use Rattle.std.specs.Prelude.{ℕ, not, ◌==◌, nat_lt, List, [], ◌∷◌, Option, None, Result, Ok, if◌then◌else◌, slice_get, option_and_then}
+use Rattle.std.specs.Prelude.{ℕ, not, ◌==◌, nat_lt, List, [], ◌∷◌, Option, Result, Ok}
 use Rattle.gaspi_types.specs.Checks.{◌>>=◌, check, found}
 use Rattle.gaspi_types.specs.SegmentBytes.{is_transfer_size, is_within}
+use Rattle.gaspi_types.specs.SegmentTables.{extent_in, known_extent}
 use Rattle.gaspi_types.specs.declared.entries.Extent.{Extent}
 use Rattle.gaspi_types.specs.declared.entries.Kind.{Kind}
 use Rattle.gaspi_types.specs.declared.entries.Kind.TheVariants.{Write, Notify}
 use Rattle.gaspi_types.specs.declared.replies.Refusal.{Refusal}
 use Rattle.gaspi_types.specs.declared.replies.Refusal.TheVariants.{NoSegment, Unregistered, BadRange, BadSize, BadNote, ZeroValue}
-
--- what stands in a table of segments at a number, which is below 32
-abbrev pub extent_in : List (Option Extent) → ℕ → Option Extent
-extent_in table segment =
-    if nat_lt segment 32 then option_and_then (λ (x : Option Extent). x) (slice_get table segment) else None
-
--- what the rank knows of a segment of a rank: of its own what is there, of others what was made known to it
-abbrev pub known_extent : ℕ → List (Option Extent) → List (List (Option Extent)) → ℕ → ℕ → Option Extent
-known_extent me own known rank segment =
-    if rank == me then extent_in own segment else option_and_then (λ table. extent_in table segment) (slice_get known rank)
 
 -- a write
 abbrev pub write_kinds : ℕ → List (Option Extent) → List (List (Option Extent)) → ℕ → ℕ → ℕ → ℕ → ℕ → ℕ → Result (List Kind) Refusal

@@ -1,6 +1,9 @@
 -- The bytes of a segment. (GASPI: segments)
-use Rattle.std.specs.Prelude.{ℕ, ◌+◌, List, ◌++◌, length, take, drop, nat_le, if◌then◌else◌, Bool}
+use Rattle.std.specs.Prelude.{ℕ, ◌+◌, List, ◌++◌, length, take, drop, nat_le, if◌then◌else◌, Bool, Result}
+use Rattle.gaspi_types.specs.Checks.{◌>>=◌, check}
 use Rattle.gaspi_types.specs.Ranges.{is_between}
+use Rattle.gaspi_types.specs.declared.replies.Refusal.{Refusal}
+use Rattle.gaspi_types.specs.declared.replies.Refusal.TheVariants.{BadRange, BadSize}
 
 -- own choice: how many bytes a transfer, a store or a load may have
 abbrev pub is_transfer_size : ℕ → Bool
@@ -9,6 +12,12 @@ is_transfer_size size = is_between 1 65536 size
 -- whether a range lies within that many bytes
 abbrev pub is_within : ℕ → ℕ → ℕ → Bool
 is_within offset size whole = nat_le (offset + size) whole
+
+-- what a range of a segment of that many bytes is refused for
+abbrev pub range_checks : ℕ → ℕ → ℕ → Result (Unit {0}) Refusal
+range_checks whole offset size = do
+  sized ← check (is_transfer_size size) BadSize
+  check (is_within offset size whole) (BadRange whole)
 
 -- the bytes of a range
 abbrev pub range_of : List ℕ → ℕ → ℕ → List ℕ

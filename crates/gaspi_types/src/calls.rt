@@ -12,6 +12,20 @@ use std::alloc::Global;
 /// whose numbers are outside their limits is refused when it is made. Offsets and sizes are in bytes.
 #[derive(Debug, PartialEq, Eq, Drop)]
 pub enum Call {
+    /// Makes an own segment of that size, zeros with all slots zero. (GASPI: segment_alloc)
+    Alloc {
+        seg: u64,
+        size: u64,
+    },
+    /// Makes an own segment known to a rank, in its present generation and size. (GASPI: segment_register)
+    Register {
+        seg: u64,
+        rank: u64,
+    },
+    /// Drops an own segment. (GASPI: segment_delete)
+    Delete {
+        seg: u64,
+    },
     /// Writes bytes into an own segment. (own choice)
     Store {
         seg: u64,
@@ -69,6 +83,23 @@ pub enum Call {
         seg: u64,
         note: u64,
     },
+    /// Adds a value to the word at an offset of a segment of a rank, and answers what stood there.
+    /// (GASPI: atomic_fetch_add)
+    FetchAdd {
+        seg: u64,
+        offset: u64,
+        rank: u64,
+        value: u64,
+    },
+    /// Writes a new value over the word at an offset of a segment of a rank, where that is the comparator, and answers
+    /// what stood there. (GASPI: atomic_compare_swap)
+    CompareSwap {
+        seg: u64,
+        offset: u64,
+        rank: u64,
+        comparator: u64,
+        new: u64,
+    },
     /// The end of a caller. (own choice)
     End,
 }
@@ -89,6 +120,15 @@ impl Call {
         ensures listless { is_listless_call self.now ≡ true → IsOk result }
     {
         match self {
+            Call::Alloc { seg, size } => Ok(Call::Alloc {
+                seg: *seg,
+                size: *size,
+            }),
+            Call::Register { seg, rank } => Ok(Call::Register {
+                seg: *seg,
+                rank: *rank,
+            }),
+            Call::Delete { seg } => Ok(Call::Delete { seg: *seg }),
             Call::Store { seg, offset, bytes } => Ok(Call::Store {
                 seg: *seg,
                 offset: *offset,
@@ -160,6 +200,30 @@ impl Call {
                 seg: *seg,
                 note: *note,
             }),
+            Call::FetchAdd {
+                seg,
+                offset,
+                rank,
+                value,
+            } => Ok(Call::FetchAdd {
+                seg: *seg,
+                offset: *offset,
+                rank: *rank,
+                value: *value,
+            }),
+            Call::CompareSwap {
+                seg,
+                offset,
+                rank,
+                comparator,
+                new,
+            } => Ok(Call::CompareSwap {
+                seg: *seg,
+                offset: *offset,
+                rank: *rank,
+                comparator: *comparator,
+                new: *new,
+            }),
             Call::End => Ok(Call::End),
         }
     }
@@ -176,10 +240,15 @@ pub fn need(call: &Call, pending: bool, ended: bool) -> u64
         Call::End => { if ended { 1 } else { 0 } }
         Call::Write { .. } | Call::Notify { .. } => 3,
         Call::WriteNotify { .. } => 5,
-        Call::Store { .. }
+        Call::Alloc { .. }
+        | Call::Register { .. }
+        | Call::Delete { .. }
+        | Call::Store { .. }
         | Call::Load { .. }
         | Call::Wait { .. }
         | Call::Waitsome { .. }
-        | Call::Reset { .. } => 1,
+        | Call::Reset { .. }
+        | Call::FetchAdd { .. }
+        | Call::CompareSwap { .. } => 1,
     }
 }

@@ -10,6 +10,7 @@ mod ids;
 mod lists;
 mod memory;
 mod replies;
+mod segments;
 mod shapes;
 
 pub use calls::{Call, Timeout, need};
@@ -21,6 +22,10 @@ pub use ids::{NoteId, QueueId, RankId, SegId, ThreadId};
 pub use lists::{Bytes, Rows};
 pub use memory::NoMemory;
 pub use replies::{Ready, Refusal, Reply};
+pub use segments::{
+    Extents, add_to_word, check_range, check_word, extent_in, is_segment_size, is_transfer_size,
+    is_within, range_of, set_range, swap_word, word_at,
+};
 pub use shapes::{CallerId, Declared, Limits, Shape, ShapeFault};
 
 #[cfg(test)]

@@ -19,7 +19,7 @@ pub enum Refusal {
     NoSegment,
     /// 3: the id to be made is there.
     SegmentThere,
-    /// 4: the target's segment is not known to the caller.
+    /// 4: the target's segment is not known to the caller; for an atomic also where the known generation is gone.
     Unregistered,
     /// 5: offset and length in bytes, added up, are over the segment's size.
     BadRange { size: u32 },
@@ -57,7 +57,7 @@ pub enum Refusal {
     BadCount,
     /// 22: the type is Float or Double.
     FloatType,
-    /// 23: an own entry uses the segment; the least queue that has one.
+    /// 23: an own entry has to read the segment yet; the least queue that has one.
     SegmentBusy { queue: u32 },
     /// 24: the rank has made the last group that it may.
     GroupsFull,
@@ -105,7 +105,8 @@ impl Refusal {
 pub enum Reply {
     /// The call has done what it is for, and answers nothing else.
     Done,
-    /// A number: the value of a notification slot. (GASPI: notify_reset)
+    /// A number: the value of a notification slot, or the word that stood there before an atomic. (GASPI: notify_reset,
+    /// atomic_fetch_add, atomic_compare_swap)
     Value(u64),
     /// A number that names something: a notification slot. (GASPI: notify_waitsome)
     Id(u32),

@@ -10,6 +10,7 @@ ghost use Rattle.gaspi_types.specs.declared.shapes.ShapeFault.TheVariants.{NoMem
 use crate::ids::{RankId, SegId, ThreadId};
 use crate::lists::Rows;
 use crate::memory::NoMemory;
+use crate::segments::is_segment_size;
 use std::alloc::Global;
 use std::marker::Model;
 use thiserror::Error;
@@ -218,9 +219,7 @@ impl Shape {
     pub fn add_segment(&mut self, rank: u64, seg: u64, size: u64) -> Result<(), ShapeFault>
         ensures { Declares result self.old self.new (segment_added self.old rank seg size) }
     {
-        let within = rank < u64::from(self.limits.ranks)
-            && seg < 32
-            && is_between(1, 1_048_576, size);
+        let within = rank < u64::from(self.limits.ranks) && seg < 32 && is_segment_size(size);
         if !within {
             return Err(ShapeFault::Limit);
         }

@@ -4,16 +4,17 @@ use Rattle.std.proofs.lemmas.List.{length-set}
 use Rattle.gaspi_types.specs.Checks.{check, found}
 use Rattle.gaspi_types.specs.Posts.{write_kinds, notify_kinds, write_notify_kinds}
 use Rattle.gaspi_types.specs.Replies.{same_reply, is_idle}
+use Rattle.gaspi_types.specs.declared.entries.Extent.{Extent}
 use Rattle.gaspi_types.specs.declared.entries.Kind.{Kind}
 use Rattle.gaspi_types.specs.declared.shapes.Limits.{Limits}
 use Rattle.gaspi_types.specs.declared.calls.Call.{Call}
-use Rattle.gaspi_types.specs.declared.calls.Call.TheVariants.{Store, Load, Write, Notify, WriteNotify, Wait, Waitsome, Reset, End}
+use Rattle.gaspi_types.specs.declared.calls.Call.TheVariants.{Alloc, Register, Delete, Store, Load, Write, Notify, WriteNotify, Wait, Waitsome, Reset, FetchAdd, CompareSwap, End}
 use Rattle.gaspi_types.specs.declared.replies.Refusal.{Refusal}
 use Rattle.gaspi_types.specs.declared.replies.Reply.{Reply}
 use Rattle.gaspi_types.specs.declared.events.Event.{Event}
 use Rattle.gaspi_types.specs.declared.events.Event.TheVariants.{Called, Take, Put}
 use Rattle.gaspi_model.specs.State.{owed, thread_at}
-use Rattle.gaspi_model.specs.Calls.{answer, recorded_reply, charge, posts_done, posts_after, memory_after, with_post, changed_at}
+use Rattle.gaspi_model.specs.Calls.{answer, recorded_reply, charge, posts_done, posts_after, memory_after, memory_rank, with_known, with_post, changed_at, told}
 use Rattle.gaspi_model.specs.Step.{step, called, is_there}
 use Rattle.gaspi_model.specs.Transfers.{take, put, Parts}
 use Rattle.gaspi_model.specs.declared.states.Posts.{Posts}
@@ -22,7 +23,8 @@ use Rattle.gaspi_model.specs.declared.states.State.{State}
 use Rattle.gaspi_model.specs.declared.states.Why.{Why}
 use Rattle.gaspi_model.specs.declared.states.Why.TheVariants as whys
 use Rattle.plain_machine.specs.Machine.{IsFitting}
-use Rattle.plain_machine.proofs.Chains.{passed, found_there, changed_there}
+use Rattle.plain_calls.proofs.Chains.{passed, found_there, changed_there}
+use Rattle.plain_machine.proofs.Telling.{told_by}
 use Rattle.plain_machine.proofs.Kept.{take_keeps, put_keeps}
 
 -- what stands in a list after a write is what was written or what stood there
@@ -45,6 +47,9 @@ queues-post posts queue rank (Ok kinds) = length-changed_at posts.queues queue _
 queues-post posts queue rank (Err refusal) = refl
 
 queues-done : (limits : Limits) (me : ℕ) (posts : Posts) (thread : ℕ) (call : Call) → length (posts_done limits me posts thread call).queues ≡ length posts.queues
+queues-done limits me posts thread (Alloc seg size) = refl
+queues-done limits me posts thread (Register seg rank) = refl
+queues-done limits me posts thread (Delete seg) = refl
 queues-done limits me posts thread (Store seg offset bytes) = refl
 queues-done limits me posts thread (Load seg offset size) = refl
 queues-done limits me posts thread (Write seg offset rank rseg roffset size queue) =
@@ -56,6 +61,8 @@ queues-done limits me posts thread (WriteNotify seg offset rank rseg roffset siz
 queues-done limits me posts thread (Wait queue) = length-changed_at posts.queues queue _
 queues-done limits me posts thread (Waitsome seg begin num) = refl
 queues-done limits me posts thread (Reset seg note) = refl
+queues-done limits me posts thread (FetchAdd seg offset rank value) = refl
+queues-done limits me posts thread (CompareSwap seg offset rank comparator new) = refl
 queues-done limits me posts thread End = refl
 
 queues-after : (limits : Limits) (me : ℕ) (posts : Posts) (thread : ℕ) (call : Call) (reply : Reply) → length (posts_after limits me posts thread call reply).queues ≡ length posts.queues
@@ -73,10 +80,10 @@ queues-called limits me posts memory thread call reply after is =
     passed (check (nat_le (posts.events + owed posts + charge (thread_at posts thread) call reply) limits.events) _) _ _ more (λ u room more.
     done after more)))
   where
-    done : (after : Parts) → ◌≡◌ {A = Result Parts Why} (Ok (record { posts = posts_after limits me posts thread call reply; memory = memory_after memory call reply })) (Ok after)
+    done : (after : Parts) → ◌≡◌ {A = Result Parts Why} (Ok (record { posts = posts_after limits me posts thread call reply; memory = memory_after limits posts memory call reply })) (Ok after)
         → length after.posts.queues ≡ length posts.queues
     done after is =
-        let same : record { posts = posts_after limits me posts thread call reply; memory = memory_after memory call reply } ≡ after = cc in
+        let same : record { posts = posts_after limits me posts thread call reply; memory = memory_after limits posts memory call reply } ≡ after = cc in
         rw (← same) (queues-after limits me posts thread call reply)
 
 -- one rank's posts replaced by some with as many queues
@@ -91,19 +98,35 @@ fitting_with s rank p p' memories fits all there same = record {
   ];
 }
 
+-- one rank told something
+fitting_told : (s : State) (me rank seg : ℕ) (extent : Option Extent) (posts : List Posts) (memories : List Memory) → IsFitting (record { limits = s.limits; posts = posts; memories = memories })
+    → IsFitting (record { limits = s.limits; posts = changed_at posts rank (with_known me seg extent); memories = memories })
+fitting_told s me rank seg extent posts memories fits = by_item (slice_get posts rank) refl
+  where
+    by_item : (o : Option Posts) → slice_get posts rank ≡ o → IsFitting (record { limits = s.limits; posts = changed_at posts rank (with_known me seg extent); memories = memories })
+    by_item None there = rw there fits
+    by_item (Some q) there =
+        rw (changed_there posts rank (with_known me seg extent) q there)
+        (fitting_with (record { limits = s.limits; posts = posts; memories = memories }) rank q (with_known me seg extent q) memories fits refl there refl)
+
 -- every step
 pub fitting_by : (s t : State) (e : Event) → IsFitting s → step s e ≡ Ok t → IsFitting t
 fitting_by s t (Called c call reply) fits is =
     passed (found (slice_get s.posts c.rank) whys.Caller) _ _ is (λ p p_there more.
-    passed (found (slice_get s.memories c.rank) whys.Caller) _ _ more (λ m m_there more.
+    passed (found (slice_get s.memories (memory_rank s.limits c.rank call)) whys.Caller) _ _ more (λ m m_there more.
     passed (called s.limits c.rank p m c.thread call reply) _ _ more (λ after steps more.
     done p after (found_there _ _ _ p_there) (queues-called s.limits c.rank p m c.thread call reply after steps) more)))
   where
     done : (p : Posts) (after : Parts) → slice_get s.posts c.rank ≡ Some p → length after.posts.queues ≡ length p.queues
-        → ◌≡◌ {A = Result State Why} (Ok (record s { posts = slice_set s.posts c.rank after.posts; memories = slice_set s.memories c.rank after.memory })) (Ok t) → IsFitting t
+        → ◌≡◌ {A = Result State Why} (Ok (record s { posts = told c.rank p call reply (slice_set s.posts c.rank after.posts); memories = slice_set s.memories (memory_rank s.limits c.rank call) after.memory })) (Ok t)
+        → IsFitting t
     done p after there same is =
-        let is_t : record s { posts = slice_set s.posts c.rank after.posts; memories = slice_set s.memories c.rank after.memory } ≡ t = cc in
-        rw (← is_t) (fitting_with s c.rank p after.posts _ fits (length-set s.memories c.rank after.memory) there same)
+        let memories = slice_set s.memories (memory_rank s.limits c.rank call) after.memory in
+        let is_t : record s { posts = told c.rank p call reply (slice_set s.posts c.rank after.posts); memories = memories } ≡ t = cc in
+        let recorded = fitting_with s c.rank p after.posts memories fits (length-set s.memories (memory_rank s.limits c.rank call) after.memory) there same in
+        rw (← is_t)
+        (told_by (λ (ps : List Posts). IsFitting (record { limits = s.limits; posts = ps; memories = memories })) c.rank p call reply (slice_set s.posts c.rank after.posts) recorded
+        (λ rank seg extent. fitting_told s c.rank rank seg extent (slice_set s.posts c.rank after.posts) memories recorded))
 fitting_by s t (Take origin queue target number outcome) fits is =
     passed (found (slice_get s.posts origin) whys.Take) _ _ is (λ p p_there more.
     passed (found (slice_get s.memories origin) whys.Take) _ _ more (λ m m_there more.

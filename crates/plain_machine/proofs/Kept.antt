@@ -17,8 +17,8 @@ use Rattle.gaspi_model.specs.declared.states.Posts.{Posts}
 use Rattle.gaspi_model.specs.declared.states.Memory.{Memory}
 use Rattle.gaspi_model.specs.declared.states.Why.{Why}
 use Rattle.gaspi_model.specs.declared.states.Why.TheVariants as whys
-use Rattle.plain_machine.proofs.Chains.{passed, found_there, check_holds, changed_there}
-use Rattle.plain_machine.proofs.Owed.{sum_by-put, sum_by-taken}
+use Rattle.plain_calls.proofs.Chains.{passed, found_there, check_holds, changed_there}
+use Rattle.plain_calls.proofs.Owed.{sum_by-put, sum_by-taken}
 
 pub record IsKept (old new : Posts) : Type 0 where
   pub taken : new.events + owed new ≡ old.events + owed old

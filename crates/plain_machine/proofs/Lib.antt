@@ -1,14 +1,11 @@
-pub mod Both
-pub mod CallRoom
-pub mod Chains
 pub mod Fitting
-pub mod Items
 pub mod Kept
 pub mod Lifted
+pub mod Lists
 pub mod Opened
 pub mod Parted
-pub mod Walked
-pub mod Owed
 pub mod Ranges
 pub mod Renamed
 pub mod Running
+pub mod Telling
+pub mod Walked

@@ -10,6 +10,7 @@ use Rattle.gaspi_types.specs.declared.calls.Call.{Call}
 use Rattle.gaspi_types.specs.declared.replies.Reply.{Reply}
 use Rattle.gaspi_types.specs.declared.events.Event.TheVariants.{Called, Take, Put}
 use Rattle.gaspi_types.specs.declared.events.Outcome.{Outcome}
+use Rattle.gaspi_model.specs.Calls.{memory_rank, told}
 use Rattle.gaspi_model.specs.Sound.{IsSoundPosts}
 use Rattle.gaspi_model.specs.Step.{step, called, Steps}
 use Rattle.gaspi_model.specs.Transfers.{take, put, Parts}
@@ -19,27 +20,30 @@ use Rattle.gaspi_model.specs.declared.states.State.{State}
 use Rattle.gaspi_model.specs.declared.states.StepFault.{StepFault}
 use Rattle.gaspi_model.specs.declared.states.StepFault.TheVariants as faults
 use Rattle.plain_machine.specs.Machine.{taken_of}
-use Rattle.plain_machine.proofs.Items.{set_there}
+use Rattle.plain_calls.proofs.Items.{set_there}
 use Rattle.plain_machine.proofs.Kept.{take_keeps, put_keeps}
 
--- a fact about a list that one item decides
-pub map_kept : {X : Type 0} (f : X → ℕ) (xs : List X) (i : ℕ) (x y : X) → slice_get xs i ≡ Some x → f y ≡ f x → map f (slice_set xs i y) ≡ map f xs
-map_kept f xs i x y there same =
-    map-set f xs i y ∙ set_there (map f xs) i (f y) (slice_get-map f xs i ∙ rw there rw same refl)
+-- a call that is recorded, and what it makes known told
+pub called_made : (s : State) (c : CallerId) (call : Call) (reply : Reply) (p p' : Posts) (m m' : Memory)
+    → slice_get s.posts c.rank ≡ Some p → slice_get s.memories (memory_rank s.limits c.rank call) ≡ Some m
+    → called s.limits c.rank p m c.thread call reply ≡ Ok (record { posts = p'; memory = m' })
+    → step s (Called c call reply)
+    ≡ Ok (record s { posts = told c.rank p call reply (slice_set s.posts c.rank p'); memories = slice_set s.memories (memory_rank s.limits c.rank call) m' })
+called_made s c call reply p p' m m' posts memory steps = rw (posts, memory) rw steps refl
 
-pub called_steps : (s : State) (c : CallerId) (call : Call) (reply : Reply) (p p' : Posts) (m m' : Memory) (result : Result (Unit {0}) StepFault)
-    → slice_get s.posts c.rank ≡ Some p → slice_get s.memories c.rank ≡ Some m
-    → Steps {S = Parts} result (record { posts = p; memory = m }) (record { posts = p'; memory = m' }) (called s.limits c.rank p m c.thread call reply)
-    → Steps result s (record s { posts = slice_set s.posts c.rank p'; memories = slice_set s.memories c.rank m' }) (step s (Called c call reply))
-called_steps s c call reply p p' m m' (Ok done) posts memory steps = rw (posts, memory) rw steps refl
-called_steps s c call reply p p' m m' (Err (faults.Illegal why)) posts memory steps =
+-- one that is not
+pub called_not : (s : State) (c : CallerId) (call : Call) (reply : Reply) (p p' : Posts) (m m' : Memory) (fault : StepFault)
+    → slice_get s.posts c.rank ≡ Some p → slice_get s.memories (memory_rank s.limits c.rank call) ≡ Some m
+    → Steps {S = Parts} (Err fault) (record { posts = p; memory = m }) (record { posts = p'; memory = m' }) (called s.limits c.rank p m c.thread call reply)
+    → Steps (Err fault) s (record s { posts = slice_set s.posts c.rank p'; memories = slice_set s.memories (memory_rank s.limits c.rank call) m' }) (step s (Called c call reply))
+called_not s c call reply p p' m m' (faults.Illegal why) posts memory steps =
     let same_posts = ap (λ (parts : Parts). parts.posts) steps.1 in
     let same_memory = ap (λ (parts : Parts). parts.memory) steps.1 in
-    (rw (posts, memory) rw steps.0 refl, rw (same_posts, same_memory) rw (set_there s.posts c.rank p posts, set_there s.memories c.rank m memory) refl)
-called_steps s c call reply p p' m m' (Err faults.NoMemory) posts memory steps =
+    (rw (posts, memory) rw steps.0 refl, rw (same_posts, same_memory) rw (set_there s.posts c.rank p posts, set_there s.memories (memory_rank s.limits c.rank call) m memory) refl)
+called_not s c call reply p p' m m' faults.NoMemory posts memory steps =
     let same_posts = ap (λ (parts : Parts). parts.posts) steps in
     let same_memory = ap (λ (parts : Parts). parts.memory) steps in
-    rw (same_posts, same_memory) rw (set_there s.posts c.rank p posts, set_there s.memories c.rank m memory) refl
+    rw (same_posts, same_memory) rw (set_there s.posts c.rank p posts, set_there s.memories (memory_rank s.limits c.rank call) m memory) refl
 
 pub take_steps : (s : State) (origin queue target number : ℕ) (outcome : Outcome) (p p' : Posts) (m : Memory) (result : Result (Unit {0}) StepFault)
     → slice_get s.posts origin ≡ Some p → slice_get s.memories origin ≡ Some m

@@ -10,7 +10,7 @@ use Rattle.gaspi_types.specs.Posts.{write_kinds, notify_kinds, write_notify_kind
 use Rattle.gaspi_types.specs.Replies.{same_reply, is_idle}
 use Rattle.gaspi_types.specs.World.{are_limits}
 use Rattle.gaspi_types.specs.declared.calls.Call.{Call}
-use Rattle.gaspi_types.specs.declared.calls.Call.TheVariants.{Store, Load, Write, Notify, WriteNotify, Wait, Waitsome, Reset, End}
+use Rattle.gaspi_types.specs.declared.calls.Call.TheVariants.{Alloc, Register, Delete, Store, Load, Write, Notify, WriteNotify, Wait, Waitsome, Reset, FetchAdd, CompareSwap, End}
 use Rattle.gaspi_types.specs.declared.entries.Entry.{Entry}
 use Rattle.gaspi_types.specs.declared.entries.Kind.{Kind}
 use Rattle.gaspi_types.specs.declared.entries.Phase.TheVariants as phases
@@ -24,7 +24,7 @@ use Rattle.gaspi_types.specs.declared.shapes.Limits.{Limits}
 use Rattle.gaspi_types.specs.declared.shapes.CallerId.{CallerId}
 use Rattle.gaspi_model.proofs.Tables.{slice_get-set_same, past-none}
 use Rattle.gaspi_model.specs.State.{owed, thread_at}
-use Rattle.gaspi_model.specs.Calls.{answer, recorded_reply, charge, posts_done, posts_after, memory_after, with_post, with_entries, changed_at, counted}
+use Rattle.gaspi_model.specs.Calls.{answer, recorded_reply, charge, posts_done, posts_after, memory_after, with_post, with_entries, changed_at, counted, memory_rank, told}
 use Rattle.gaspi_model.specs.Sound.{IsSound, IsSoundPosts}
 use Rattle.gaspi_model.specs.Step.{step, called, is_there, Steps}
 use Rattle.gaspi_model.specs.Transfers.{Found, find_entry, take, put, put_with, put_outcome, same_outcome, with_lane, with_phase, Parts}
@@ -39,10 +39,12 @@ use Rattle.gaspi_model.specs.declared.states.Why.TheVariants as whys
 use Rattle.plain_machine.specs.Machine.{IsFitting}
 use Rattle.plain_machine.specs.Standing.{lane_id, lane_named, queue_named, rank_named, standing_lanes, lane_entries, is_before, post_lane, call_lane, event_lane, is_put}
 use Rattle.plain_machine.specs.declared.standing.LaneId.{LaneId}
-use Rattle.plain_machine.proofs.Chains.{passed, found_there, check_holds, changed_there}
+use Rattle.plain_calls.proofs.Chains.{passed, found_there, check_holds, changed_there}
 use Rattle.plain_machine.proofs.Kept.{IsAt, found_at}
-use Rattle.plain_machine.proofs.CallRoom.{found_by, post_by, HasLength, one_write, one_notify, two_kinds, IsPost}
-use Rattle.plain_machine.proofs.Items.{length-posted_entries}
+use Rattle.plain_calls.proofs.CallRoom.{found_by, post_by, HasLength, one_write, one_notify, two_kinds, IsPost}
+use Rattle.plain_calls.proofs.Items.{length-posted_entries}
+use Rattle.plain_machine.proofs.Lists.{same_in, same_changed}
+use Rattle.plain_machine.proofs.Telling.{told_standing}
 use Rattle.plain_machine.proofs.Parted.{IsParted, parted_by, kept_by, named_by, unnamed_by}
 
 -- posts that differ in one lane and in nothing else that names lanes
@@ -178,23 +180,6 @@ post_names ps o limits posts queue target finds reply n o_there sound p count = 
         let parts = parted ps o queue target posts (counted (with_post posts queue target finds)) lane (lane ++ more) o_there r in
         rw (entries_old ps o queue target posts _ lane (lane ++ more) o_there r) (rw (named_more o queue target lane more n long) at parts)
 
--- posts with the same names
-same_in : {X : Type 0} (h : ℕ × X → List LaneId) (n i : ℕ) (xs : List X) (x y : X) → slice_get xs i ≡ Some x → ((j : ℕ) → h (j, y) ≡ h (j, x))
-    → flat_map h (enumerate_from n (slice_set xs i y)) ≡ flat_map h (enumerate_from n xs)
-same_in h n i [] x y there same = refl
-same_in {X} h n zero (z ∷ xs) x y there same =
-    let is : x ≡ z = cc in
-    ap (λ (ys : List LaneId). ys ++ flat_map h (enumerate_from (n + 1) xs)) (same n ∙ ap (λ (w : X). h (n, w)) is)
-same_in {X} h n (suc i) (z ∷ xs) x y there same = ap (λ (ys : List LaneId). h (n, z) ++ ys) (same_in h (n + 1) i xs x y there same)
-
-same_changed : {X : Type 0} (h : ℕ × X → List LaneId) (n i : ℕ) (xs : List X) (change : X → X) → ((j : ℕ) (x : X) → h (j, change x) ≡ h (j, x))
-    → flat_map h (enumerate_from n (changed_at xs i change)) ≡ flat_map h (enumerate_from n xs)
-same_changed {X} h n i xs change same = by_item (slice_get xs i) refl
-  where
-    by_item : (o : Option X) → slice_get xs i ≡ o → flat_map h (enumerate_from n (changed_at xs i change)) ≡ flat_map h (enumerate_from n xs)
-    by_item None there = rw there refl
-    by_item (Some x) there = rw (changed_there xs i change x there) (same_in h n i xs x (change x) there (λ j. same j x))
-
 -- an accepted post has a lane
 post_has_lane : (limits : Limits) (me : ℕ) (posts : Posts) (rank queue : ℕ) (asked : Result (List Kind) Refusal) (reply : Reply) → are_limits limits ≡ true → length posts.queues ≤ 8
     → IsPost limits posts rank queue asked reply → post_lane me rank queue ≡ None → ⊥
@@ -210,6 +195,9 @@ post_has_lane limits me posts rank queue asked reply limited few p lane =
 quiet_call : (limits : Limits) (me : ℕ) (posts : Posts) (memory : Memory) (thread : ℕ) (call : Call) (reply : Reply) (j : ℕ) → are_limits limits ≡ true → length posts.queues ≤ 8
     → same_reply reply (recorded_reply (answer limits me posts memory thread call)) ≡ true → is_idle reply ≡ false → call_lane me call ≡ None
     → rank_named (j, posts_done limits me posts thread call) ≡ rank_named (j, posts)
+quiet_call limits me posts memory thread (Alloc seg size) reply j limited few same busy lane = refl
+quiet_call limits me posts memory thread (Register seg rank) reply j limited few same busy lane = refl
+quiet_call limits me posts memory thread (Delete seg) reply j limited few same busy lane = refl
 quiet_call limits me posts memory thread (Store seg offset bytes) reply j limited few same busy lane = refl
 quiet_call limits me posts memory thread (Load seg offset size) reply j limited few same busy lane = refl
 quiet_call limits me posts memory thread (Write seg offset rank rseg roffset size queue) reply j limited few same busy lane =
@@ -225,6 +213,8 @@ quiet_call limits me posts memory thread (Wait queue) reply j limited few same b
     same_changed (queue_named j) 0 queue posts.queues (λ (q : Queue). record q { open_count = 0 }) (λ k q. refl)
 quiet_call limits me posts memory thread (Waitsome seg begin num) reply j limited few same busy lane = refl
 quiet_call limits me posts memory thread (Reset seg note) reply j limited few same busy lane = refl
+quiet_call limits me posts memory thread (FetchAdd seg offset rank value) reply j limited few same busy lane = refl
+quiet_call limits me posts memory thread (CompareSwap seg offset rank comparator new) reply j limited few same busy lane = refl
 quiet_call limits me posts memory thread End reply j limited few same busy lane = refl
 
 -- what a recorded call has passed
@@ -240,10 +230,10 @@ called_by limits me posts memory thread call reply after is =
     passed (check (nat_le (posts.events + owed posts + charge (thread_at posts thread) call reply) limits.events) _) _ _ more (λ u room more.
     record { replied = check_holds _ _ _ answered; after_is = done after more })))
   where
-    done : (after : Parts) → ◌≡◌ {A = Result Parts Why} (Ok (record { posts = posts_after limits me posts thread call reply; memory = memory_after memory call reply })) (Ok after)
+    done : (after : Parts) → ◌≡◌ {A = Result Parts Why} (Ok (record { posts = posts_after limits me posts thread call reply; memory = memory_after limits posts memory call reply })) (Ok after)
         → posts_after limits me posts thread call reply ≡ after.posts
     done after is =
-        let same : record { posts = posts_after limits me posts thread call reply; memory = memory_after memory call reply } ≡ after = cc in
+        let same : record { posts = posts_after limits me posts thread call reply; memory = memory_after limits posts memory call reply } ≡ after = cc in
         ap (λ (parts : Parts). parts.posts) same
 
 -- what a step that was made has done to the posts
@@ -251,21 +241,23 @@ record IsPosted (s t : State) (o : ℕ) (P : Posts → Posts → Type 0) : Type 
   p : Posts
   p' : Posts
   there : slice_get s.posts o ≡ Some p
-  is : slice_set s.posts o p' ≡ t.posts
+  is : standing_lanes t.posts ≡ standing_lanes (slice_set s.posts o p')
   by : P p p'
 
 call_posts : (s t : State) (c : CallerId) (call : Call) (reply : Reply) → step s (Called c call reply) ≡ Ok t
     → IsPosted s t c.rank (λ p p'. (memory : Memory) × IsCalled s.limits c.rank p memory c.thread call reply p')
 call_posts s t c call reply is =
     passed (found (slice_get s.posts c.rank) whys.Caller) _ _ is (λ p p_there more.
-    passed (found (slice_get s.memories c.rank) whys.Caller) _ _ more (λ m m_there more.
+    passed (found (slice_get s.memories (memory_rank s.limits c.rank call)) whys.Caller) _ _ more (λ m m_there more.
     passed (called s.limits c.rank p m c.thread call reply) _ _ more (λ after steps more.
-    record { p = p; p' = after.posts; there = found_there _ _ _ p_there; is = done after more; by = (m, called_by s.limits c.rank p m c.thread call reply after steps) })))
+    record { p = p; p' = after.posts; there = found_there _ _ _ p_there; is = done p after more; by = (m, called_by s.limits c.rank p m c.thread call reply after steps) })))
   where
-    done : (after : Parts) → ◌≡◌ {A = Result State Why} (Ok (record s { posts = slice_set s.posts c.rank after.posts; memories = slice_set s.memories c.rank after.memory })) (Ok t) → slice_set s.posts c.rank after.posts ≡ t.posts
-    done after is =
-        let same : record s { posts = slice_set s.posts c.rank after.posts; memories = slice_set s.memories c.rank after.memory } ≡ t = cc in
-        ap (λ (x : State). x.posts) same
+    done : (p : Posts) (after : Parts)
+        → ◌≡◌ {A = Result State Why} (Ok (record s { posts = told c.rank p call reply (slice_set s.posts c.rank after.posts); memories = slice_set s.memories (memory_rank s.limits c.rank call) after.memory })) (Ok t)
+        → standing_lanes t.posts ≡ standing_lanes (slice_set s.posts c.rank after.posts)
+    done p after is =
+        let same : record s { posts = told c.rank p call reply (slice_set s.posts c.rank after.posts); memories = slice_set s.memories (memory_rank s.limits c.rank call) after.memory } ≡ t = cc in
+        rw (← same) (told_standing c.rank p call reply (slice_set s.posts c.rank after.posts))
 
 -- a lane of an event that is a call
 some_lane : (idle : Bool) (o : Option LaneId) (id : LaneId) → (if idle then None else o) ≡ Some id → (idle ≡ false) × (o ≡ Some id)
@@ -284,16 +276,19 @@ posting s t (Put origin queue target number outcome) id sound lane puts is = abs
 posting s t (Called c call reply) id sound lane puts is =
     let l = some_lane (is_idle reply) (call_lane c.rank call) id lane in of_call call l.0 l.1 (call_posts s t c call reply is)
   where
-    of_post : (rank queue : ℕ) (asked : Result (List Kind) Refusal) (found : Reply) (n : ℕ) (p p' : Posts) → slice_get s.posts c.rank ≡ Some p → slice_set s.posts c.rank p' ≡ t.posts
+    of_post : (rank queue : ℕ) (asked : Result (List Kind) Refusal) (found : Reply) (n : ℕ) (p p' : Posts) → slice_get s.posts c.rank ≡ Some p → standing_lanes t.posts ≡ standing_lanes (slice_set s.posts c.rank p')
         → post_lane c.rank rank queue ≡ Some id → IsPost s.limits p rank queue asked found → HasLength asked (suc n) → counted (with_post p queue rank asked) ≡ p'
         → IsParted id (standing_lanes s.posts) (standing_lanes t.posts) (lane_named id.origin id.queue (id.target, lane_entries s.posts id)) (id ∷ [])
     of_post rank queue asked found n p p' there new lane post long after =
-        rw (← lane_of_post (nat_lt rank 16 && nat_lt queue 8) (lane_id c.rank queue rank) id lane, ← new, ← after)
+        rw (← lane_of_post (nat_lt rank 16 && nat_lt queue 8) (lane_id c.rank queue rank) id lane, new, ← after)
         (post_names s.posts c.rank s.limits p queue rank asked found n there (sound.posts c.rank p there) post long)
 
     of_call : (call : Call) → is_idle reply ≡ false → call_lane c.rank call ≡ Some id
         → IsPosted s t c.rank (λ p p'. (memory : Memory) × IsCalled s.limits c.rank p memory c.thread call reply p')
         → IsParted id (standing_lanes s.posts) (standing_lanes t.posts) (lane_named id.origin id.queue (id.target, lane_entries s.posts id)) (id ∷ [])
+    of_call (Alloc seg size) busy lane done = absurd (let no : ⊥ = cc in no)
+    of_call (Register seg rank) busy lane done = absurd (let no : ⊥ = cc in no)
+    of_call (Delete seg) busy lane done = absurd (let no : ⊥ = cc in no)
     of_call (Store seg offset bytes) busy lane done = absurd (let no : ⊥ = cc in no)
     of_call (Load seg offset size) busy lane done = absurd (let no : ⊥ = cc in no)
     of_call (Write seg offset rank rseg roffset size queue) busy lane done =
@@ -314,6 +309,8 @@ posting s t (Called c call reply) id sound lane puts is =
     of_call (Wait queue) busy lane done = absurd (let no : ⊥ = cc in no)
     of_call (Waitsome seg begin num) busy lane done = absurd (let no : ⊥ = cc in no)
     of_call (Reset seg note) busy lane done = absurd (let no : ⊥ = cc in no)
+    of_call (FetchAdd seg offset rank value) busy lane done = absurd (let no : ⊥ = cc in no)
+    of_call (CompareSwap seg offset rank comparator new) busy lane done = absurd (let no : ⊥ = cc in no)
     of_call End busy lane done = absurd (let no : ⊥ = cc in no)
 
 -- a put
@@ -345,11 +342,11 @@ quiet s t (Called c call reply) sound fits lane is = by_idle (is_idle reply) ref
     by_idle : (idle : Bool) → is_idle reply ≡ idle → standing_lanes t.posts ≡ standing_lanes s.posts
     by_idle true idle =
         let after : counted done.p ≡ done.p' = rw idle at done.by.1.after_is in
-        rw (← done.is, ← after) (same_in rank_named 0 c.rank s.posts done.p (counted done.p) done.there (λ j. refl))
+        rw (done.is, ← after) (same_in rank_named 0 c.rank s.posts done.p (counted done.p) done.there (λ j. refl))
     by_idle false busy =
         let after : counted (posts_done s.limits c.rank done.p c.thread call) ≡ done.p' = rw busy at done.by.1.after_is in
         let none : call_lane c.rank call ≡ None = rw busy at lane in
-        rw (← done.is, ← after) (same_in rank_named 0 c.rank s.posts done.p (counted (posts_done s.limits c.rank done.p c.thread call)) done.there
+        rw (done.is, ← after) (same_in rank_named 0 c.rank s.posts done.p (counted (posts_done s.limits c.rank done.p c.thread call)) done.there
         (λ j. quiet_call s.limits c.rank done.p done.by.0 c.thread call reply j sound.limits (fits.queues c.rank done.p done.there) done.by.1.replied busy none))
 quiet s t (Take origin queue target number outcome) sound fits lane is =
     passed (found (slice_get s.posts origin) whys.Take) _ _ is (λ p p_there more.

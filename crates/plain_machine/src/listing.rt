@@ -10,10 +10,10 @@ ghost use Rattle.gaspi_types.specs.declared.entries.Entry.{Entry};
 ghost use Rattle.gaspi_model.specs.Transfers.{transfer_of};
 ghost use Rattle.plain_machine.specs.Standing.{is_over, IsSummary, Seeks, entries_transfers, open_transfers};
 
-use crate::lanes::{is_carried, is_posted, is_write};
 use crate::standing::{LaneId, open_entries};
 use gaspi_model::Posts;
 use gaspi_types::{Entry, Limits, NoMemory, Rows, Transfer};
+use plain_calls::{is_carried, is_posted, is_write};
 use std::alloc::Global;
 
 /// What decides which entries of a lane may move: how many of them have taken their bytes, and the least number of a

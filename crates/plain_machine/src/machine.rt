@@ -5,19 +5,18 @@ ghost use Rattle.gaspi_types.specs.Need.{need_of};
 ghost use Rattle.gaspi_model.specs.State.{opening};
 ghost use Rattle.gaspi_model.specs.Step.{step, Steps, answer_in, is_declared, is_active, room_taken, transfer_event};
 ghost use Rattle.gaspi_model.specs.Transfers.{transfers};
-ghost use Rattle.plain_machine.specs.Memory.{is_load, takes_memory};
+ghost use Rattle.plain_calls.specs.Memory.{is_load, takes_memory};
 
-use crate::called::is_there;
-use crate::calls::{answer, is_running, thread_at};
 use crate::listing::{transfer_at, transfer_count, transfers};
 use crate::opening::{all_memories, all_posts, all_taken};
 use crate::standing::LaneId;
-use crate::steps::step_named;
+use crate::steps::{memory_rank, step_named};
 use crate::transfers::{find_entry, put_outcome};
 use gaspi_model::{Memory, Posts, StepFault, Why, soundness};
 use gaspi_types::{
     Call, CallerId, Event, Limits, NoMemory, Outcome, RankId, Ready, Rows, Shape, Transfer,
 };
+use plain_calls::{answer, is_running, is_there, thread_at};
 use std::alloc::Global;
 use std::marker::Model;
 
@@ -67,7 +66,7 @@ impl Machine {
     }
 
     /// Steps by an event. At Ok the step's state stands; an illegal event is no step, for that cause, and changed
-    /// nothing; without memory nothing changed. Loads, posts and takes alone may want memory.
+    /// nothing; without memory nothing changed. Loads, posts, takes and segments that are made alone may want memory.
     pub fn step(&mut self, alloc: Global, event: &Event) -> Result<(), StepFault>
         ensures step { Steps result self.old self.new (step self.old event.now) }
         ensures ample { takes_memory event.now ≡ false → result ≢ Err StepFault.NoMemory }
@@ -97,7 +96,8 @@ impl Machine {
             &self.limits,
             caller.rank,
             self.posts.at(rank),
-            self.memories.at(rank),
+            self.memories
+                .at(memory_rank(&self.limits, caller.rank, call)),
             caller.thread,
             call,
         )

@@ -4,11 +4,11 @@ ghost use Rattle.std.specs.Prelude.{◌≡◌, ◌+◌, ◌<◌, ◌≤◌, IfOk
 ghost use Rattle.std.specs.Option.{option_map};
 ghost use Rattle.std.specs.List.{list_any, range_with_len};
 ghost use Rattle.gaspi_types.specs.World.{is_caller};
-ghost use Rattle.gaspi_model.specs.State.{declared_size, opening_extents, opening_thread, opening_queue, opening_posts, opening_segment, opening_memory, is_running};
+ghost use Rattle.gaspi_model.specs.State.{declared_size, opening_extents, opening_generations, opening_thread, opening_queue, opening_posts, opening_segment, opening_memory, is_running};
 
-use crate::calls::is_running;
 use gaspi_model::{Memory, Posts, Queue, Segment, ThreadState};
 use gaspi_types::{Entry, Extent, NoMemory, Rows, Shape};
+use plain_calls::{is_running, new_segment};
 use std::alloc::Global;
 
 /// The size with which a segment of a rank is declared.
@@ -52,6 +52,19 @@ fn opening_known(alloc: Global, shape: &Shape) -> Result<Rows<Rows<Option<Extent
         known.push(opening_extents(alloc, shape, rank)?)?;
     }
     Ok(known)
+}
+
+/// The generation that the next segment of each number has.
+#[tactic(auto, using(crate::proofs::Ranges::map_range_more))]
+fn opening_generations(alloc: Global, shape: &Shape, rank: u32) -> Result<Rows<u32>, NoMemory>
+    ensures { IfOk result (λ generations. generations ≡ opening_generations shape.now rank) }
+{
+    let mut generations = Rows::new(alloc);
+    for segment in 0..32 {
+        let used = declared_size(shape, rank, segment).is_some();
+        generations.push(u32::from(used))?;
+    }
+    Ok(generations)
 }
 
 /// Whether a thread has a script.
@@ -144,20 +157,10 @@ fn opening_posts(alloc: Global, shape: &Shape, rank: u32) -> Result<Posts, NoMem
         corrupt: opening_corrupt(alloc, ranks)?,
         own: opening_extents(alloc, shape, rank)?,
         known: opening_known(alloc, shape)?,
+        next_generations: opening_generations(alloc, shape, rank)?,
         threads: opening_threads(alloc, shape, rank)?,
         events: 0,
         next: 0,
-    })
-}
-
-/// A segment of zeros, with all slots zero.
-fn opening_segment(alloc: Global, notes: u32, size: u32) -> Result<Segment, NoMemory>
-    ensures { IfOk result (λ segment. segment ≡ opening_segment notes size) }
-{
-    Ok(Segment {
-        generation: 0,
-        bytes: Rows::from_vec(vec![in alloc; 0u8; size as usize]?),
-        slots: Rows::from_vec(vec![in alloc; 0u32; notes as usize]?),
     })
 }
 
@@ -171,7 +174,7 @@ fn opening_segment_at(
     ensures { IfOk result (λ s. s ≡ option_map (opening_segment shape.now.limits.notes) (declared_size shape.now rank segment)) }
 {
     match declared_size(shape, rank, segment) {
-        Some(size) => Ok(Some(opening_segment(alloc, shape.notes(), size)?)),
+        Some(size) => Ok(Some(new_segment(alloc, shape.notes(), 0, size)?)),
         None => Ok(None),
     }
 }

@@ -5,9 +5,9 @@ ghost use Rattle.std.specs.List.{insert, remove, prefix_len};
 ghost use Rattle.std.specs.Option.{option_copied};
 ghost use Rattle.plain_machine.specs.Standing.{is_before, lane_queue, queue_entries, lane_entries, open_entries, post_lane, call_lane, event_lane, is_put};
 
-use crate::replies::is_idle;
 use gaspi_model::{Posts, Queue};
 use gaspi_types::{Call, Entry, Event, QueueId, RankId, Rows};
+use plain_calls::is_idle;
 
 /// The name of a lane: its origin, its queue and its target.
 #[derive(Clone, Copy, Debug, PartialEq, Eq)]
@@ -116,11 +116,16 @@ fn call_lane(rank: RankId, call: &Call) -> Option<LaneId>
             queue,
             ..
         } => post_lane(rank, *target, *queue),
-        Call::Store { .. }
+        Call::Alloc { .. }
+        | Call::Register { .. }
+        | Call::Delete { .. }
+        | Call::Store { .. }
         | Call::Load { .. }
         | Call::Wait { .. }
         | Call::Waitsome { .. }
         | Call::Reset { .. }
+        | Call::FetchAdd { .. }
+        | Call::CompareSwap { .. }
         | Call::End => None,
     }
 }

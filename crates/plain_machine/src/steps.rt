@@ -2,18 +2,86 @@
 
 ghost use Rattle.std.specs.Prelude.{◌≡◌, ◌≢◌, ◌||◌, map, Some, Err, true, false};
 ghost use Rattle.gaspi_types.specs.declared.events.Event.TheVariants.{Called, Take, Put};
+ghost use Rattle.gaspi_model.specs.Calls.{memory_rank, with_known, with_told};
 ghost use Rattle.gaspi_model.specs.Sound.{IsSound};
 ghost use Rattle.gaspi_model.specs.Step.{step, Steps};
 ghost use Rattle.plain_machine.specs.Machine.{IsFitting, state_of, taken_of};
-ghost use Rattle.plain_machine.specs.Memory.{is_load, is_post, takes_memory};
+ghost use Rattle.plain_calls.specs.Memory.{is_load, keeps_memory, takes_memory};
+ghost use Rattle.plain_machine.specs.Telling.{told_extent, told_of};
 ghost use Rattle.plain_machine.specs.Standing.{standing_lanes, event_lane, is_put};
 
-use crate::called::called;
 use crate::standing::{LaneId, event_lane, has_entry, is_put, name_lane, unname_lane};
 use crate::transfers::{put, take};
 use gaspi_model::{Memory, Posts, StepFault, Why};
-use gaspi_types::{Call, CallerId, Event, Limits, Outcome, QueueId, RankId, Reply, Rows};
+use gaspi_types::{
+    Call, CallerId, Event, Extent, Limits, Outcome, QueueId, RankId, Reply, Rows, extent_in,
+};
+use plain_calls::{called, is_idle};
 use std::alloc::Global;
+
+/// The rank whose memory a call works on, as a place: for an atomic the one that it names, where that is a rank, and else
+/// its caller's.
+pub fn memory_rank(limits: &Limits, me: RankId, call: &Call) -> usize
+    ensures { result ≡ memory_rank limits.now me call.now }
+{
+    match call {
+        Call::FetchAdd { rank, .. } | Call::CompareSwap { rank, .. }
+            if *rank < u64::from(limits.ranks) => { *rank as usize }
+        _ => me.index(),
+    }
+}
+
+/// The segment that a call makes known.
+fn told_extent(posts: &Posts, call: &Call) -> Option<Extent>
+    ensures { result ≡ told_extent posts.now call.now }
+{
+    match call {
+        Call::Register { seg, .. } => extent_in(&posts.own, *seg),
+        _ => None,
+    }
+}
+
+/// Writes what a rank knows of a segment of an owner.
+fn set_known(posts: &mut Posts, owner: RankId, seg: u64, extent: Option<Extent>)
+    ensures { posts.new ≡ with_known owner seg extent posts.old }
+{
+    let place = owner.index();
+    if place < posts.known.len() {
+        let table = posts.known.at_mut(place);
+        let segment = seg as usize;
+        if segment < table.len() {
+            *table.at_mut(segment) = extent;
+        }
+    }
+}
+
+/// Makes a segment known to a rank, where that is not its owner. (GASPI: segment_register)
+fn tell(posts: &mut Rows<Posts>, owner: RankId, seg: u64, rank: u64, extent: Option<Extent>)
+    ensures { posts.new ≡ with_told owner extent seg rank posts.old }
+{
+    let place = rank as usize;
+    if rank != u64::from(owner.number()) && place < posts.len() {
+        set_known(posts.at_mut(place), owner, seg, extent);
+    }
+}
+
+/// Tells another rank what a call makes known to it.
+fn tell_called(
+    posts: &mut Rows<Posts>,
+    me: RankId,
+    call: &Call,
+    reply: &Reply,
+    extent: Option<Extent>,
+)
+    ensures { posts.new ≡ told_of me extent call.now reply.now posts.old }
+{
+    if is_idle(reply) {
+        return;
+    }
+    if let Call::Register { seg, rank } = call {
+        tell(posts, me, *seg, *rank, extent);
+    }
+}
 
 /// Steps by a call with its reply. `taken` is the room that each rank has taken.
 fn step_called(
@@ -27,26 +95,36 @@ fn step_called(
     reply: &Reply,
 ) -> Result<(), StepFault>
     requires sound { IsSound (state_of limits.now posts.old memories.old) }
+    requires fitting { IsFitting (state_of limits.now posts.old memories.old) }
     requires taken { taken.old ≡ map taken_of posts.old }
     ensures step { Steps result (state_of limits.now posts.old memories.old) (state_of limits.now posts.new memories.new) (step (state_of limits.now posts.old memories.old) (Called caller call.now reply.now)) }
     ensures taken { taken.new ≡ map taken_of posts.new }
-    ensures ample { (is_load call.now || is_post call.now) ≡ false → result ≢ Err StepFault.NoMemory }
+    ensures ample { (is_load call.now || keeps_memory call.now) ≡ false → result ≢ Err StepFault.NoMemory }
 {
     let rank = caller.rank.index();
-    if rank >= posts.len() || rank >= memories.len() {
+    let memory = memory_rank(limits, caller.rank, call);
+    if rank >= posts.len() || memory >= memories.len() {
         return Err(StepFault::Illegal(Why::Caller));
     }
-    called(
+    let extent = told_extent(posts.at(rank), call);
+    let stepped = called(
         alloc,
         limits,
         caller.rank,
         posts.at_mut(rank),
-        memories.at_mut(rank),
+        memories.at_mut(memory),
         taken.at_mut(rank),
         caller.thread,
         call,
         reply,
-    )
+    );
+    match stepped {
+        Ok(()) => {
+            tell_called(posts, caller.rank, call, reply, extent);
+            Ok(())
+        }
+        Err(fault) => Err(fault),
+    }
 }
 
 /// Steps by a take.
@@ -124,6 +202,7 @@ fn step(
     event: &Event,
 ) -> Result<(), StepFault>
     requires sound { IsSound (state_of limits.now posts.old memories.old) }
+    requires fitting { IsFitting (state_of limits.now posts.old memories.old) }
     requires taken { taken.old ≡ map taken_of posts.old }
     ensures step { Steps result (state_of limits.now posts.old memories.old) (state_of limits.now posts.new memories.new) (step (state_of limits.now posts.old memories.old) event.now) }
     ensures taken { taken.new ≡ map taken_of posts.new }
@@ -158,6 +237,7 @@ fn step_post(
     id: LaneId,
 ) -> Result<(), StepFault>
     requires sound { IsSound (state_of limits.now posts.old memories.old) }
+    requires fitting { IsFitting (state_of limits.now posts.old memories.old) }
     requires taken { taken.old ≡ map taken_of posts.old }
     requires named { standing.old.items ≡ standing_lanes posts.old }
     requires lane { event_lane event.now ≡ Some id }
@@ -189,6 +269,7 @@ fn step_leaving(
     id: LaneId,
 ) -> Result<(), StepFault>
     requires sound { IsSound (state_of limits.now posts.old memories.old) }
+    requires fitting { IsFitting (state_of limits.now posts.old memories.old) }
     requires taken { taken.old ≡ map taken_of posts.old }
     requires named { standing.old.items ≡ standing_lanes posts.old }
     requires lane { event_lane event.now ≡ Some id }

@@ -71,6 +71,15 @@ fn notify(note: u64, value: u32) -> Call {
     }
 }
 
+fn add(value: u64) -> Call {
+    Call::FetchAdd {
+        seg: 0,
+        offset: 0,
+        rank: 1,
+        value,
+    }
+}
+
 fn transfer(number: u32, put: bool) -> Transfer {
     Transfer {
         origin: RankId::of(0),
@@ -258,4 +267,66 @@ fn an_illegal_take(rt: HostRuntime) -> Result<(), Fail> {
     let stepped = machine.step(alloc, &early);
     assert!(rt; matches!(stepped, Err(StepFault::Illegal(Why::Take))));
     Ok(())
+}
+
+/// Rank 1's segment goes away, and what was posted to it comes too late. It is made again, and known again once told.
+#[test]
+fn a_target_that_goes_away(rt: HostRuntime) -> Result<(), Fail> {
+    let alloc = rt.alloc();
+    let mut machine = two_ranks(alloc)?;
+    let refused = |refusal| Reply::Refused(refusal);
+    calls(&rt, alloc, &mut machine, 0, write_notify(), Reply::Done);
+    calls(
+        &rt,
+        alloc,
+        &mut machine,
+        1,
+        Call::Delete { seg: 0 },
+        Reply::Done,
+    );
+    moves(&rt, alloc, &mut machine, 0, false);
+    moves(&rt, alloc, &mut machine, 0, true);
+    assert_eq!(rt; machine.transfer_count(), 0);
+    let broken = refused(Refusal::QueueBroken { rank: 1 });
+    calls(&rt, alloc, &mut machine, 0, Call::Wait { queue: 0 }, broken);
+    calls(
+        &rt,
+        alloc,
+        &mut machine,
+        1,
+        Call::Alloc { seg: 0, size: 8 },
+        Reply::Done,
+    );
+    calls(
+        &rt,
+        alloc,
+        &mut machine,
+        0,
+        add(1),
+        refused(Refusal::Unregistered),
+    );
+    calls(
+        &rt,
+        alloc,
+        &mut machine,
+        1,
+        Call::Register { seg: 0, rank: 0 },
+        Reply::Done,
+    );
+    calls(&rt, alloc, &mut machine, 0, add(5), Reply::Value(0));
+    let swap = Call::CompareSwap {
+        seg: 0,
+        offset: 0,
+        rank: 1,
+        comparator: 5,
+        new: u64::MAX,
+    };
+    calls(&rt, alloc, &mut machine, 1, swap, Reply::Value(5));
+    answers(
+        &rt,
+        alloc,
+        &machine,
+        &add(1),
+        Ready::Reply(Reply::Value(u64::MAX)),
+    )
 }

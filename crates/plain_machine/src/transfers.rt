@@ -5,10 +5,13 @@ ghost use Rattle.gaspi_model.specs.Transfers.{same_outcome, find_entry, take, pu
 ghost use Rattle.gaspi_model.specs.Step.{Steps};
 ghost use Rattle.plain_machine.specs.Entries.{Finds, lane_phase, queue_phase, posts_phase, queue_failed, posts_failed_at, queue_without, posts_without};
 
-use crate::lanes::{may_put, may_take, place_of};
-use crate::memories::{bytes_of, range_of, segment_at, set_slot, store_bytes};
 use gaspi_model::{Memory, Posts, Queue, StepFault, Why};
-use gaspi_types::{Bytes, Entry, Kind, Limits, NoMemory, Outcome, Phase, QueueId, RankId, Rows};
+use gaspi_types::{
+    Bytes, Entry, Kind, Limits, NoMemory, Outcome, Phase, QueueId, RankId, Rows, range_of,
+};
+use plain_calls::{
+    bytes_of, is_generation, may_put, may_take, place_of, segment_at, set_slot, store_bytes,
+};
 use std::alloc::Global;
 
 /// Where an entry stands: its queue, its lane, its place there and itself.
@@ -193,9 +196,10 @@ pub fn put_outcome(memory: &Memory, kind: &Kind) -> Outcome
     ensures { result ≡ put_outcome memory.now kind.now }
 {
     let (segment, generation) = target_of(kind);
-    match segment_at(memory, u64::from(segment)) {
-        Some(s) if s.generation == generation => Outcome::Applied,
-        Some(_) | None => Outcome::Failed,
+    if is_generation(generation, segment_at(memory, u64::from(segment))) {
+        Outcome::Applied
+    } else {
+        Outcome::Failed
     }
 }
 

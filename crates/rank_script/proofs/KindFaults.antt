@@ -1,8 +1,8 @@
 -- What the kind of a line tells of its faults.
 use Rattle.std.proofs.Common.{◌≡◌, ℕ, suc, ◌≢◌, Bool, true, false, cond, not, ◌&&◌, ◌||◌, ◌==◌, nat_lt, ◌≤◌, List, [], ◌∷◌, length, drop, Option, Some, None, is_none, is_some, refl, sym, ◌∙◌, arith, length-drop}
 use Rattle.std.proofs.lemmas.Bool.Decides.{nat_tests}
-use Rattle.gaspi_texts.specs.CallText.{call_word_of}
-use Rattle.gaspi_texts.specs.declared.call_words.CallWord.{CallWord}
+use Rattle.call_texts.specs.CallText.{call_word_of}
+use Rattle.call_texts.specs.declared.call_words.CallWord.{CallWord}
 use Rattle.rank_script.specs.Lines.{is_bad_line}
 use Rattle.rank_script.specs.WorldText.{Said, first_word, is_again_word, from_call, expected_words, lacks_world, is_unknown, is_misplaced, is_miscounted, fault_in}
 use Rattle.rank_script.specs.Kinds.{IsKind, is_world_kind, is_misplaced_kind, is_miscounted_kind}

@@ -2,9 +2,9 @@
 use Rattle.std.proofs.Common.{◌≡◌, ℕ, zero, suc, ◌-◌, length-append, Bool, true, false, cond, not, ◌&&◌, ◌||◌, List, [], ◌∷◌, ◌++◌, length, map, Option, Some, None, Ok, Err, refl, sym, ap, ◌∙◌, arith, is_none}
 use Rattle.std.specs.Option.{option_map_or}
 use Rattle.std.specs.List.{slice_get}
-use Rattle.gaspi_texts.specs.CallText.{call_word_of, call_of}
+use Rattle.call_texts.specs.CallText.{call_word_of, call_of}
 use Rattle.gaspi_types.specs.World.{World, are_limits, world_of, segment_added, caller_added, Declares}
-use Rattle.gaspi_texts.specs.declared.call_words.CallWord.{CallWord}
+use Rattle.call_texts.specs.declared.call_words.CallWord.{CallWord}
 use Rattle.gaspi_types.specs.declared.shapes.CallerId.{CallerId}
 use Rattle.gaspi_types.specs.declared.shapes.Limits.{Limits}
 use Rattle.gaspi_types.specs.declared.shapes.ShapeFault.{ShapeFault}

@@ -3,8 +3,8 @@ use Rattle.std.proofs.Common.{◌≡◌, ℕ, suc, ◌≢◌, ◌+◌, ◌<◌, 
 use Rattle.std.specs.List.{position, prefix_len, list_all}
 use Rattle.std.proofs.lemmas.Bool.{eqb-true}
 use Rattle.std.proofs.lemmas.Bool.Decides.{nat_tests}
-use Rattle.gaspi_texts.specs.Lines.{fed_lines}
-use Rattle.rank_script.specs.Lines.{begins_line_feed, onto_first_line, lines_of, without_return}
+use Rattle.gaspi_texts.specs.Lines.{onto_first, fed_lines}
+use Rattle.rank_script.specs.Lines.{begins_line_feed, lines_of, without_return}
 
 abbrev is_other : ℕ → Bool
 is_other byte = not (byte == 10)
@@ -23,7 +23,7 @@ and-parts false b h = absurd (let no : ⊥ = cc in no)
 
 -- a byte that ends no line stands at the front of the first line
 onto-first : (byte : ℕ) (bytes : List ℕ) (lines : List (List ℕ)) → (byte == 10) ≡ false → ((byte == 13) && begins_line_feed bytes) ≡ false
-    → lines_of bytes ≡ lines → lines_of (byte ∷ bytes) ≡ onto_first_line byte lines
+    → lines_of bytes ≡ lines → lines_of (byte ∷ bytes) ≡ onto_first byte lines
 onto-first byte bytes lines feed back rest = rw (feed, back, rest) refl
 
 -- a text without a line feed is one line

@@ -1,6 +1,6 @@
 -- A line with words, read.
 use Rattle.std.proofs.Common.{◌≡◌, ℕ, false, ◌==◌, List, length, None, Some, Result, Ok, Err, refl, sym, ◌∙◌}
-use Rattle.gaspi_texts.specs.Words.{words_of}
+use Rattle.call_texts.specs.Words.{words_of}
 use Rattle.rank_script.specs.WorldText.{Said, is_comment, fault_in, fault_of, after_line, said_after}
 use Rattle.rank_script.specs.Readings.{early_fault, ReadsLine, ReadsWords}
 use Rattle.rank_script.specs.declared.scripts.ScriptFault.{ScriptFault}

@@ -1,8 +1,8 @@
 -- The kinds of lines, by the words that say what they are. (own choice)
 use Rattle.std.specs.Prelude.{◌≡◌, ℕ, ◌+◌, Bool, true, false, ◌==◌, ◌||◌, not, List, length, Some, is_some, codes, if◌then◌else◌}
 use Rattle.std.specs.Option.{option_map_or}
-use Rattle.gaspi_texts.specs.CallText.{call_word_of, arguments_of, has_timeout}
-use Rattle.gaspi_texts.specs.declared.call_words.CallWord.{CallWord}
+use Rattle.call_texts.specs.CallText.{call_word_of, arguments_of, has_timeout}
+use Rattle.call_texts.specs.declared.call_words.CallWord.{CallWord}
 use Rattle.rank_script.specs.WorldText.{Said, first_word, is_world_word, is_segment_word, is_rank_word, from_call, asked_words, expected_words, is_call_line, is_unknown}
 use Rattle.rank_script.specs.declared.kinds.LineKind.{LineKind}
 use Rattle.rank_script.specs.declared.kinds.LineKind.TheVariants.{World, Segment, Section, Call, Again}

@@ -2,22 +2,18 @@
 use Rattle.std.specs.Prelude.{ℕ, Bool, false, ◌==◌, ◌&&◌, ◌||◌, not, nat_lt, List, [], ◌∷◌, length, if◌then◌else◌}
 use Rattle.std.specs.List.{list_any}
 use Rattle.gaspi_types.specs.Ranges.{is_between}
+use Rattle.gaspi_texts.specs.Lines.{onto_first}
 
 abbrev pub begins_line_feed : List ℕ → Bool
 begins_line_feed [] = false
 begins_line_feed (byte ∷ bytes) = byte == 10
-
--- a byte at the front of the first line
-abbrev pub onto_first_line : ℕ → List (List ℕ) → List (List ℕ)
-onto_first_line byte [] = (byte ∷ []) ∷ []
-onto_first_line byte (line ∷ lines) = (byte ∷ line) ∷ lines
 
 -- the lines, each ended by a line feed, which the last one may lack; one carriage return before a line feed is dropped
 abbrev pub lines_of : List ℕ → List (List ℕ)
 lines_of [] = []
 lines_of (byte ∷ bytes) =
     if byte == 10 then [] ∷ lines_of bytes
-    else (if (byte == 13) && begins_line_feed bytes then lines_of bytes else onto_first_line byte (lines_of bytes))
+    else (if (byte == 13) && begins_line_feed bytes then lines_of bytes else onto_first byte (lines_of bytes))
 
 -- a byte that a line may hold: a printing one of ASCII, a space or a tab
 abbrev pub is_line_byte : ℕ → Bool

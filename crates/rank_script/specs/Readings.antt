@@ -6,7 +6,7 @@ use Rattle.gaspi_types.specs.declared.shapes.CallerId.{CallerId}
 use Rattle.gaspi_types.specs.declared.shapes.ShapeFault.{ShapeFault}
 use Rattle.gaspi_types.specs.declared.shapes.ShapeFault.TheVariants as shape_faults
 use Rattle.rank_script.specs.WorldText.{Said, lacks_world, is_unknown, is_misplaced, is_miscounted, is_malformed, is_outside, is_repeated, is_crowded, fault_of, after_line, said_after, line_tries, are_tries_within, call_words_of, line_timeout, is_timeout_within, line_expected, script_line}
-use Rattle.gaspi_texts.specs.CallText.{call_of}
+use Rattle.call_texts.specs.CallText.{call_of}
 use Rattle.rank_script.specs.Lines.{is_bad_line}
 use Rattle.rank_script.specs.declared.readings.Reading.{Reading}
 use Rattle.rank_script.specs.declared.scripts.ScriptFault.{ScriptFault}

@@ -1,7 +1,7 @@
 //! The arguments of lines.
 
 ghost use Rattle.std.specs.Prelude.{◌≡◌, ◌<◌, ◌+◌, map, take, length, true, Some, None, if◌then◌else◌, IfOk};
-ghost use Rattle.gaspi_texts.specs.CallText.{arguments_of, has_timeout, call_of};
+ghost use Rattle.call_texts.specs.CallText.{arguments_of, has_timeout, call_of};
 ghost use Rattle.gaspi_types.specs.World.{world_of};
 ghost use Rattle.rank_script.specs.WorldText.{later_words, all_numbers, number_at, limits_of, timeout_of, is_timeout_within, as_timeout, are_tries_within, is_section_line, last_word};
 

@@ -3,7 +3,7 @@
 ghost use Rattle.std.specs.Prelude.{◌≡◌, ◌==◌, ◌≤◌, ◌+◌, length, not, find, IfSome};
 ghost use Rattle.std.specs.List.{slice_split};
 ghost use Rattle.std.specs.Option.{option_map};
-ghost use Rattle.gaspi_texts.specs.Words.{is_blank};
+ghost use Rattle.call_texts.specs.Words.{is_blank};
 ghost use Rattle.rank_script.specs.WorldText.{is_journal_line, journal_place};
 
 use crate::kinds::is_word;

@@ -127,6 +127,34 @@ fn assert_last(
 }
 
 #[test]
+fn calls_of_segments_and_atomics_are_tested(rt: HostRuntime) -> Result<(), Fail> {
+    let alloc = rt.alloc();
+    let rows: [(&[u8], u32); 17] = [
+        (b"alloc 0 16", 0),
+        (b"register 18446744073709551615 0", 0),
+        (b"delete 0 = refused 2", 0),
+        (b"fetch_add 0 8 0 18446744073709551615 = value 0", 0),
+        (b"again 2 compare_swap 0 8 0 1 2", 0),
+        (b"alloc 0 16 test", 5),
+        (b"alloc 0", 5),
+        (b"register 0 0 block", 5),
+        (b"delete 0 1", 5),
+        (b"fetch_add 0 8 0 1 block", 5),
+        (b"compare_swap 0 8 0 1 = value 0", 5),
+        (b"compare_swap 0 8 0 1 2 test", 5),
+        (b"alloc 0 x", 6),
+        (b"register 0 -1", 6),
+        (b"delete 18446744073709551616", 6),
+        (b"fetch_add 0 8 0 0xff", 6),
+        (b"segment_alloc 0 16", 3),
+    ];
+    for (line, number) in rows {
+        assert_last(&rt, alloc, SECTION, line, 3, number)?;
+    }
+    Ok(())
+}
+
+#[test]
 fn again_is_tested(rt: HostRuntime) -> Result<(), Fail> {
     let alloc = rt.alloc();
     let rows: [(&[u8], u32); 18] = [

@@ -7,7 +7,7 @@ use Rattle.call_journal.proofs.reading.read.Goals as goal
 pub returns-in_default-clause-fault : goal.returns-in_default-clause-fault
 returns-in_default-clause-fault c = λ line is.
     let same : 1 ≡ line = cc in
-    subst (λ (n : ℕ). IsFaultyAt c.args.text.now n) same (bad-first c.args.text.now (λ rest. not-begun first_line c.args.text.now rest c.in_default.ensures.cases))
+    subst (λ (n : ℕ). IsFaultyAt c.args.text.now n) same (bad-first c.events_have_no_line_feed.ensures c.args.text.now (λ rest. not-begun first_line c.args.text.now rest c.in_default.ensures.cases))
 
 pub loop-rest-init : goal.loop-rest-init
 loop-rest-init c =
@@ -25,14 +25,14 @@ returns-then-branch-clause-fault c = λ line is.
     let same : length c.loop-rest.journal + 3 ≡ line = ap (λ (n : ℕ). n + 3) (sym c.len-place.ensures) ∙ cc in
     let end : c.first_line.result.0.now ≡ end_line (length c.loop-rest.journal) = c.in_ok-is_end_line.ensures.0 c.if-branch.true ∙ ap end_line c.len-place.ensures in
     subst (λ (n : ℕ). IsFaultyAt c.args.text.now n) same
-    (late-line c.args.text.now c.loop-rest.rest.now c.first_line.result.1.now c.first_line.result.0.now c.loop-rest.journal c.loop-rest.invariant c.first_line.ensures.lines end (is-filled _ (sym c.is_empty-then-branch.ensures ∙ c.if-is_empty.false)))
+    (late-line c.events_have_no_line_feed.ensures c.args.text.now c.loop-rest.rest.now c.first_line.result.1.now c.first_line.result.0.now c.loop-rest.journal c.loop-rest.invariant c.first_line.ensures.lines end (is-filled _ (sym c.is_empty-then-branch.ensures ∙ c.if-is_empty.false)))
 
 pub returns-in_default-2-clause-fault : goal.returns-in_default-2-clause-fault
 returns-in_default-2-clause-fault c = λ line is.
     let same : length c.loop-rest.journal + 2 ≡ line = ap (λ (n : ℕ). n + 2) (sym c.len-place.ensures) ∙ cc in
     let none = rw c.in_default-2.is at c.in_ok-event.ensures in
     subst (λ (n : ℕ). IsFaultyAt c.args.text.now n) same
-    (bad-line c.args.text.now c.loop-rest.rest.now c.first_line.result.1.now c.first_line.result.0.now c.loop-rest.journal c.loop-rest.invariant c.first_line.ensures.lines
+    (bad-line c.events_have_no_line_feed.ensures c.args.text.now c.loop-rest.rest.now c.first_line.result.1.now c.first_line.result.0.now c.loop-rest.journal c.loop-rest.invariant c.first_line.ensures.lines
     (rw (sym c.len-place.ensures) none) (rw (sym c.len-place.ensures) (is-not _ c.if-branch.false c.in_ok-is_end_line.ensures.1)))
 
 pub loop-rest-preserved : goal.loop-rest-preserved
@@ -45,4 +45,4 @@ pub returns-clause-fault : goal.returns-clause-fault
 returns-clause-fault c = λ line is.
     let same : length c.loop-rest.journal + 2 ≡ line = ap (λ (n : ℕ). n + 2) (sym c.len-count.ensures) ∙ cc in
     subst (λ (n : ℕ). IsFaultyAt c.args.text.now n) same
-    (no-end-line c.args.text.now c.loop-rest.rest.now c.loop-rest.journal c.loop-rest.invariant (is-empty _ (sym c.is_empty.ensures ∙ c.loop-rest-test.false)))
+    (no-end-line c.events_have_no_line_feed.ensures c.args.text.now c.loop-rest.rest.now c.loop-rest.journal c.loop-rest.invariant (is-empty _ (sym c.is_empty.ensures ∙ c.loop-rest-test.false)))

@@ -1,5 +1,6 @@
 use Rattle.gaspi_model.proofs.Histories.{only-counted}
 use Rattle.gaspi_model.proofs.PutDone.{put-done}
+use Rattle.gaspi_model.proofs.Written.{store-written, sum-written, swap-written, swap-kept}
 use Rattle.gaspi_model.proofs.laws.changes.Goals as goal
 
 pub returns-clause-put : goal.returns-clause-put
@@ -7,3 +8,15 @@ returns-clause-put c = put-done
 
 pub returns-clause-idle : goal.returns-clause-idle
 returns-clause-idle c = only-counted
+
+pub returns-clause-store : goal.returns-clause-store
+returns-clause-store c = store-written
+
+pub returns-clause-fetch_add : goal.returns-clause-fetch_add
+returns-clause-fetch_add c = sum-written
+
+pub returns-clause-swapped : goal.returns-clause-swapped
+returns-clause-swapped c = swap-written
+
+pub returns-clause-kept : goal.returns-clause-kept
+returns-clause-kept c = swap-kept

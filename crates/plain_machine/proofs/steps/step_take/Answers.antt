@@ -1,5 +1,6 @@
 use Rattle.plain_machine.specs.Machine.{state_of, taken_of}
-use Rattle.plain_machine.proofs.Lifted.{take_steps, take_taken, events_fit, map_kept}
+use Rattle.plain_machine.proofs.Lifted.{take_steps, take_taken, events_fit}
+use Rattle.plain_machine.proofs.Lists.{map_kept}
 use Rattle.plain_machine.proofs.steps.step_take.Goals as goal
 
 pub take-requires : goal.take-requires

@@ -1,6 +1,6 @@
 use Rattle.std.proofs.Common.{◌+◌, ℕ, ap, ◌∙◌}
 use Rattle.std.proofs.lemmas.Result.{IfOk-weaker}
-use Rattle.gaspi_texts.specs.CallText.{call_of, arguments_of}
+use Rattle.call_texts.specs.CallText.{call_of, arguments_of}
 use Rattle.rank_script.proofs.SomeWords.{call_words-taken}
 use Rattle.rank_script.proofs.arguments.read_call.Goals as goal
 

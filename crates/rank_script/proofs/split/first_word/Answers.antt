@@ -1,7 +1,7 @@
 use Rattle.std.proofs.Common.{◌==◌, length, not, rules, tests}
 use Rattle.std.proofs.lemmas.Iterator.Search.{find_from_yields_List}
 use Rattle.std.proofs.lemmas.Iterator.Splits.{YieldsList-from_slice_split}
-use Rattle.gaspi_texts.specs.Words.{is_blank}
+use Rattle.call_texts.specs.Words.{is_blank}
 use Rattle.rank_script.proofs.split.first_word.Goals as goal
 
 pub returns : goal.returns

@@ -1,6 +1,6 @@
 use Rattle.std.proofs.Common.{◌≡◌, ◌==◌, false, length, map, List, ℕ, refl, sym, ◌∙◌}
 use Rattle.std.proofs.lemmas.List.{length-map}
-use Rattle.gaspi_texts.specs.Words.{words_of}
+use Rattle.call_texts.specs.Words.{words_of}
 use Rattle.rank_script.specs.WorldText.{is_comment}
 use Rattle.rank_script.specs.Readings.{said_of}
 use Rattle.rank_script.proofs.KindFaults.{kind-placed}

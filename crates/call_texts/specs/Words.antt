@@ -1,0 +1,26 @@
+-- The words of a text.
+use Rattle.std.specs.Prelude.{◌≡◌, ◌<◌, false, ℕ, Bool, List, ◌||◌, ◌==◌, length, filter, not}
+use Rattle.std.specs.Char.{is_ascii_digit, is_ascii_lowercase}
+use Rattle.std.specs.List.{slice_split, All, AllPass}
+
+-- own choice: words stand apart by spaces and tabs
+abbrev pub is_blank : ℕ → Bool
+is_blank byte = (byte == 32) || (byte == 9)
+
+-- the longest runs of bytes that are no blanks, in their order: what stands between one blank and the next, where
+-- anything stands there
+unfoldable pub words_of : List ℕ → List (List ℕ)
+words_of text = filter (λ word. not (length word == 0)) (slice_split is_blank text)
+
+-- what can stand as a word
+pub record IsWord (word : List ℕ) : Type 0 where
+  pub filled : 0 < length word
+  pub blankless : All (λ byte. is_blank byte ≡ false) word
+
+-- own choice: the bytes of which numbers, bytes in hex and calls are written, a digit, a lower-case letter, `_` or `-`
+unfoldable pub is_plain : ℕ → Bool
+is_plain byte = is_ascii_digit byte || is_ascii_lowercase byte || (byte == 95) || (byte == 45)
+
+pub record IsPlainWord (word : List ℕ) : Type 0 where
+  pub filled : 0 < length word
+  pub plain : AllPass is_plain word

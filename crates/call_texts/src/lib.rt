@@ -1,0 +1,26 @@
+//! The words of texts and the texts of calls, both ways.
+#![tactic(auto)]
+
+mod blanks;
+mod call_reading;
+mod call_words;
+mod call_writing;
+mod hexes;
+mod numbers;
+mod text_laws;
+mod words_written;
+
+pub use blanks::words;
+pub use call_reading::{read_call, read_call_words, read_recorded_call};
+pub use call_words::CallWord;
+pub use call_writing::write_call;
+pub use hexes::{read_bytes, write_bytes};
+pub use numbers::{read_number, read_value, write_number};
+pub use text_laws::{
+    bytes_read_back, calls_read_back, numbers_read_back, read_words_are_in_range, words_read_back,
+    written_words_are_plain,
+};
+pub use words_written::{append_bytes, append_line, append_numbers, append_word};
+
+#[cfg(test)]
+mod tests;

@@ -1,0 +1,49 @@
+//! Laws of the texts. Each is a function without a body: what it ensures is the law.
+
+ghost use Rattle.std.specs.Prelude.{◌≡◌, ◌^◌, ◌<◌, ℕ, List, Some, true};
+ghost use Rattle.std.specs.Fmt.{decimal};
+ghost use Rattle.std.specs.List.{AllByRecursion, join_with_byte};
+ghost use Rattle.hex.specs.Hex.{IsBytes};
+ghost use Rattle.call_texts.specs.CallText.{recorded_call_of, call_of_text, words_of_call, call_text, IsWritable};
+ghost use Rattle.gaspi_types.specs.declared.calls.Call.{Call};
+ghost use Rattle.call_texts.specs.Hex.{bytes_of, hex_text};
+ghost use Rattle.call_texts.specs.Numbers.{is_numeral, number_of, value_of};
+ghost use Rattle.call_texts.specs.Words.{words_of, IsWord, IsPlainWord};
+
+/// A text has the words that it was put together from.
+pub fn words_read_back()
+    ensures { (words : List (List ℕ)) → AllByRecursion IsWord words → words_of (join_with_byte 32 words) ≡ words }
+{}
+
+/// A number in decimal reads back as that number.
+pub fn numbers_read_back()
+    ensures number { (n : ℕ) → n < 2 ^ 64 → number_of (decimal n) ≡ Some n }
+    ensures value { (n : ℕ) → n < 2 ^ 32 → value_of (decimal n) ≡ Some n }
+{}
+
+/// Bytes in hex read back as those bytes.
+pub fn bytes_read_back()
+    ensures { (bytes : List ℕ) → IsBytes bytes → bytes_of (hex_text bytes) ≡ Some bytes }
+{}
+
+/// A call in the one form that is written reads back as that call, and so do its words.
+pub fn calls_read_back()
+    ensures text { (call : Call) → IsWritable call → call_of_text (call_text call) ≡ Some call }
+    ensures words { (call : Call) → IsWritable call → recorded_call_of (words_of_call call) ≡ Some call }
+{}
+
+/// What words spell is in the range of its type.
+pub fn read_words_are_in_range()
+    ensures number { (word : List ℕ) (n : ℕ) → number_of word ≡ Some n → n < 2 ^ 64 }
+    ensures value { (word : List ℕ) (n : ℕ) → value_of word ≡ Some n → n < 2 ^ 32 }
+    ensures bytes { (word bytes : List ℕ) → bytes_of word ≡ Some bytes → IsBytes bytes }
+    ensures call { (words : List (List ℕ)) (call : Call) → recorded_call_of words ≡ Some call → IsWritable call }
+{}
+
+/// What is written are plain words: a number is of digits, and bytes and calls are of digits, lower-case letters, `_`
+/// and `-`.
+pub fn written_words_are_plain()
+    ensures number { (n : ℕ) → n < 2 ^ 64 → is_numeral (decimal n) ≡ true }
+    ensures bytes { (bytes : List ℕ) → IsBytes bytes → IsPlainWord (hex_text bytes) }
+    ensures call { (call : Call) → IsWritable call → AllByRecursion IsPlainWord (words_of_call call) }
+{}

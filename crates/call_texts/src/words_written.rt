@@ -1,0 +1,50 @@
+//! Words added to a text, each behind one space.
+
+ghost use Rattle.std.specs.Prelude.{◌≡◌, ◌++◌, ◌∷◌, map, take, length, OnOk, OnErr};
+ghost use Rattle.std.specs.Fmt.{decimal};
+ghost use Rattle.std.specs.List.{join_with_byte};
+ghost use Rattle.call_texts.specs.Hex.{hex_text};
+ghost use Rattle.call_texts.specs.Written.{spaced_numbers};
+
+use crate::hexes::write_bytes;
+use crate::numbers::write_number;
+use gaspi_types::{Bytes, NoMemory};
+
+/// Adds a word behind a space. Without memory the text keeps its front.
+pub fn append_word(text: &mut Bytes, word: &[u8]) -> Result<(), NoMemory>
+    ensures ok { OnOk result (text.new ≡ text.old ++ 32 ∷ word.now) }
+    ensures err { OnErr result (take (length text.old) text.new ≡ text.old) }
+{
+    text.push(b' ')?;
+    text.append(word)
+}
+
+/// Adds numbers in decimal, each behind a space. Without memory the text keeps its front.
+pub fn append_numbers(text: &mut Bytes, numbers: &[u64]) -> Result<(), NoMemory>
+    ensures ok { OnOk result (text.new ≡ text.old ++ spaced_numbers numbers.now) }
+    ensures err { OnErr result (take (length text.old) text.new ≡ text.old) }
+{
+    for number in numbers {
+        text.push(b' ')?;
+        write_number(text, *number)?;
+    }
+    Ok(())
+}
+
+/// Adds bytes in hex behind a space. Without memory the text keeps its front.
+pub fn append_bytes(text: &mut Bytes, bytes: &[u8]) -> Result<(), NoMemory>
+    ensures ok { OnOk result (text.new ≡ text.old ++ 32 ∷ hex_text bytes.now) }
+    ensures err { OnErr result (take (length text.old) text.new ≡ text.old) }
+{
+    text.push(b' ')?;
+    write_bytes(text, bytes)
+}
+
+/// Adds a first word, without a space, and numbers in decimal. Without memory the text keeps its front.
+pub fn append_line(text: &mut Bytes, word: &[u8], numbers: &[u64]) -> Result<(), NoMemory>
+    ensures ok { OnOk result (text.new ≡ text.old ++ join_with_byte 32 (word.now ∷ map decimal numbers.now)) }
+    ensures err { OnErr result (take (length text.old) text.new ≡ text.old) }
+{
+    text.append(word)?;
+    append_numbers(text, numbers)
+}

@@ -1,0 +1,212 @@
+-- What a store and an atomic change.
+use Rattle.std.proofs.Common.{◌≡◌, ◌≢◌, ℕ, ◌+◌, ◌%◌, ◌^◌, ◌<◌, ◌≤◌, Bool, true, false, ◌==◌, nat_lt, List, length, Option, None, Some, Ok, refl, sym, ap, ◌∙◌, subst, arith, if◌then◌else◌}
+use Rattle.std.specs.List.{slice_get, slice_set}
+use Rattle.std.specs.Option.{option_map}
+use Rattle.std.proofs.lemmas.Bool.{leb-true, ltb-true, eq-eqb, eqb-true}
+use Rattle.byteorder.specs.Endian.{little_bytes}
+use Rattle.byteorder.specs.Numbers.{length-bytes_low_first}
+use Rattle.gaspi_types.specs.Checks.{check}
+use Rattle.gaspi_types.specs.SegmentBytes.{is_transfer_size, is_within, with_range}
+use Rattle.gaspi_types.specs.SegmentTables.{extent_in, known_extent, own_range_checks}
+use Rattle.gaspi_types.specs.SegmentWords.{word_checks, word_at, with_swap}
+use Rattle.gaspi_types.specs.declared.entries.Extent.{Extent}
+use Rattle.gaspi_types.specs.declared.shapes.Limits.{Limits}
+use Rattle.gaspi_types.specs.declared.shapes.CallerId.{CallerId}
+use Rattle.gaspi_types.specs.declared.calls.Call.{Call}
+use Rattle.gaspi_types.specs.declared.calls.Call.TheVariants.{Store, FetchAdd, CompareSwap}
+use Rattle.gaspi_types.specs.declared.replies.Reply.{Reply}
+use Rattle.gaspi_types.specs.declared.replies.Reply.TheVariants as replies
+use Rattle.gaspi_types.specs.declared.events.Event.TheVariants.{Called}
+use Rattle.gaspi_model.specs.State.{segment_at}
+use Rattle.gaspi_model.specs.Calls.{is_generation, bytes_of, bytes_in, with_bytes, counted, told, memory_rank, store_finds, word_finds}
+use Rattle.gaspi_model.specs.Step.{step}
+use Rattle.gaspi_model.specs.Coherence.{extent_of, tables_of}
+use Rattle.gaspi_model.specs.Sound.{IsSound}
+use Rattle.gaspi_model.specs.Changes.{IsOnlyCounted, IsStored, IsWritten}
+use Rattle.gaspi_model.specs.declared.states.Posts.{Posts}
+use Rattle.gaspi_model.specs.declared.states.Segment.{Segment}
+use Rattle.gaspi_model.specs.declared.states.Memory.{Memory}
+use Rattle.gaspi_model.specs.declared.states.State.{State}
+use Rattle.gaspi_model.proofs.Chains.{bind_then, check_then, found_then, same_Ok}
+use Rattle.gaspi_model.proofs.Same.{same_reply-same}
+use Rattle.gaspi_model.proofs.Made.{IsCalledStep, step-called}
+use Rattle.gaspi_model.proofs.Tables.{past-none, joined}
+use Rattle.gaspi_model.proofs.Successors.{extent-at}
+use Rattle.gaspi_model.proofs.FittingEntries.{known-cases, segment-behind, extent-there}
+use Rattle.gaspi_model.proofs.CoherentSteps.{mine-there}
+use Rattle.gaspi_model.proofs.CallQueues.{found-reply}
+use Rattle.gaspi_model.proofs.Histories.{set-there}
+use Rattle.gaspi_model.proofs.PutDone.{stored, there-in-generation, changed-there, changed-elsewhere}
+
+-- a call that replaces a range of a segment's bytes
+written : (s t : State) (c : CallerId) (call : Call) (reply : Reply) (rank seg offset : ℕ) (new : List ℕ) (posts : Posts) (memory memory' : Memory) (old : Segment)
+    → IsCalledStep s t c call reply posts memory (record { posts = counted posts; memory = memory' }) → memory_rank s.limits c.rank call ≡ rank → ((all : List Posts) → told c.rank posts call reply all ≡ all)
+    → memory' ≡ with_bytes memory seg (with_range (bytes_of memory seg) offset new) → segment_at memory seg ≡ Some old → offset + length new ≤ length old.bytes → IsWritten s t c.rank rank seg offset new
+written s t c call reply rank seg offset new posts memory memory' old m worked same leaves there within =
+    let change = λ (x : Segment). record x { bytes = with_range (bytes_of memory seg) offset new } in
+    let bytes : bytes_of memory seg ≡ old.bytes = ap bytes_in there in
+    record {
+      posts = posts;
+      posts_there = m.posts_there;
+      posts_after = ap (λ (x : State). x.posts) m.leaves ∙ same (slice_set s.posts c.rank (counted posts));
+      old = memory;
+      new = memory';
+      old_there = ap (slice_get s.memories) (sym worked) ∙ m.memory_there;
+      memories_after = ap (λ (x : State). x.memories) m.leaves ∙ ap (λ (k : ℕ). slice_set s.memories k memory') worked;
+      old_segment = old;
+      new_segment = change old;
+      old_segment_there = there;
+      new_segment_there = ap (λ (x : Memory). segment_at x seg) leaves ∙ changed-there memory seg old change there;
+      segments = λ k apart. ap (λ (x : Memory). segment_at x k) leaves ∙ changed-elsewhere memory seg (option_map change (segment_at memory seg)) k apart;
+      generation = refl;
+      slots = refl;
+      stored = subst (λ (b : List ℕ). IsStored old.bytes (with_range b offset new) new offset) (sym bytes) (stored old.bytes new offset within);
+      limits = ap (λ (x : State). x.limits) m.leaves;
+    }
+
+passed : {E : Type 0} (b : Bool) (e : E) (y : Unit {0}) → check b e ≡ Ok y → b ≡ true
+passed true e y h = refl
+passed false e y h = absurd (let no : ⊥ = cc in no)
+
+-- a store that is done lies within a segment of its caller
+record IsOwnRange (own : List (Option Extent)) (seg offset size : ℕ) : Type 0 where
+  mine : Extent
+  there : extent_in own seg ≡ Some mine
+  within : is_within offset size mine.size ≡ true
+
+store-found : (posts : Posts) (seg offset : ℕ) (bytes : List ℕ) (reply : Reply) → store_finds posts seg offset bytes ≡ Ok (Some reply) → IsOwnRange posts.own seg offset (length bytes)
+store-found posts seg offset bytes reply h =
+    bind_then (own_range_checks posts.own seg offset (length bytes)) _ (Some reply) h (λ fits hc h1.
+    found_then (extent_in posts.own seg) _ _ fits hc (λ mine hm h2.
+    check_then (is_transfer_size (length bytes)) _ _ fits h2 (λ sized h3.
+    record { mine = mine; there = hm; within = passed (is_within offset (length bytes) mine.size) _ fits h3 })))
+
+pub store-written : (s t : State) (c : CallerId) (seg offset : ℕ) (bytes : List ℕ) → IsSound s → step s (Called c (Store seg offset bytes) replies.Done) ≡ Ok t → IsWritten s t c.rank c.rank seg offset bytes
+store-written s t c seg offset bytes sound h =
+    let call = Store seg offset bytes in
+    let made = step-called s t c call replies.Done h in
+    let m = made.3 in
+    let posts = made.0 in
+    let memory = made.1 in
+    let finds = found-reply s.limits c.rank posts memory c.thread call replies.Done (same_reply-same _ _ m.is.answered) refl in
+    let found = store-found posts seg offset bytes replies.Done finds in
+    let agrees = sound.coherent.own c.rank posts memory m.posts_there m.memory_there in
+    let behind = segment-behind memory seg found.mine (subst (λ (own : List (Option Extent)). extent_in own seg ≡ Some found.mine) agrees found.there) in
+    let size : found.mine.size ≡ length behind.0.bytes = ap (λ (x : Extent). x.size) (sym behind.2) in
+    let less = leb-true (offset + length bytes) found.mine.size found.within in
+    written s t c call replies.Done c.rank seg offset bytes posts memory (with_bytes memory seg (with_range (bytes_of memory seg) offset bytes)) behind.0
+    (rw (← m.is.leaves) m) refl (λ all. refl) refl behind.1 (omega arith)
+
+-- an atomic that is done
+record IsWordFound (limits : Limits) (me : ℕ) (posts : Posts) (memory : Memory) (seg offset rank old : ℕ) : Type 0 where
+  ranked : nat_lt rank limits.ranks ≡ true
+  theirs : Extent
+  known : known_extent me posts.own posts.known rank seg ≡ Some theirs
+  there : is_generation theirs.generation (segment_at memory seg) ≡ true
+  within : is_within offset 8 theirs.size ≡ true
+  value : word_at (bytes_of memory seg) offset ≡ old
+
+word-found : (limits : Limits) (me : ℕ) (posts : Posts) (memory : Memory) (seg offset rank old : ℕ) → word_finds limits me posts memory seg offset rank ≡ Ok (Some (replies.Value old))
+    → IsWordFound limits me posts memory seg offset rank old
+word-found limits me posts memory seg offset rank old h =
+    check_then (nat_lt rank limits.ranks) _ _ (Some (replies.Value old)) h (λ ranked h1.
+    found_then (known_extent me posts.own posts.known rank seg) _ _ (Some (replies.Value old)) h1 (λ theirs known h2.
+    check_then (is_generation theirs.generation (segment_at memory seg)) _ _ (Some (replies.Value old)) h2 (λ there h3.
+    bind_then (word_checks theirs.size offset) _ (Some (replies.Value old)) h3 (λ fits hc h4.
+    check_then (is_within offset 8 theirs.size) _ _ fits hc (λ within h5.
+    record { ranked = ranked; theirs = theirs; known = known; there = there; within = within; value = same-value (word_at (bytes_of memory seg) offset) (same_Ok _ _ h4) })))))
+  where
+    same-value : (n : ℕ) → ◌≡◌ {A = Option Reply} (Some (replies.Value n)) (Some (replies.Value old)) → n ≡ old
+    same-value n h = cc
+
+-- the memory that it works on is that of the rank that it names
+worked-there : (limits : Limits) (rank me : ℕ) → nat_lt rank limits.ranks ≡ true → (if nat_lt rank limits.ranks then rank else me) ≡ rank
+worked-there limits rank me less = rw less refl
+
+-- the size with which the caller knows the segment is its own
+word-size : (s : State) (me : ℕ) (posts : Posts) (memory : Memory) (seg rank : ℕ) (theirs : Extent) (old : Segment) → IsSound s → slice_get s.posts me ≡ Some posts → slice_get s.memories rank ≡ Some memory
+    → rank < s.limits.ranks → known_extent me posts.own posts.known rank seg ≡ Some theirs → segment_at memory seg ≡ Some old → old.generation ≡ theirs.generation → length old.bytes ≡ theirs.size
+word-size s me posts memory seg rank theirs old sound hp hm within known there generation =
+    known-cases me posts.own posts.known rank seg theirs known
+    (λ same at.
+    let agrees = sound.coherent.own me posts memory hp (subst (λ (k : ℕ). slice_get s.memories k ≡ Some memory) same hm) in
+    let here : extent_in posts.own seg ≡ Some (extent_of old) = rw agrees (extent-there memory seg old (extent-at posts.own seg theirs at).0 there) in
+    let some : ◌≡◌ {A = Option Extent} (Some (extent_of old)) (Some theirs) = sym here ∙ at in
+    ap (λ (x : Extent). x.size) (let is : extent_of old ≡ theirs = cc in is))
+    (λ table at is. others table at is (slice_get s.posts rank) refl)
+  where
+    others : (table : List (Option Extent)) → slice_get posts.known rank ≡ Some table → extent_in table seg ≡ Some theirs → (o : Option Posts) → slice_get s.posts rank ≡ o → length old.bytes ≡ theirs.size
+    others table at is None hq = absurd (past-none s.posts rank (let ranks = sound.ranks in omega arith) hq)
+    others table at is (Some q) hq =
+        let agrees = sound.coherent.own rank q memory hq hm in
+        let here : extent_in q.own seg ≡ Some (extent_of old) = rw agrees (extent-there memory seg old (extent-at table seg theirs is).0 there) in
+        (sound.coherent.known me posts hp rank table (tables_of q) at (mine-there s.posts rank q hq) seg theirs is).1 (extent_of old) here generation
+
+-- an atomic that replaces its word
+word-written : (s t : State) (c : CallerId) (call : Call) (seg offset rank old new : ℕ) (posts : Posts) (memory memory' : Memory) → IsSound s
+    → IsCalledStep s t c call (replies.Value old) posts memory (record { posts = counted posts; memory = memory' }) → memory_rank s.limits c.rank call ≡ (if nat_lt rank s.limits.ranks then rank else c.rank)
+    → ((all : List Posts) → told c.rank posts call (replies.Value old) all ≡ all) → IsWordFound s.limits c.rank posts memory seg offset rank old
+    → memory' ≡ with_bytes memory seg (with_range (bytes_of memory seg) offset (little_bytes 8 new)) → IsWritten s t c.rank rank seg offset (little_bytes 8 new)
+word-written s t c call seg offset rank old new posts memory memory' sound m works same found leaves =
+    let worked = works ∙ worked-there s.limits rank c.rank found.ranked in
+    let less = ltb-true rank s.limits.ranks found.ranked in
+    let there = there-in-generation memory seg found.theirs.generation found.there in
+    let memory_there = ap (slice_get s.memories) (sym worked) ∙ m.memory_there in
+    let size = word-size s c.rank posts memory seg rank found.theirs there.0 sound m.posts_there memory_there less found.known there.1 there.2 in
+    let within = leb-true (offset + 8) found.theirs.size found.within in
+    let eight = length-bytes_low_first 0 8 new in
+    written s t c call (replies.Value old) rank seg offset (little_bytes 8 new) posts memory memory' there.0 m worked same leaves there.1 (omega arith)
+
+pub sum-written : (s t : State) (c : CallerId) (seg offset rank value old : ℕ) → IsSound s → step s (Called c (FetchAdd seg offset rank value) (replies.Value old)) ≡ Ok t
+    → IsWritten s t c.rank rank seg offset (little_bytes 8 ((old + value) % 2 ^ 64))
+sum-written s t c seg offset rank value old sound h =
+    let call = FetchAdd seg offset rank value in
+    let made = step-called s t c call (replies.Value old) h in
+    let m = made.3 in
+    let posts = made.0 in
+    let memory = made.1 in
+    let found = word-found s.limits c.rank posts memory seg offset rank old (found-reply s.limits c.rank posts memory c.thread call (replies.Value old) (same_reply-same _ _ m.is.answered) refl) in
+    let sum = λ (n : ℕ). with_bytes memory seg (with_range (bytes_of memory seg) offset (little_bytes 8 ((n + value) % 2 ^ 64))) in
+    word-written s t c call seg offset rank old ((old + value) % 2 ^ 64) posts memory (sum (word_at (bytes_of memory seg) offset)) sound (rw (← m.is.leaves) m) refl (λ all. refl) found (ap sum found.value)
+
+pub swap-written : (s t : State) (c : CallerId) (seg offset rank comparator new : ℕ) → IsSound s → step s (Called c (CompareSwap seg offset rank comparator new) (replies.Value comparator)) ≡ Ok t
+    → IsWritten s t c.rank rank seg offset (little_bytes 8 new)
+swap-written s t c seg offset rank comparator new sound h =
+    let call = CompareSwap seg offset rank comparator new in
+    let made = step-called s t c call (replies.Value comparator) h in
+    let m = made.3 in
+    let posts = made.0 in
+    let memory = made.1 in
+    let found = word-found s.limits c.rank posts memory seg offset rank comparator (found-reply s.limits c.rank posts memory c.thread call (replies.Value comparator) (same_reply-same _ _ m.is.answered) refl) in
+    let stands = eq-eqb (word_at (bytes_of memory seg) offset) comparator found.value in
+    word-written s t c call seg offset rank comparator new posts memory (with_bytes memory seg (with_swap (bytes_of memory seg) offset comparator new)) sound (rw (← m.is.leaves) m) refl (λ all. refl) found (rw stands refl)
+
+pub swap-kept : (s t : State) (c : CallerId) (seg offset rank comparator new old : ℕ) → old ≢ comparator → step s (Called c (CompareSwap seg offset rank comparator new) (replies.Value old)) ≡ Ok t → IsOnlyCounted s t c.rank
+swap-kept s t c seg offset rank comparator new old apart h =
+    let call = CompareSwap seg offset rank comparator new in
+    let made = step-called s t c call (replies.Value old) h in
+    let m = made.3 in
+    let posts = made.0 in
+    let memory = made.1 in
+    let found = word-found s.limits c.rank posts memory seg offset rank old (found-reply s.limits c.rank posts memory c.thread call (replies.Value old) (same_reply-same _ _ m.is.answered) refl) in
+    let there = there-in-generation memory seg found.theirs.generation found.there in
+    let kept : made.2.memory ≡ memory = rw m.is.leaves (rw (differs (word_at (bytes_of memory seg) offset) found.value) (same-memory memory there.0 there.1)) in
+    let after : made.2.posts ≡ counted posts = rw m.is.leaves refl in
+    record {
+      posts = posts;
+      there = m.posts_there;
+      after = m.leaves ∙ rw (after, kept, set-there s.memories (memory_rank s.limits c.rank call) memory m.memory_there) refl;
+    }
+  where
+    differs : (n : ℕ) → n ≡ old → (n == comparator) ≡ false
+    differs n is = go (n == comparator) refl
+      where
+        go : (b : Bool) → (n == comparator) ≡ b → (n == comparator) ≡ false
+        go true same = absurd (apart (sym is ∙ eqb-true n comparator same))
+        go false same = same
+
+    same-memory : (memory : Memory) (x : Segment) → segment_at memory seg ≡ Some x → with_bytes memory seg (bytes_of memory seg) ≡ memory
+    same-memory memory x there =
+        let set = set-there memory.segments seg (Some x) (joined memory.segments seg x there) in
+        let item : option_map (λ (y : Segment). record y { bytes = bytes_of memory seg }) (segment_at memory seg) ≡ Some x = rw there refl in
+        ap (λ (segments : List (Option Segment)). (let m : Memory = record { segments = segments } in m)) (ap (λ (o : Option Segment). slice_set memory.segments seg o) item ∙ set)

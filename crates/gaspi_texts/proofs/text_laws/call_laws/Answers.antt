@@ -1,0 +1,18 @@
+use Rattle.gaspi_texts.proofs.text_laws.call_laws.Goals as goal
+
+pub returns : goal.returns
+returns c =
+    record {
+      words = c.words_read_back.ensures;
+      number = c.numbers_read_back.ensures.number;
+      value = c.numbers_read_back.ensures.value;
+      bytes = c.bytes_read_back.ensures;
+      call = c.calls_read_back.ensures.words;
+      number_range = c.read_words_are_in_range.ensures.number;
+      value_range = c.read_words_are_in_range.ensures.value;
+      bytes_range = c.read_words_are_in_range.ensures.bytes;
+      call_range = c.read_words_are_in_range.ensures.call;
+      number_plain = c.written_words_are_plain.ensures.number;
+      bytes_plain = c.written_words_are_plain.ensures.bytes;
+      call_plain = c.written_words_are_plain.ensures.call;
+    }

@@ -1,5 +1,0 @@
-use Rattle.gaspi_texts.proofs.WordTexts.{words_of-join}
-use Rattle.gaspi_texts.proofs.text_laws.words_read_back.Goals as goal
-
-pub returns : goal.returns
-returns c = words_of-join

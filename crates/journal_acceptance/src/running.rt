@@ -1,0 +1,141 @@
+//! Runs of the command, compared with what they must give. A table of many cases is one text, since a proof goes over
+//! each row of a list, and over a text at once.
+
+ghost use Rattle.gaspi_run.specs.Command.{HasLimit};
+
+use command_line::Command;
+use gaspi_io::{SureSink, SureSource};
+use gaspi_run::run_command;
+use gaspi_types::{Bytes, NoMemory};
+use std::alloc::Global;
+use std::process::Abort;
+use std::string::String;
+
+/// A run whose transcripts are written, with the seed and the limit that words without options have.
+pub const BRIEF: Command = Command::Step {
+    seed: 0,
+    limit: 1_000_000,
+    brief: true,
+};
+
+/// The same run, of which the journal is written.
+pub const JOURNAL: Command = Command::Step {
+    seed: 0,
+    limit: 1_000_000,
+    brief: false,
+};
+
+/// More bytes than any text that a test expects.
+const ROOM: usize = 4096;
+
+/// The status of a command over a text, how many events its journal has, and what it writes.
+pub fn ran(alloc: Global, asked: Command, text: Bytes) -> Result<(u8, usize, Bytes), NoMemory>
+    requires { HasLimit asked }
+{
+    let mut source = SureSource::new(text);
+    let mut sink = SureSink::with_room(alloc, ROOM)?;
+    let answer = run_command(alloc, asked, &mut source, &mut sink);
+    Ok((answer.status, answer.journal.len(), sink.into_bytes()))
+}
+
+/// Runs a command over a text, and asserts its status, and all that it writes. No run here is short of memory.
+pub fn runs_to<R: Abort>(
+    rt: &R,
+    alloc: Global,
+    asked: Command,
+    text: &str,
+    status: u8,
+    output: &str,
+) -> Result<(), NoMemory>
+    requires { HasLimit asked }
+{
+    let (found, _events, written) = ran(alloc, asked, Bytes::copied_from(alloc, text.as_bytes())?)?;
+    assert_eq!(rt; found, status, "{text}");
+    assert_eq!(rt; written.as_slice(), output.as_bytes(), "{text}");
+    Ok(())
+}
+
+/// Asserts what is said of a world with a journal of so many events.
+fn is_judged<R: Abort>(
+    rt: &R,
+    alloc: Global,
+    world: &str,
+    events: &str,
+    count: usize,
+    verdict: &str,
+) -> Result<(), NoMemory> {
+    let text = format!(in alloc; "{world}journal 1\n{events}end {count}\n")?;
+    let output = format!(in alloc; "{verdict}\n")?;
+    let status = if verdict.starts_with("legal") { 0 } else { 4 };
+    runs_to(
+        rt,
+        alloc,
+        Command::Check,
+        text.as_str(),
+        status,
+        output.as_str(),
+    )
+}
+
+/// Judges the journals of a table over one world. A journal is a block of lines, and an empty line parts two blocks. A
+/// line is an event; its place is how many events stand before it. The line `not EVENT: WHY` is no part of the journal:
+/// the events before it, and then this one, are `illegal` at its place, and WHY is the cause. The whole is `legal`. A
+/// line that begins with `#` is a comment.
+pub fn journals_are_judged<R: Abort>(
+    rt: &R,
+    alloc: Global,
+    world: &str,
+    table: &str,
+) -> Result<(), NoMemory> {
+    for block in table.split("\n\n") {
+        let mut events = String::new(alloc);
+        let mut place = 0_usize;
+        for line in block.lines() {
+            let next = place.saturating_add(1);
+            if line.starts_with('#') {
+                continue;
+            }
+            if let Some(tried) = line.strip_prefix("not ") {
+                let (event, why) = tried.rsplit_once(": ").expect(rt, "an event and a cause");
+                let text = format!(in alloc; "{events}{place} {event}\n")?;
+                let verdict = format!(in alloc; "illegal {place} {why}")?;
+                is_judged(rt, alloc, world, text.as_str(), next, verdict.as_str())?;
+            } else {
+                events = format!(in alloc; "{events}{place} {line}\n")?;
+                place = next;
+            }
+        }
+        let verdict = format!(in alloc; "legal {place}")?;
+        is_judged(rt, alloc, world, events.as_str(), place, verdict.as_str())?;
+    }
+    Ok(())
+}
+
+/// Runs the calls of a table. A block is the script of a world's one caller, which is 0.0, and begins in line `first`.
+/// Each of its lines is a call, ` -> ` and the reply that it has. The caller ends. A line that begins with `#` is a
+/// comment, and has no line in the script.
+pub fn calls_are_told<R: Abort>(
+    rt: &R,
+    alloc: Global,
+    world: &str,
+    first: usize,
+    table: &str,
+) -> Result<(), NoMemory> {
+    for block in table.split("\n\n") {
+        let mut script = String::new(alloc);
+        let mut told = String::new(alloc);
+        let mut number = first;
+        for line in block.lines() {
+            if !line.starts_with('#') {
+                let (call, reply) = line.split_once(" -> ").expect(rt, "a call and its reply");
+                script = format!(in alloc; "{script}{call}\n")?;
+                told = format!(in alloc; "{told}0.0 {number} {reply}\n")?;
+                number = number.saturating_add(1);
+            }
+        }
+        told = format!(in alloc; "{told}0.0 ended\n")?;
+        let text = format!(in alloc; "{world}{script}")?;
+        runs_to(rt, alloc, BRIEF, text.as_str(), 0, told.as_str())?;
+    }
+    Ok(())
+}

@@ -1,0 +1,33 @@
+-- A write and the notification behind it ask for the entries of both.
+use Rattle.std.proofs.Common.{◌≡◌, ℕ, Bool, true, false, not, ◌==◌, nat_lt, List, [], ◌∷◌, ◌++◌, Option, None, Some, Ok, refl}
+use Rattle.gaspi_types.specs.Checks.{◌>>=◌, check}
+use Rattle.gaspi_types.specs.Posts.{write_kinds, notify_kinds, write_notify_kinds}
+use Rattle.gaspi_types.specs.SegmentTables.{extent_in, known_extent}
+use Rattle.gaspi_types.specs.SegmentBytes.{is_transfer_size, is_within}
+use Rattle.gaspi_types.specs.declared.entries.Extent.{Extent}
+use Rattle.gaspi_types.specs.declared.entries.Kind.{Kind}
+use Rattle.gaspi_types.specs.declared.replies.Refusal.{Refusal}
+
+pub both_kinds : (notes me : ℕ) (own : List (Option Extent)) (known : List (List (Option Extent))) (seg offset rank rseg roffset size note value : ℕ)
+    → write_notify_kinds notes me own known seg offset rank rseg roffset size note value
+    ≡ (write_kinds me own known seg offset rank rseg roffset size >>= (λ write. notify_kinds notes me own known rseg rank note value >>= (λ notify. Ok (write ++ notify))))
+both_kinds notes me own known seg offset rank rseg roffset size note value = by_extents (extent_in own seg) (known_extent me own known rank rseg) refl refl
+  where
+    checks : (sized from to noted valued : Bool) (e1 e2 e3 e4 e5 : Refusal) (write notify : Kind)
+        → (check sized e1 >>= (λ u. check from e2 >>= (λ u. check to e3 >>= (λ u. check noted e4 >>= (λ u. check valued e5 >>= (λ u. Ok (write ∷ notify ∷ [])))))))
+        ≡ ((check sized e1 >>= (λ u. check from e2 >>= (λ u. check to e3 >>= (λ u. Ok (write ∷ [])))))
+        >>= (λ write. (check noted e4 >>= (λ u. check valued e5 >>= (λ u. Ok (notify ∷ [])))) >>= (λ notify. Ok (write ++ notify))))
+    checks false from to noted valued e1 e2 e3 e4 e5 write notify = refl
+    checks true false to noted valued e1 e2 e3 e4 e5 write notify = refl
+    checks true true false noted valued e1 e2 e3 e4 e5 write notify = refl
+    checks true true true false valued e1 e2 e3 e4 e5 write notify = refl
+    checks true true true true false e1 e2 e3 e4 e5 write notify = refl
+    checks true true true true true e1 e2 e3 e4 e5 write notify = refl
+
+    by_extents : (mine theirs : Option Extent) → extent_in own seg ≡ mine → known_extent me own known rank rseg ≡ theirs
+        → write_notify_kinds notes me own known seg offset rank rseg roffset size note value
+        ≡ (write_kinds me own known seg offset rank rseg roffset size >>= (λ write. notify_kinds notes me own known rseg rank note value >>= (λ notify. Ok (write ++ notify))))
+    by_extents None theirs a b = rw a refl
+    by_extents (Some mine) None a b = rw (a, b) refl
+    by_extents (Some mine) (Some theirs) a b =
+        rw (a, b) (checks (is_transfer_size size) (is_within offset size mine.size) (is_within roffset size theirs.size) (nat_lt note notes) (not (value == 0)) _ _ _ _ _ _ _)

@@ -1,0 +1,5 @@
+pub mod Both
+pub mod CallRoom
+pub mod Chains
+pub mod Items
+pub mod Owed

@@ -1,0 +1,107 @@
+//! Lanes: the entries of one origin, queue and target. (GASPI: one-sided communication)
+
+ghost use Rattle.std.specs.Prelude.{◌≡◌, ◌+◌, ◌≤◌, ◌^◌, ◌<◌, length, IfOk};
+ghost use Rattle.gaspi_types.specs.Lanes.{is_posted, is_carried, is_write, place_of, carried_count, has_earlier_write, has_posted, is_user, has_user, may_take, may_put, posted_entries};
+
+use gaspi_types::{Entry, Kind, NoMemory, Phase, Rows};
+use std::alloc::Global;
+
+/// Whether an entry stands as it was posted.
+pub fn is_posted(entry: &Entry) -> bool
+    ensures { result ≡ is_posted entry.now }
+{
+    matches!(entry.phase, Phase::Posted)
+}
+
+/// Whether an entry has taken its bytes.
+pub fn is_carried(entry: &Entry) -> bool
+    ensures { result ≡ is_carried entry.now }
+{
+    matches!(entry.phase, Phase::Carried(_))
+}
+
+/// Whether an entry writes bytes.
+pub fn is_write(entry: &Entry) -> bool
+    ensures { result ≡ is_write entry.now }
+{
+    matches!(entry.kind, Kind::Write { .. })
+}
+
+/// The place of the entry with a number.
+pub fn place_of(lane: &Rows<Entry>, number: u32) -> Option<usize>
+    ensures { result ≡ place_of lane.now number }
+{
+    lane.as_slice().iter().position(|e| e.number == number)
+}
+
+/// How many entries have taken their bytes.
+pub fn carried_count(lane: &Rows<Entry>) -> usize
+    ensures { result ≡ carried_count lane.now }
+{
+    lane.as_slice().iter().filter(|e| is_carried(e)).count()
+}
+
+/// Whether a write with a smaller number stands in the lane.
+pub fn has_earlier_write(lane: &Rows<Entry>, number: u32) -> bool
+    ensures { result ≡ has_earlier_write lane.now number }
+{
+    lane.as_slice()
+        .iter()
+        .any(|e| is_write(e) && e.number < number)
+}
+
+/// Whether an entry stands as it was posted.
+pub fn has_posted(lane: &Rows<Entry>) -> bool
+    ensures { result ≡ has_posted lane.now }
+{
+    lane.as_slice().iter().any(is_posted)
+}
+
+/// Whether an entry has to read an own segment yet.
+fn is_user(segment: u64, entry: &Entry) -> bool
+    ensures { result ≡ is_user segment entry.now }
+{
+    match &entry.kind {
+        Kind::Write { own, target: _ } => is_posted(entry) && u64::from(own.segment) == segment,
+        Kind::Notify { .. } => false,
+    }
+}
+
+/// Whether an entry of a lane has to read an own segment yet.
+pub fn has_user(segment: u64, lane: &Rows<Entry>) -> bool
+    ensures { result ≡ has_user segment lane.now }
+{
+    lane.as_slice().iter().any(|e| is_user(segment, e))
+}
+
+/// Whether an entry may take its bytes: fewer than `depth` of its lane have taken theirs.
+pub fn may_take(depth: u32, lane: &Rows<Entry>, entry: &Entry) -> bool
+    ensures { result ≡ may_take depth lane.now entry.now }
+{
+    is_posted(entry) && carried_count(lane) < depth as usize
+}
+
+/// Whether an entry may be put. (GASPI: notification order)
+pub fn may_put(lane: &Rows<Entry>, entry: &Entry) -> bool
+    ensures { result ≡ may_put lane.now entry.now }
+{
+    is_carried(entry) && (is_write(entry) || !has_earlier_write(lane, entry.number))
+}
+
+/// The entries of a post, numbered on from a number.
+pub fn posted_entries(alloc: Global, number: u32, kinds: &[Kind]) -> Result<Rows<Entry>, NoMemory>
+    requires { number + length kinds.now < 2 ^ 32 }
+    ensures { IfOk result (λ entries. entries ≡ posted_entries number kinds.now) }
+{
+    let mut entries = Rows::new(alloc);
+    let mut next = number;
+    for kind in kinds {
+        entries.push(Entry {
+            number: next,
+            kind: *kind,
+            phase: Phase::Posted,
+        })?;
+        next += 1;
+    }
+    Ok(entries)
+}
