@@ -283,8 +283,7 @@ posts_after limits me posts thread call reply =
 abbrev pub memory_after : Limits → Posts → Memory → Call → Reply → Memory
 memory_after limits posts memory call reply = if is_idle reply then memory else memory_done limits posts memory call
 
--- The rank that a call names, where the call reads or changes a part of that rank: the memory of an atomic's, the posts
--- of one to which a segment is made known.
+-- the rank that a call names whose memory it works on: an atomic's
 abbrev pub memory_named : Call → Option ℕ
 memory_named (Alloc seg size) = None
 memory_named (Register seg rank) = None
