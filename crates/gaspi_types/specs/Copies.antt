@@ -1,7 +1,7 @@
 -- What is copied without memory.
 use Rattle.std.specs.Prelude.{Bool, true, ◌&&◌, length, ◌==◌}
 use Rattle.gaspi_types.specs.declared.calls.Call.{Call}
-use Rattle.gaspi_types.specs.declared.calls.Call.TheVariants.{Alloc, Register, Delete, Store, Load, Write, Notify, WriteNotify, Wait, Waitsome, Reset, FetchAdd, CompareSwap, End}
+use Rattle.gaspi_types.specs.declared.calls.Call.TheVariants.{Store}
 use Rattle.gaspi_types.specs.declared.replies.Reply.{Reply}
 use Rattle.gaspi_types.specs.declared.replies.Reply.TheVariants as replies
 use Rattle.gaspi_types.specs.declared.events.Event.{Event}
@@ -9,20 +9,8 @@ use Rattle.gaspi_types.specs.declared.events.Event.TheVariants.{Called, Take, Pu
 
 -- no list in it has an item
 abbrev pub is_listless_call : Call → Bool
-is_listless_call (Alloc seg size) = true
-is_listless_call (Register seg rank) = true
-is_listless_call (Delete seg) = true
-is_listless_call (Store seg offset bytes) = length bytes == 0
-is_listless_call (Load seg offset size) = true
-is_listless_call (Write seg offset rank rseg roffset size queue) = true
-is_listless_call (Notify rseg rank note value queue) = true
-is_listless_call (WriteNotify seg offset rank rseg roffset size note value queue) = true
-is_listless_call (Wait queue) = true
-is_listless_call (Waitsome seg begin num) = true
-is_listless_call (Reset seg note) = true
-is_listless_call (FetchAdd seg offset rank value) = true
-is_listless_call (CompareSwap seg offset rank comparator new) = true
-is_listless_call End = true
+is_listless_call (Store call) = length call.bytes == 0
+is_listless_call call = true
 
 abbrev pub is_listless_reply : Reply → Bool
 is_listless_reply replies.Done = true

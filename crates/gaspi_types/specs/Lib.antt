@@ -1,9 +1,9 @@
+pub mod CallRows
 pub mod Checks
 pub mod Copies
 pub mod Fields
 pub mod Lanes
 pub mod Lending
-pub mod Need
 pub mod Posts
 pub mod Ranges
 pub mod Replies
@@ -11,4 +11,5 @@ pub mod SegmentBytes
 pub mod SegmentTables
 pub mod SegmentWords
 pub mod Slots
+pub mod Touches
 pub mod World

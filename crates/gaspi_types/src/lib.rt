@@ -1,6 +1,7 @@
 //! The types of the GASPI runtime: the shape of a world, its calls, replies and events.
 #![tactic(auto)]
 
+mod call_rows;
 mod calls;
 mod collectives;
 mod comparisons;
@@ -12,8 +13,13 @@ mod memory;
 mod replies;
 mod segments;
 mod shapes;
+mod touches;
 
-pub use calls::{Call, Timeout, need};
+pub use call_rows::{CallRow, Posting, need};
+pub use calls::{
+    Alloc, Call, CompareSwap, Delete, FetchAdd, Load, Notify, Register, Reset, Store, Timeout, Wait,
+    Waitsome, Write, WriteNotify,
+};
 pub use collectives::{Coll, NumType, Numbers, Op, Stage};
 pub use comparisons::same_reply;
 pub use entries::{ByteRange, Entry, Extent, Kind, NoteSlot, Phase};
@@ -27,6 +33,7 @@ pub use segments::{
     is_within, range_of, set_range, swap_word, word_at,
 };
 pub use shapes::{CallerId, Declared, Limits, Shape, ShapeFault};
+pub use touches::{Reach, Touch};
 
 #[cfg(test)]
 mod tests;

@@ -66,11 +66,11 @@ fn shapes_are_declared(rt: HostRuntime) -> Result<(), Fail> {
 #[test]
 fn events_are_copied(rt: HostRuntime) -> Result<(), Fail> {
     let alloc = rt.alloc();
-    let call = Call::Store {
+    let call = Call::Store(Store {
         seg: 0,
         offset: 8,
         bytes: Rows::copied_from(alloc, &[1, 2])?,
-    };
+    });
     assert_eq!(rt; need(&call, false, false), 1);
     assert_eq!(rt; need(&Call::End, false, false), 0);
     let caller = CallerId {

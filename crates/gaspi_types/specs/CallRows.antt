@@ -1,0 +1,59 @@
+-- What calls share: a row for each call. What is said of every call is said of its row.
+use Rattle.std.specs.Prelude.{ℕ, ◌+◌, ◌*◌, Bool, true, false, not, ◌&&◌, Option, None, Some, is_some, if◌then◌else◌}
+use Rattle.gaspi_types.specs.declared.calls.Call.{Call}
+use Rattle.gaspi_types.specs.declared.calls.Call.TheVariants.{Alloc, Register, Delete, Store, Load, Write, Notify, WriteNotify, Wait, Waitsome, Reset, FetchAdd, CompareSwap, End}
+use Rattle.gaspi_types.specs.declared.call_rows.Posting.{Posting}
+use Rattle.gaspi_types.specs.declared.call_rows.CallRow.{CallRow}
+use Rattle.gaspi_types.specs.declared.touches.Touch.{Touch}
+use Rattle.gaspi_types.specs.declared.touches.Touch.TheVariants.{Nothing, OwnMemory, MemoryOf, PostsOf}
+
+-- a call that touches that, and does no more of what rows tell
+abbrev pub row_touching : Touch → CallRow
+row_touching touch = record { touch = touch; posting = None; times_out = false; takes_memory = false; ends = false }
+
+-- a call that appends so many entries to the lane of a rank and a queue
+abbrev pub row_posting : ℕ → ℕ → ℕ → CallRow
+row_posting entries rank queue = record (row_touching Nothing) { posting = Some (record { entries = entries; rank = rank; queue = queue }) }
+
+abbrev pub with_memory : CallRow → CallRow
+with_memory row = record row { takes_memory = true }
+
+abbrev pub with_timeout : CallRow → CallRow
+with_timeout row = record row { times_out = true }
+
+abbrev pub row_of : Call → CallRow
+row_of (Alloc call) = with_memory (row_touching OwnMemory)
+row_of (Register call) = row_touching (PostsOf call.rank)
+row_of (Delete call) = row_touching OwnMemory
+row_of (Store call) = with_memory (row_touching OwnMemory)
+row_of (Load call) = with_memory (row_touching OwnMemory)
+row_of (Write call) = with_memory (row_posting 1 call.rank call.queue)
+row_of (Notify call) = row_posting 1 call.rank call.queue
+row_of (WriteNotify call) = with_memory (row_posting 2 call.rank call.queue)
+row_of (Wait call) = with_timeout (row_touching Nothing)
+row_of (Waitsome call) = with_timeout (row_touching OwnMemory)
+row_of (Reset call) = row_touching OwnMemory
+row_of (FetchAdd call) = row_touching (MemoryOf call.rank)
+row_of (CompareSwap call) = row_touching (MemoryOf call.rank)
+row_of End = record (row_touching Nothing) { ends = true }
+
+-- how many entries are appended
+abbrev pub entries_in : Option Posting → ℕ
+entries_in None = 0
+entries_in (Some posting) = posting.entries
+
+abbrev pub entries_of : Call → ℕ
+entries_of call = entries_in (row_of call).posting
+
+-- whether it appends entries
+abbrev pub is_post : Call → Bool
+is_post call = is_some (row_of call).posting
+
+-- whether it is the end of its caller
+abbrev pub is_end : Call → Bool
+is_end call = (row_of call).ends
+
+-- own choice: the events that the call may bring: itself, and the two transfers of each of its entries. The end of
+-- a caller has its room from the start. Whether a collective is pending makes no difference to these calls.
+abbrev pub need_of : Call → Bool → Bool → ℕ
+need_of call pending ended = if is_end call && not ended then 0 else 1 + 2 * entries_of call

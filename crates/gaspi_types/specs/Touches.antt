@@ -1,0 +1,25 @@
+-- What an event touches beside the posts of its owner's rank, and what it then reaches. (own choice)
+use Rattle.std.specs.Prelude.{ℕ, ◌==◌, nat_lt, if◌then◌else◌}
+use Rattle.gaspi_types.specs.declared.entries.Kind.{Kind}
+use Rattle.gaspi_types.specs.declared.entries.Kind.TheVariants.{Write, Notify}
+use Rattle.gaspi_types.specs.declared.touches.Touch.{Touch}
+use Rattle.gaspi_types.specs.declared.touches.Touch.TheVariants as touches
+use Rattle.gaspi_types.specs.declared.touches.Reach.{Reach}
+use Rattle.gaspi_types.specs.declared.touches.Reach.TheVariants.{Alone, OwnMemory, PeerMemory, PeerPosts}
+
+-- in a world of so many ranks, by an event of a rank; what is no rank has no part, and a peer that is the owner is none
+abbrev pub reach_of : ℕ → ℕ → Touch → Reach
+reach_of ranks me touches.Nothing = Alone
+reach_of ranks me touches.OwnMemory = OwnMemory
+reach_of ranks me (touches.MemoryOf rank) = if rank == me then OwnMemory else (if nat_lt rank ranks then PeerMemory rank else Alone)
+reach_of ranks me (touches.PostsOf rank) = if rank == me then Alone else (if nat_lt rank ranks then PeerPosts rank else Alone)
+
+-- a write takes its bytes from its own segment, a notification takes nothing
+abbrev pub take_touch : Kind → Touch
+take_touch (Write own target) = touches.OwnMemory
+take_touch (Notify target value) = touches.Nothing
+
+-- both put into the memory of their target
+abbrev pub put_touch : ℕ → Kind → Touch
+put_touch rank (Write own target) = touches.MemoryOf rank
+put_touch rank (Notify target value) = touches.MemoryOf rank

@@ -1,0 +1,132 @@
+//! What calls share: a row for each call.
+
+ghost use Rattle.std.specs.Prelude.{◌≡◌, ◌≤◌, OnSome, Some, None, true, false};
+ghost use Rattle.gaspi_types.specs.CallRows.{row_of, row_touching, row_posting, entries_in, need_of};
+ghost use Rattle.gaspi_types.specs.declared.touches.Touch.TheVariants.{Nothing};
+
+use crate::calls::Call;
+use crate::touches::Touch;
+
+/// The entries that a call appends: how many, and to the lane of which rank and queue. (GASPI: one-sided communication)
+#[derive(Clone, Copy, Debug, PartialEq, Eq)]
+pub struct Posting {
+    pub entries: u32,
+    pub rank: u64,
+    pub queue: u64,
+}
+
+/// What is said of a call as of every other.
+#[derive(Clone, Copy, Debug, PartialEq, Eq)]
+pub struct CallRow {
+    /// What it touches beside the posts of its caller's rank. (own choice)
+    pub touch: Touch,
+    /// What it appends, where it posts. (GASPI: one-sided communication)
+    pub posting: Option<Posting>,
+    /// Whether it takes a timeout. (GASPI: timeouts)
+    pub times_out: bool,
+    /// Whether it may take memory. (own choice)
+    pub takes_memory: bool,
+    /// Whether it is the end of its caller. (own choice)
+    pub ends: bool,
+}
+
+impl CallRow {
+    /// A call that touches that, and does no more of what rows tell.
+    fn touching(touch: Touch) -> CallRow
+        ensures { result ≡ row_touching touch }
+    {
+        CallRow {
+            touch,
+            posting: None,
+            times_out: false,
+            takes_memory: false,
+            ends: false,
+        }
+    }
+
+    /// A call that appends so many entries to the lane of a rank and a queue.
+    fn posting(entries: u32, rank: u64, queue: u64) -> CallRow
+        ensures { result ≡ row_posting entries rank queue }
+    {
+        CallRow {
+            posting: Some(Posting {
+                entries,
+                rank,
+                queue,
+            }),
+            ..CallRow::touching(Touch::Nothing)
+        }
+    }
+
+    /// The same of a call that may take memory.
+    fn with_memory(self) -> CallRow
+        ensures { result ≡ record self { takes_memory = true } }
+    {
+        CallRow {
+            takes_memory: true,
+            ..self
+        }
+    }
+
+    /// The same of a call that takes a timeout.
+    fn with_timeout(self) -> CallRow
+        ensures { result ≡ record self { times_out = true } }
+    {
+        CallRow {
+            times_out: true,
+            ..self
+        }
+    }
+
+    /// How many entries the call appends.
+    pub fn entries(&self) -> u32
+        ensures { result ≡ entries_in self.now.posting }
+    {
+        match self.posting {
+            Some(posting) => posting.entries,
+            None => 0,
+        }
+    }
+}
+
+impl Call {
+    /// Its row.
+    pub fn row(&self) -> CallRow
+        ensures row { result ≡ row_of self.now }
+        ensures bound { entries_in result.posting ≤ 2 }
+    {
+        match self {
+            Call::Alloc(_) => CallRow::touching(Touch::OwnMemory).with_memory(),
+            Call::Register(call) => CallRow::touching(Touch::PostsOf(call.rank)),
+            Call::Delete(_) => CallRow::touching(Touch::OwnMemory),
+            Call::Store(_) => CallRow::touching(Touch::OwnMemory).with_memory(),
+            Call::Load(_) => CallRow::touching(Touch::OwnMemory).with_memory(),
+            Call::Write(call) => CallRow::posting(1, call.rank, call.queue).with_memory(),
+            Call::Notify(call) => CallRow::posting(1, call.rank, call.queue),
+            Call::WriteNotify(call) => CallRow::posting(2, call.rank, call.queue).with_memory(),
+            Call::Wait(_) => CallRow::touching(Touch::Nothing).with_timeout(),
+            Call::Waitsome(_) => CallRow::touching(Touch::OwnMemory).with_timeout(),
+            Call::Reset(_) => CallRow::touching(Touch::OwnMemory),
+            Call::FetchAdd(call) => CallRow::touching(Touch::MemoryOf(call.rank)),
+            Call::CompareSwap(call) => CallRow::touching(Touch::MemoryOf(call.rank)),
+            Call::End => CallRow {
+                ends: true,
+                ..CallRow::touching(Touch::Nothing)
+            },
+        }
+    }
+}
+
+/// How many events of its caller's rank a call needs room for: none for the end of a caller that has not ended, one
+/// and two for each entry for a post, and one for every other call. Whether a collective is pending for the caller
+/// makes no difference to the calls that are there.
+pub fn need(call: &Call, pending: bool, ended: bool) -> u64
+    ensures { result ≡ need_of call.now pending ended }
+{
+    let _ = pending;
+    let row = call.row();
+    if row.ends && !ended {
+        return 0;
+    }
+    1 + 2 * u64::from(row.entries())
+}

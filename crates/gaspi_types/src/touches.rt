@@ -1,0 +1,81 @@
+//! What an event touches beside the posts of its owner's rank.
+
+ghost use Rattle.std.specs.Prelude.{◌≡◌, ◌≤◌};
+ghost use Rattle.gaspi_types.specs.Touches.{reach_of, take_touch, put_touch};
+
+use crate::entries::Kind;
+use crate::ids::RankId;
+
+/// What an event touches beside its owner's posts. A rank is any number, as a caller wrote it. (own choice)
+#[derive(Clone, Copy, Debug, PartialEq, Eq)]
+pub enum Touch {
+    Nothing,
+    /// The memory of its owner's rank.
+    OwnMemory,
+    /// The memory of a rank.
+    MemoryOf(u64),
+    /// The posts of a rank.
+    PostsOf(u64),
+}
+
+/// The parts that an event reaches beside its owner's posts: what it touches, where it is there. A peer is a rank of the
+/// world that is not the owner's.
+#[derive(Clone, Copy, Debug, PartialEq, Eq)]
+pub enum Reach {
+    Alone,
+    OwnMemory,
+    PeerMemory(RankId),
+    PeerPosts(RankId),
+}
+
+impl Touch {
+    /// What is reached, in a world of so many ranks, by an event of a rank.
+    pub fn reach(self, ranks: u32, me: RankId) -> Reach
+        requires { ranks ≤ 16 }
+        ensures { result ≡ reach_of ranks me self }
+    {
+        match self {
+            Touch::Nothing => Reach::Alone,
+            Touch::OwnMemory => Reach::OwnMemory,
+            Touch::MemoryOf(rank) => {
+                if rank == u64::from(me.number()) {
+                    Reach::OwnMemory
+                } else if rank < u64::from(ranks) {
+                    Reach::PeerMemory(RankId::of(rank as u32))
+                } else {
+                    Reach::Alone
+                }
+            }
+            Touch::PostsOf(rank) => {
+                if rank == u64::from(me.number()) {
+                    Reach::Alone
+                } else if rank < u64::from(ranks) {
+                    Reach::PeerPosts(RankId::of(rank as u32))
+                } else {
+                    Reach::Alone
+                }
+            }
+        }
+    }
+}
+
+impl Kind {
+    /// What the take of an entry of that kind touches: a write takes its bytes from its own segment.
+    pub fn take_touch(&self) -> Touch
+        ensures { result ≡ take_touch self.now }
+    {
+        match self {
+            Kind::Write { .. } => Touch::OwnMemory,
+            Kind::Notify { .. } => Touch::Nothing,
+        }
+    }
+
+    /// What its put touches: the memory of its target.
+    pub fn put_touch(&self, target: RankId) -> Touch
+        ensures { result ≡ put_touch target self.now }
+    {
+        match self {
+            Kind::Write { .. } | Kind::Notify { .. } => Touch::MemoryOf(u64::from(target.number())),
+        }
+    }
+}
