@@ -5,7 +5,7 @@ use Rattle.gaspi_types.specs.declared.entries.Entry.{Entry}
 use Rattle.gaspi_types.specs.declared.entries.Kind.{Kind}
 use Rattle.gaspi_types.specs.declared.entries.Kind.TheVariants.{Write, Notify}
 use Rattle.gaspi_model.specs.State.{segment_at}
-use Rattle.gaspi_model.specs.Calls.{counted}
+use Rattle.gaspi_model.specs.Posting.{counted}
 use Rattle.gaspi_model.specs.Transfers.{with_lane, carried_bytes, target_segment, target_generation}
 use Rattle.gaspi_model.specs.declared.states.Queue.{Queue}
 use Rattle.gaspi_model.specs.declared.states.Posts.{Posts}

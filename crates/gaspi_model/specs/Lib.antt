@@ -1,6 +1,15 @@
 pub mod State
+pub mod Memories
+pub mod Posting
+pub mod SegmentCalls
+pub mod MemoryCalls
+pub mod PostCalls
+pub mod QueueCalls
+pub mod NotificationCalls
+pub mod AtomicCalls
 pub mod Calls
 pub mod Transfers
+pub mod Parts
 pub mod Step
 pub mod Coherence
 pub mod Sound

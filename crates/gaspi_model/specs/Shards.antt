@@ -1,85 +1,72 @@
--- The shards of an event: the ranks whose parts it reads and changes. The part of a rank is its posts and its memory.
--- (own choice)
-use Rattle.std.specs.Prelude.{◌≡◌, ℕ, Bool, true, ◌==◌, nat_lt, List, [], ◌∷◌, Option, None, Some, Result, Ok, Err, slice_get, if◌then◌else◌}
+-- The shards of an event: the parts of the state that it reads and changes. A shard is the posts of a rank or the memory of
+-- a rank. (own choice)
+use Rattle.std.specs.Prelude.{◌≡◌, ℕ, Bool, true, false, ◌==◌, List, [], ◌∷◌, map, Option, None, Some, Result, Ok, Err, slice_get}
 use Rattle.std.specs.List.{list_any}
-use Rattle.gaspi_types.specs.declared.calls.Call.{Call}
-use Rattle.gaspi_types.specs.declared.calls.Call.TheVariants.{Alloc, Register, Delete, Store, Load, Write, Notify, WriteNotify, Wait, Waitsome, Reset, FetchAdd, CompareSwap, End}
 use Rattle.gaspi_types.specs.declared.entries.Entry.{Entry}
 use Rattle.gaspi_types.specs.declared.events.Event.{Event}
-use Rattle.gaspi_types.specs.declared.events.Event.TheVariants.{Called, Take, Put}
-use Rattle.gaspi_model.specs.Transfers.{Found, find_entry}
+use Rattle.gaspi_types.specs.declared.touches.Reach.{Reach}
+use Rattle.gaspi_types.specs.declared.touches.Reach.TheVariants.{Alone, OwnMemory, PeerMemory, PeerPosts}
+use Rattle.gaspi_model.specs.Transfers.{entry_in}
+use Rattle.gaspi_model.specs.Step.{owner_of, event_reach}
 use Rattle.gaspi_model.specs.declared.states.Posts.{Posts}
 use Rattle.gaspi_model.specs.declared.states.State.{State}
+use Rattle.gaspi_model.specs.declared.states.Shard.{Shard}
+use Rattle.gaspi_model.specs.declared.states.Shard.TheVariants as shards
 use Rattle.gaspi_model.specs.declared.states.Why.{Why}
-use Rattle.gaspi_model.specs.declared.states.Why.TheVariants as whys
 
--- the rank that records an event: its caller's, or its origin
-abbrev pub owner_of : Event → ℕ
-owner_of (Called c call reply) = c.rank
-owner_of (Take origin queue target number outcome) = origin
-owner_of (Put origin queue target number outcome) = origin
-
--- the entry with a number in a lane
+-- the entry with a number in a lane of a rank
 abbrev pub standing : State → ℕ → ℕ → ℕ → ℕ → Option Entry
 standing s origin queue target number = in_posts (slice_get s.posts origin)
   where
-    found_entry : Result Found Why → Option Entry
-    found_entry (Ok at) = Some at.entry
-    found_entry (Err why) = None
-
     in_posts : Option Posts → Option Entry
     in_posts None = None
-    in_posts (Some posts) = found_entry (find_entry posts queue target number whys.Put)
+    in_posts (Some posts) = entry_in posts queue target number
 
--- Writes and notifications put into the target's memory; where there is no such entry, the event is none of the target's.
-abbrev pub put_shards : ℕ → ℕ → Option Entry → List ℕ
-put_shards origin target None = origin ∷ []
-put_shards origin target (Some e) = origin ∷ target ∷ []
+-- the shards of an event of a rank, by what it reaches: its owner's posts come first
+abbrev pub reach_shards : ℕ → Reach → List Shard
+reach_shards me Alone = shards.Posts me ∷ []
+reach_shards me OwnMemory = shards.Posts me ∷ shards.Memory me ∷ []
+reach_shards me (PeerMemory rank) = shards.Posts me ∷ shards.Memory rank ∷ []
+reach_shards me (PeerPosts rank) = shards.Posts me ∷ shards.Posts rank ∷ []
 
--- the rank that a call names, where the call reads or changes a part of it
-abbrev pub rank_named : Call → Option ℕ
-rank_named (Alloc seg size) = None
-rank_named (Register seg rank) = Some rank
-rank_named (Delete seg) = None
-rank_named (Store seg offset bytes) = None
-rank_named (Load seg offset size) = None
-rank_named (Write seg offset rank rseg roffset size queue) = None
-rank_named (Notify rseg rank note value queue) = None
-rank_named (WriteNotify seg offset rank rseg roffset size note value queue) = None
-rank_named (Wait queue) = None
-rank_named (Waitsome seg begin num) = None
-rank_named (Reset seg note) = None
-rank_named (FetchAdd seg offset rank value) = Some rank
-rank_named (CompareSwap seg offset rank comparator new) = Some rank
-rank_named End = None
+-- The footprint of an event: its shards, told by its owner's posts and the event without its reply.
+abbrev pub footprint : State → Event → List Shard
+footprint s e = by_posts (slice_get s.posts (owner_of e))
+  where
+    by_posts : Option Posts → List Shard
+    by_posts None = shards.Posts (owner_of e) ∷ []
+    by_posts (Some posts) = reach_shards (owner_of e) (event_reach s.limits posts e)
 
--- one that is no rank has no part
-abbrev pub call_shards : ℕ → ℕ → Option ℕ → List ℕ
-call_shards ranks me None = me ∷ []
-call_shards ranks me (Some rank) = if nat_lt rank ranks then me ∷ rank ∷ [] else me ∷ []
+abbrev pub same_shard : Shard → Shard → Bool
+same_shard (shards.Posts a) (shards.Posts b) = a == b
+same_shard (shards.Posts a) (shards.Memory b) = false
+same_shard (shards.Memory a) (shards.Posts b) = false
+same_shard (shards.Memory a) (shards.Memory b) = a == b
 
--- A call reads and changes its caller's rank and that which it names, and a write takes its bytes from its origin.
-abbrev pub shards : State → Event → List ℕ
-shards s (Called c call reply) = call_shards s.limits.ranks c.rank (rank_named call)
-shards s (Take origin queue target number outcome) = origin ∷ []
-shards s (Put origin queue target number outcome) = put_shards origin target (standing s origin queue target number)
+abbrev pub is_shard : List Shard → Shard → Bool
+is_shard list shard = list_any (λ x. same_shard x shard) list
 
-abbrev pub is_shard : List ℕ → ℕ → Bool
-is_shard shards rank = list_any (λ shard. shard == rank) shards
+-- a shard is the same in two states
+abbrev pub HaveSamePart : State → State → Shard → Type 0
+HaveSamePart s s' (shards.Posts rank) = slice_get s.posts rank ≡ slice_get s'.posts rank
+HaveSamePart s s' (shards.Memory rank) = slice_get s.memories rank ≡ slice_get s'.memories rank
 
--- the part of a rank is the same in two states
-pub record HaveSamePart (s s' : State) (rank : ℕ) : Type 0 where
-  pub posts : slice_get s.posts rank ≡ slice_get s'.posts rank
-  pub memory : slice_get s.memories rank ≡ slice_get s'.memories rank
-
--- the limits and the parts of some ranks are the same in two states
-pub record AgreeOn (shards : List ℕ) (s s' : State) : Type 0 where
+-- the limits, and those shards for which a test holds, are the same in two states
+pub record AgreeOn (is_in : Shard → Bool) (s s' : State) : Type 0 where
   pub limits : s.limits ≡ s'.limits
-  pub parts : (rank : ℕ) → is_shard shards rank ≡ true → HaveSamePart s s' rank
+  pub parts : (shard : Shard) → is_in shard ≡ true → HaveSamePart s s' shard
 
--- two steps come to the same: to states that agree on some ranks, or to the same cause
-abbrev pub ComeToSame : List ℕ → Result State Why → Result State Why → Type 0
-ComeToSame shards (Ok t) (Ok t') = AgreeOn shards t t'
-ComeToSame shards (Err why) (Err why') = why ≡ why'
-ComeToSame shards (Ok t) (Err why) = ⊥
-ComeToSame shards (Err why) (Ok t) = ⊥
+-- Steps from two states come to the same: to the same cause, or to states that agree on each shard on which the two agreed.
+abbrev pub ComeToSame : State → State → Result State Why → Result State Why → Type 0
+ComeToSame s s' (Ok t) (Ok t') = (t.limits ≡ t'.limits) × ((shard : Shard) → HaveSamePart s s' shard → HaveSamePart t t' shard)
+ComeToSame s s' (Err why) (Err why') = why ≡ why'
+ComeToSame s s' (Ok t) (Err why) = ⊥
+ComeToSame s s' (Err why) (Ok t) = ⊥
+
+-- Coarser shards: each shard has a number, and those of one number are one. So a rank's posts and memory can be one shard,
+-- or the whole state.
+abbrev pub numbers_of : (Shard → ℕ) → State → Event → List ℕ
+numbers_of number s e = map number (footprint s e)
+
+abbrev pub is_among : List ℕ → ℕ → Bool
+is_among list n = list_any (λ m. m == n) list

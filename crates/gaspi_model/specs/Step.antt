@@ -1,11 +1,18 @@
 -- The step of the machine, and its legal histories.
 use Rattle.std.specs.Prelude.{◌&&◌, ◌≡◌, ℕ, ◌+◌, Bool, true, false, nat_le, List, [], ◌∷◌, Option, None, Some, Result, Ok, Err, if◌then◌else◌, slice_get, slice_set, is_ok}
 use Rattle.gaspi_types.specs.Checks.{◌>>=◌, check, found}
+use Rattle.gaspi_types.specs.CallRows.{row_of, is_end}
 use Rattle.gaspi_types.specs.Replies.{same_reply}
+use Rattle.gaspi_types.specs.Touches.{reach_of, take_touch, put_touch}
+use Rattle.std.specs.Option.{option_map}
 use Rattle.gaspi_types.specs.World.{World, is_caller}
+use Rattle.gaspi_types.specs.declared.entries.Kind.{Kind}
+use Rattle.gaspi_types.specs.declared.entries.Entry.{Entry}
+use Rattle.gaspi_types.specs.declared.touches.Touch.{Touch}
+use Rattle.gaspi_types.specs.declared.touches.Touch.TheVariants as touches
+use Rattle.gaspi_types.specs.declared.touches.Reach.{Reach}
 use Rattle.gaspi_types.specs.declared.shapes.Limits.{Limits}
 use Rattle.gaspi_types.specs.declared.calls.Call.{Call}
-use Rattle.gaspi_types.specs.declared.calls.Call.TheVariants.{Alloc, Register, Delete, Store, Load, Write, Notify, WriteNotify, Wait, Waitsome, Reset, FetchAdd, CompareSwap, End}
 use Rattle.gaspi_types.specs.declared.replies.Reply.{Reply}
 use Rattle.gaspi_types.specs.declared.replies.Ready.{Ready}
 use Rattle.gaspi_types.specs.declared.events.Outcome.{Outcome}
@@ -14,8 +21,9 @@ use Rattle.gaspi_types.specs.declared.events.Transfer.{Transfer}
 use Rattle.gaspi_types.specs.declared.events.Event.{Event}
 use Rattle.gaspi_types.specs.declared.events.Event.TheVariants.{Called, Take, Put}
 use Rattle.gaspi_model.specs.State.{opening, owed, thread_at, is_running}
-use Rattle.gaspi_model.specs.Calls.{answer, recorded_reply, charge, posts_after, memory_after, memory_rank, told}
-use Rattle.gaspi_model.specs.Transfers.{take, put, Parts, Found, find_entry, put_outcome}
+use Rattle.gaspi_model.specs.Calls.{answer, recorded_reply, charge, posts_after, memory_after, peer_after}
+use Rattle.gaspi_model.specs.Parts.{Parts, touched_of, parts_of, lifted, worked_memory, with_worked_memory}
+use Rattle.gaspi_model.specs.Transfers.{take, put, Worked, Found, find_entry, entry_in, put_outcome}
 use Rattle.gaspi_model.specs.declared.states.ThreadState.{ThreadState}
 use Rattle.gaspi_model.specs.declared.states.ThreadState.TheVariants.{Absent, Running, Ended}
 use Rattle.gaspi_model.specs.declared.states.Posts.{Posts}
@@ -31,35 +39,61 @@ is_there Absent = false
 is_there Running = true
 is_there Ended = true
 
--- A call with its reply, on its caller's posts and the memory that it works on: the caller has a section, the reply is the one that may be
--- recorded, and the rank has room.
-abbrev pub called : Limits → ℕ → Posts → Memory → ℕ → Call → Reply → Result Parts Why
+-- A call with its reply, on its caller's posts and the memory that it works on: the caller has a section, the reply is the
+-- one that may be recorded, and the rank has room.
+abbrev pub called : Limits → ℕ → Posts → Memory → ℕ → Call → Reply → Result Worked Why
 called limits me posts memory thread call reply = do
   there ← check (is_there (thread_at posts thread)) whys.Caller
   answered ← check (same_reply reply (recorded_reply (answer limits me posts memory thread call))) whys.Reply
   room ← check (nat_le (posts.events + owed posts + charge (thread_at posts thread) call reply) limits.events) whys.Limit
   Ok (record { posts = posts_after limits me posts thread call reply; memory = memory_after limits posts memory call reply })
 
+-- the rank that records an event: its caller's, or its origin
+abbrev pub owner_of : Event → ℕ
+owner_of (Called c call reply) = c.rank
+owner_of (Take origin queue target number outcome) = origin
+owner_of (Put origin queue target number outcome) = origin
+
+-- what an event touches beside its owner's posts: a call what its row says, a transfer what its entry's kind says
+abbrev pub entry_touch : (Kind → Touch) → Option Entry → Touch
+entry_touch touch None = touches.Nothing
+entry_touch touch (Some e) = touch e.kind
+
+abbrev pub event_touch : Posts → Event → Touch
+event_touch posts (Called c call reply) = (row_of call).touch
+event_touch posts (Take origin queue target number outcome) = entry_touch take_touch (entry_in posts queue target number)
+event_touch posts (Put origin queue target number outcome) = entry_touch (put_touch target) (entry_in posts queue target number)
+
+abbrev pub event_reach : Limits → Posts → Event → Reach
+event_reach limits posts e = reach_of limits.ranks (owner_of e) (event_touch posts e)
+
+-- why an event is no step whose owner is no rank
+abbrev pub missing : Event → Why
+missing (Called c call reply) = whys.Caller
+missing (Take origin queue target number outcome) = whys.Take
+missing (Put origin queue target number outcome) = whys.Put
+
+-- The local step: an event of that reach on the parts that it touches.
+abbrev pub on_parts : Limits → Reach → Event → Parts → Result Parts Why
+on_parts limits reach (Called c call reply) parts = do
+  after ← called limits c.rank parts.posts (worked_memory reach parts) c.thread call reply
+  Ok (record (with_worked_memory reach parts after.memory) {
+    posts = after.posts;
+    peer_posts = option_map (peer_after c.rank parts.posts call reply) parts.peer_posts;
+  })
+on_parts limits reach (Take origin queue target number outcome) parts = do
+  after ← take limits parts.posts (worked_memory reach parts) queue target number outcome
+  Ok (record parts { posts = after })
+on_parts limits reach (Put origin queue target number outcome) parts = do
+  after ← put parts.posts (worked_memory reach parts) queue target number outcome
+  Ok (record (with_worked_memory reach parts after.memory) { posts = after.posts })
+
+abbrev pub local_step : Limits → Event → Parts → Result Parts Why
+local_step limits e parts = on_parts limits (event_reach limits parts.posts e) e parts
+
 -- The step: the state after the event, or why it is none.
 abbrev pub step : State → Event → Result State Why
-step s (Called c call reply) = do
-  posts ← found (slice_get s.posts c.rank) whys.Caller
-  memory ← found (slice_get s.memories (memory_rank s.limits c.rank call)) whys.Caller
-  after ← called s.limits c.rank posts memory c.thread call reply
-  Ok (record s {
-    posts = told c.rank posts call reply (slice_set s.posts c.rank after.posts);
-    memories = slice_set s.memories (memory_rank s.limits c.rank call) after.memory;
-  })
-step s (Take origin queue target number outcome) = do
-  posts ← found (slice_get s.posts origin) whys.Take
-  memory ← found (slice_get s.memories origin) whys.Take
-  after ← take s.limits posts memory queue target number outcome
-  Ok (record s { posts = slice_set s.posts origin after })
-step s (Put origin queue target number outcome) = do
-  posts ← found (slice_get s.posts origin) whys.Put
-  memory ← found (slice_get s.memories target) whys.Put
-  after ← put posts memory queue target number outcome
-  Ok (record s { posts = slice_set s.posts origin after.posts; memories = slice_set s.memories target after.memory })
+step s e = lifted s (owner_of e) (missing e) (λ posts. touched_of (owner_of e) (event_reach s.limits posts e)) (local_step s.limits e)
 
 -- the state after events, one after another
 abbrev pub after : State → List Event → Result State Why
@@ -90,14 +124,20 @@ Steps (Ok done) old new outcome = outcome ≡ Ok new
 Steps (Err (faults.Illegal why)) old new outcome = (outcome ≡ Err why) × (new ≡ old)
 Steps (Err faults.NoMemory) old new outcome = new ≡ old
 
+-- the memory that a call of a rank works on in a state
+abbrev pub call_memory : State → ℕ → Posts → Call → Memory
+call_memory s rank posts call = memory_at (reach_of s.limits.ranks rank (row_of call).touch)
+  where
+    memory_at : Reach → Memory
+    memory_at reach = worked_memory reach (parts_of s posts (touched_of rank reach))
+
 -- what a look at a call of a caller answers in a state; of a rank that is not there, nothing
 abbrev pub answer_in : State → ℕ → ℕ → Call → Option Ready
-answer_in s rank thread call = answer_with (slice_get s.posts rank) (slice_get s.memories (memory_rank s.limits rank call))
+answer_in s rank thread call = answer_with (slice_get s.posts rank)
   where
-    answer_with : Option Posts → Option Memory → Option Ready
-    answer_with None memory = None
-    answer_with (Some posts) None = None
-    answer_with (Some posts) (Some memory) = Some (answer s.limits rank posts memory thread call)
+    answer_with : Option Posts → Option Ready
+    answer_with None = None
+    answer_with (Some posts) = Some (answer s.limits rank posts (call_memory s rank posts call) thread call)
 
 -- a caller that has a section
 abbrev pub is_declared : State → ℕ → ℕ → Bool
@@ -135,22 +175,6 @@ transfer_event s t = if t.put then Put t.origin t.queue t.target t.number (outco
     outcome_of None memory = Failed
     outcome_of (Some posts) None = Failed
     outcome_of (Some posts) (Some memory) = outcome_at (find_entry posts t.queue t.target t.number whys.Put) memory
-
-abbrev pub is_end : Call → Bool
-is_end (Alloc seg size) = false
-is_end (Register seg rank) = false
-is_end (Delete seg) = false
-is_end (Store seg offset bytes) = false
-is_end (Load seg offset size) = false
-is_end (Write seg offset rank rseg roffset size queue) = false
-is_end (Notify rseg rank note value queue) = false
-is_end (WriteNotify seg offset rank rseg roffset size note value queue) = false
-is_end (Wait queue) = false
-is_end (Waitsome seg begin num) = false
-is_end (Reset seg note) = false
-is_end (FetchAdd seg offset rank value) = false
-is_end (CompareSwap seg offset rank comparator new) = false
-is_end End = true
 
 -- the end of a caller
 abbrev pub ends_caller : ℕ → ℕ → Event → Bool

@@ -1,5 +1,5 @@
 -- Takes and puts: what a transfer may do, and what it leaves. (GASPI: one-sided communication, notification order)
-use Rattle.std.specs.Prelude.{ℕ, Bool, true, false, List, [], ◌∷◌, remove, Some, Result, Ok, if◌then◌else◌, slice_get, slice_set, is_none}
+use Rattle.std.specs.Prelude.{ℕ, Bool, true, false, List, [], ◌∷◌, remove, Option, None, Some, Result, Ok, Err, if◌then◌else◌, slice_get, slice_set, is_none}
 use Rattle.std.specs.List.{flat_map, enumerate_from}
 use Rattle.gaspi_types.specs.Checks.{◌>>=◌, check, found}
 use Rattle.gaspi_types.specs.SegmentBytes.{range_of, with_range}
@@ -14,7 +14,8 @@ use Rattle.gaspi_types.specs.declared.events.Outcome.TheVariants.{Applied, Faile
 use Rattle.gaspi_types.specs.declared.events.Transfer.{Transfer}
 use Rattle.gaspi_types.specs.declared.shapes.Limits.{Limits}
 use Rattle.gaspi_model.specs.State.{segment_at}
-use Rattle.gaspi_model.specs.Calls.{is_generation, bytes_of, slots_of, with_bytes, with_slots, changed_at, counted}
+use Rattle.gaspi_model.specs.Memories.{is_generation, bytes_of, slots_of, with_bytes, with_slots}
+use Rattle.gaspi_model.specs.Posting.{changed_at, counted}
 use Rattle.gaspi_model.specs.declared.states.Queue.{Queue}
 use Rattle.gaspi_model.specs.declared.states.Posts.{Posts}
 use Rattle.gaspi_model.specs.declared.states.Memory.{Memory}
@@ -41,6 +42,14 @@ find_entry posts queue target number why = do
   place ← found (place_of lane number) why
   entry ← found (slice_get lane place) why
   Ok (record { queue = q; lane = lane; place = place; entry = entry })
+
+-- the entry with a number in a lane
+abbrev pub entry_in : Posts → ℕ → ℕ → ℕ → Option Entry
+entry_in posts queue target number = of_found (find_entry posts queue target number whys.Put)
+  where
+    of_found : Result Found Why → Option Entry
+    of_found (Ok at) = Some at.entry
+    of_found (Err why) = None
 
 -- the posts with a lane replaced
 abbrev pub with_lane : Posts → ℕ → ℕ → List Entry → Posts
@@ -105,12 +114,12 @@ posts_failed posts queue target at = record posts {
   corrupt = slice_set posts.corrupt target true;
 }
 
--- the origin's posts and the target's memory
-pub record Parts : Type 0 where
+-- the posts of an event's owner, and the memory that it works on
+pub record Worked : Type 0 where
   pub posts : Posts
   pub memory : Memory
 
-abbrev pub put_with : Posts → Memory → ℕ → ℕ → Found → Outcome → Parts
+abbrev pub put_with : Posts → Memory → ℕ → ℕ → Found → Outcome → Worked
 put_with posts memory queue target at Applied =
     record { posts = counted (with_lane posts queue target (remove at.lane at.place)); memory = memory_put memory at.entry }
 put_with posts memory queue target at Failed =
@@ -118,7 +127,7 @@ put_with posts memory queue target at Failed =
 
 -- A put: the entry has taken its bytes, its queue is not broken, and, for a notification, no write with a smaller
 -- number stands in its lane. It stores the bytes or sets the slot, and the entry goes.
-abbrev pub put : Posts → Memory → ℕ → ℕ → ℕ → Outcome → Result Parts Why
+abbrev pub put : Posts → Memory → ℕ → ℕ → ℕ → Outcome → Result Worked Why
 put posts memory queue target number outcome = do
   at ← find_entry posts queue target number whys.Put
   whole ← check (is_none at.queue.broken) whys.Put

@@ -8,4 +8,4 @@ pub use laws::{
     changes, corruption, enabled, endings, locality, notification_order, prefixes, settling,
     soundness,
 };
-pub use states::{Memory, Posts, Queue, Segment, State, StepFault, ThreadState, Why};
+pub use states::{Memory, Posts, Queue, Segment, Shard, State, StepFault, ThreadState, Why};

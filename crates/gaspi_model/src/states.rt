@@ -64,6 +64,15 @@ pub struct State {
     pub memories: Rows<Memory>,
 }
 
+/// A part of the state that an event reads or changes as a whole. (own choice)
+#[derive(Clone, Copy, Debug, PartialEq, Eq)]
+pub enum Shard {
+    /// The posts of a rank.
+    Posts(RankId),
+    /// The memory of a rank.
+    Memory(RankId),
+}
+
 /// Why an event is no step.
 #[derive(Clone, Copy, Debug, PartialEq, Eq)]
 pub enum Why {

@@ -4,39 +4,52 @@ use Rattle.std.specs.Prelude.{ℕ, not, ◌==◌, nat_lt, List, [], ◌∷◌, O
 use Rattle.gaspi_types.specs.Checks.{◌>>=◌, check, found}
 use Rattle.gaspi_types.specs.SegmentBytes.{is_transfer_size, is_within}
 use Rattle.gaspi_types.specs.SegmentTables.{extent_in, known_extent}
+use Rattle.gaspi_types.specs.declared.calls.posts.Write as write
+use Rattle.gaspi_types.specs.declared.calls.posts.Notify as notify
+use Rattle.gaspi_types.specs.declared.calls.posts.WriteNotify as write_notify
 use Rattle.gaspi_types.specs.declared.entries.Extent.{Extent}
+use Rattle.gaspi_types.specs.declared.entries.ByteRange.{ByteRange}
+use Rattle.gaspi_types.specs.declared.entries.NoteSlot.{NoteSlot}
 use Rattle.gaspi_types.specs.declared.entries.Kind.{Kind}
 use Rattle.gaspi_types.specs.declared.entries.Kind.TheVariants.{Write, Notify}
 use Rattle.gaspi_types.specs.declared.replies.Refusal.{Refusal}
 use Rattle.gaspi_types.specs.declared.replies.Refusal.TheVariants.{NoSegment, Unregistered, BadRange, BadSize, BadNote, ZeroValue}
 
+-- a range of a segment that is known so
+abbrev pub range_in : Extent → ℕ → ℕ → ℕ → ByteRange
+range_in extent segment offset size = record { segment = segment; generation = extent.generation; offset = offset; size = size }
+
+-- a slot of a segment that is known so
+abbrev pub slot_in : Extent → ℕ → ℕ → NoteSlot
+slot_in extent segment note = record { segment = segment; generation = extent.generation; note = note }
+
 -- a write
-abbrev pub write_kinds : ℕ → List (Option Extent) → List (List (Option Extent)) → ℕ → ℕ → ℕ → ℕ → ℕ → ℕ → Result (List Kind) Refusal
-write_kinds me own known seg offset rank rseg roffset size = do
-  mine ← found (extent_in own seg) NoSegment
-  theirs ← found (known_extent me own known rank rseg) Unregistered
-  sized ← check (is_transfer_size size) BadSize
-  from ← check (is_within offset size mine.size) (BadRange mine.size)
-  to ← check (is_within roffset size theirs.size) (BadRange theirs.size)
-  Ok (Write (record { segment = seg; generation = mine.generation; offset = offset; size = size }) (record { segment = rseg; generation = theirs.generation; offset = roffset; size = size }) ∷ [])
+abbrev pub write_kinds : ℕ → List (Option Extent) → List (List (Option Extent)) → write.Write → Result (List Kind) Refusal
+write_kinds me own known call = do
+  mine ← found (extent_in own call.seg) NoSegment
+  theirs ← found (known_extent me own known call.rank call.rseg) Unregistered
+  sized ← check (is_transfer_size call.size) BadSize
+  from ← check (is_within call.offset call.size mine.size) (BadRange mine.size)
+  to ← check (is_within call.roffset call.size theirs.size) (BadRange theirs.size)
+  Ok (Write (range_in mine call.seg call.offset call.size) (range_in theirs call.rseg call.roffset call.size) ∷ [])
 
 -- a notification
-abbrev pub notify_kinds : ℕ → ℕ → List (Option Extent) → List (List (Option Extent)) → ℕ → ℕ → ℕ → ℕ → Result (List Kind) Refusal
-notify_kinds notes me own known rseg rank note value = do
-  theirs ← found (known_extent me own known rank rseg) Unregistered
-  noted ← check (nat_lt note notes) BadNote
-  valued ← check (not (value == 0)) ZeroValue
-  Ok (Notify (record { segment = rseg; generation = theirs.generation; note = note }) value ∷ [])
+abbrev pub notify_kinds : ℕ → ℕ → List (Option Extent) → List (List (Option Extent)) → notify.Notify → Result (List Kind) Refusal
+notify_kinds notes me own known call = do
+  theirs ← found (known_extent me own known call.rank call.rseg) Unregistered
+  noted ← check (nat_lt call.note notes) BadNote
+  valued ← check (not (call.value == 0)) ZeroValue
+  Ok (Notify (slot_in theirs call.rseg call.note) call.value ∷ [])
 
 -- a write with its notification. The refusals stand in the order of all calls: segments, sizes, ranges, note, value
-abbrev pub write_notify_kinds : ℕ → ℕ → List (Option Extent) → List (List (Option Extent)) → ℕ → ℕ → ℕ → ℕ → ℕ → ℕ → ℕ → ℕ → Result (List Kind) Refusal
-write_notify_kinds notes me own known seg offset rank rseg roffset size note value = do
-  mine ← found (extent_in own seg) NoSegment
-  theirs ← found (known_extent me own known rank rseg) Unregistered
-  sized ← check (is_transfer_size size) BadSize
-  from ← check (is_within offset size mine.size) (BadRange mine.size)
-  to ← check (is_within roffset size theirs.size) (BadRange theirs.size)
-  noted ← check (nat_lt note notes) BadNote
-  valued ← check (not (value == 0)) ZeroValue
-  Ok (Write (record { segment = seg; generation = mine.generation; offset = offset; size = size }) (record { segment = rseg; generation = theirs.generation; offset = roffset; size = size })
-      ∷ Notify (record { segment = rseg; generation = theirs.generation; note = note }) value ∷ [])
+abbrev pub write_notify_kinds : ℕ → ℕ → List (Option Extent) → List (List (Option Extent)) → write_notify.WriteNotify → Result (List Kind) Refusal
+write_notify_kinds notes me own known call = do
+  mine ← found (extent_in own call.seg) NoSegment
+  theirs ← found (known_extent me own known call.rank call.rseg) Unregistered
+  sized ← check (is_transfer_size call.size) BadSize
+  from ← check (is_within call.offset call.size mine.size) (BadRange mine.size)
+  to ← check (is_within call.roffset call.size theirs.size) (BadRange theirs.size)
+  noted ← check (nat_lt call.note notes) BadNote
+  valued ← check (not (call.value == 0)) ZeroValue
+  Ok (Write (range_in mine call.seg call.offset call.size) (range_in theirs call.rseg call.roffset call.size)
+      ∷ Notify (slot_in theirs call.rseg call.note) call.value ∷ [])

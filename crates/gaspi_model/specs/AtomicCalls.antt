@@ -1,0 +1,35 @@
+-- The calls on a word of a segment of a rank: what they find, and what they leave. The memory is that of the rank.
+-- (GASPI: atomics)
+use Rattle.std.specs.Prelude.{ℕ, nat_lt, Option, Some, Result, Ok}
+use Rattle.gaspi_types.specs.Checks.{◌>>=◌, check, found}
+use Rattle.gaspi_types.specs.SegmentTables.{known_extent}
+use Rattle.gaspi_types.specs.SegmentWords.{word_checks, word_at, with_sum, with_swap}
+use Rattle.gaspi_types.specs.declared.calls.atomics.FetchAdd as fetch_add
+use Rattle.gaspi_types.specs.declared.calls.atomics.CompareSwap as compare_swap
+use Rattle.gaspi_types.specs.declared.shapes.Limits.{Limits}
+use Rattle.gaspi_types.specs.declared.replies.Refusal.{Refusal}
+use Rattle.gaspi_types.specs.declared.replies.Refusal.TheVariants.{BadRank, Unregistered}
+use Rattle.gaspi_types.specs.declared.replies.Reply.{Reply}
+use Rattle.gaspi_types.specs.declared.replies.Reply.TheVariants as replies
+use Rattle.gaspi_model.specs.State.{segment_at}
+use Rattle.gaspi_model.specs.Memories.{bytes_of, with_bytes, is_generation}
+use Rattle.gaspi_model.specs.declared.states.Posts.{Posts}
+use Rattle.gaspi_model.specs.declared.states.Memory.{Memory}
+
+-- An atomic of the word at an offset of a segment of a rank, which the caller knows, and which is there in the generation
+-- that the caller knows: what stood there. (atomic_fetch_add, atomic_compare_swap)
+abbrev pub word_finds : Limits → ℕ → Posts → Memory → ℕ → ℕ → ℕ → Result (Option Reply) Refusal
+word_finds limits me posts memory seg offset rank = do
+  ranked ← check (nat_lt rank limits.ranks) BadRank
+  theirs ← found (known_extent me posts.own posts.known rank seg) Unregistered
+  there ← check (is_generation theirs.generation (segment_at memory seg)) Unregistered
+  fits ← word_checks theirs.size offset
+  Ok (Some (replies.Value (word_at (bytes_of memory seg) offset)))
+
+-- (atomic_fetch_add)
+abbrev pub fetch_add_leaves : Memory → fetch_add.FetchAdd → Memory
+fetch_add_leaves memory call = with_bytes memory call.seg (with_sum (bytes_of memory call.seg) call.offset call.value)
+
+-- (atomic_compare_swap)
+abbrev pub compare_swap_leaves : Memory → compare_swap.CompareSwap → Memory
+compare_swap_leaves memory call = with_bytes memory call.seg (with_swap (bytes_of memory call.seg) call.offset call.comparator call.new)

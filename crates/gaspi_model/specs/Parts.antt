@@ -1,0 +1,81 @@
+-- The parts of the state that an event touches, and how a step on them alone is a step of the whole state. (own choice)
+use Rattle.std.specs.Prelude.{ℕ, List, [], Option, None, Some, Result, Ok, slice_get, slice_set}
+use Rattle.gaspi_types.specs.Checks.{◌>>=◌, found}
+use Rattle.gaspi_types.specs.declared.touches.Reach.{Reach}
+use Rattle.gaspi_types.specs.declared.touches.Reach.TheVariants.{Alone, OwnMemory, PeerMemory, PeerPosts}
+use Rattle.gaspi_model.specs.declared.states.Posts.{Posts}
+use Rattle.gaspi_model.specs.declared.states.Memory.{Memory}
+use Rattle.gaspi_model.specs.declared.states.State.{State}
+use Rattle.gaspi_model.specs.declared.states.Why.{Why}
+
+-- which parts are touched beside the owner's posts, by the numbers of their ranks
+pub record Touched : Type 0 where
+  pub memory : Option ℕ
+  pub peer_posts : Option ℕ
+  pub peer_memory : Option ℕ
+
+abbrev pub touched_of : ℕ → Reach → Touched
+touched_of me Alone = record { memory = None; peer_posts = None; peer_memory = None }
+touched_of me OwnMemory = record { memory = Some me; peer_posts = None; peer_memory = None }
+touched_of me (PeerMemory rank) = record { memory = None; peer_posts = None; peer_memory = Some rank }
+touched_of me (PeerPosts rank) = record { memory = None; peer_posts = Some rank; peer_memory = None }
+
+-- the owner's posts, and of the others those that are touched
+pub record Parts : Type 0 where
+  pub posts : Posts
+  pub memory : Option Memory
+  pub peer_posts : Option Posts
+  pub peer_memory : Option Memory
+
+-- an item of a table that is touched, and the table with it replaced
+abbrev pub part_at : {A : Type 0} → List A → Option ℕ → Option A
+part_at table None = None
+part_at table (Some place) = slice_get table place
+
+abbrev pub with_part : {A : Type 0} → List A → Option ℕ → Option A → List A
+with_part table None part = table
+with_part table (Some place) None = table
+with_part table (Some place) (Some x) = slice_set table place x
+
+abbrev pub parts_of : State → Posts → Touched → Parts
+parts_of s posts touched = record {
+  posts = posts;
+  memory = part_at s.memories touched.memory;
+  peer_posts = part_at s.posts touched.peer_posts;
+  peer_memory = part_at s.memories touched.peer_memory;
+}
+
+abbrev pub with_parts : State → ℕ → Touched → Parts → State
+with_parts s me touched parts = record s {
+  posts = with_part (slice_set s.posts me parts.posts) touched.peer_posts parts.peer_posts;
+  memories = with_part (with_part s.memories touched.memory parts.memory) touched.peer_memory parts.peer_memory;
+}
+
+-- A step on the parts that are touched, for the whole state: they are looked up, the step is made on them, and they are
+-- written back. Which they are is told by the owner's posts.
+abbrev pub lifted : State → ℕ → Why → (Posts → Touched) → (Parts → Result Parts Why) → Result State Why
+lifted s me missing touched local = do
+  posts ← found (slice_get s.posts me) missing
+  after ← local (parts_of s posts (touched posts))
+  Ok (with_parts s me (touched posts) after)
+
+-- a memory with no segment, and a memory that may be missing
+abbrev pub no_memory : Memory
+no_memory = record { segments = [] }
+
+abbrev pub memory_or_none : Option Memory → Memory
+memory_or_none None = no_memory
+memory_or_none (Some memory) = memory
+
+-- the memory that an event of that reach works on; where it works on none, one with no segment
+abbrev pub worked_memory : Reach → Parts → Memory
+worked_memory Alone parts = no_memory
+worked_memory OwnMemory parts = memory_or_none parts.memory
+worked_memory (PeerMemory rank) parts = memory_or_none parts.peer_memory
+worked_memory (PeerPosts rank) parts = no_memory
+
+abbrev pub with_worked_memory : Reach → Parts → Memory → Parts
+with_worked_memory Alone parts memory = parts
+with_worked_memory OwnMemory parts memory = record parts { memory = Some memory }
+with_worked_memory (PeerMemory rank) parts memory = record parts { peer_memory = Some memory }
+with_worked_memory (PeerPosts rank) parts memory = parts
