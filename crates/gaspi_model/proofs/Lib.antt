@@ -31,3 +31,4 @@ pub mod CallerEnds
 pub mod WorkedHistories
 pub mod Written
 pub mod EnabledEvents
+pub mod TableLengths

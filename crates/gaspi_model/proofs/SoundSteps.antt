@@ -27,7 +27,7 @@ use Rattle.gaspi_model.specs.Calls.{posts_done, plain_done, call_asks}
 use Rattle.gaspi_model.specs.Transfers.{Found, with_lane, with_phase, put_with, taken_bytes, Worked}
 use Rattle.gaspi_model.specs.Step.{step}
 use Rattle.gaspi_model.specs.Coherence.{IsCoherent}
-use Rattle.gaspi_model.specs.Sound.{failures, IsSoundPosts, IsSound, AreRising, events_left}
+use Rattle.gaspi_model.specs.Sound.{failures, HasTables, IsSoundPosts, IsSound, AreRising, events_left}
 use Rattle.gaspi_model.proofs.Rising.{AreRising-more, AreRising-phase, AreRising-remove, AreRising-post}
 use Rattle.gaspi_model.specs.declared.states.Queue.{Queue}
 use Rattle.gaspi_model.specs.declared.states.Posts.{Posts}
@@ -36,6 +36,7 @@ use Rattle.gaspi_model.specs.declared.states.State.{State}
 use Rattle.gaspi_model.proofs.Tables.{sum_by-changed, slice_get-set, length-changed_at}
 use Rattle.gaspi_model.proofs.Worked.{memory_rank, sound-called, sound-take, sound-put}
 use Rattle.gaspi_model.proofs.Told.{told, told-length, told-from, told-sum}
+use Rattle.gaspi_model.proofs.TableLengths.{after-tables, take-tables, put-tables, told-tables}
 use Rattle.gaspi_model.proofs.Successors.{generation-within}
 use Rattle.gaspi_model.proofs.Same.{same_reply-same}
 use Rattle.gaspi_model.proofs.Made.{IsFound, IsTake, IsPut, IsCalled, step-called, step-take, step-put}
@@ -217,6 +218,7 @@ called-sound limits me posts memory thread call reply after sound h =
     let room = leb-true _ _ h.room in
     let numbers = sound.numbers in
     rw h.leaves (record {
+      tables = after-tables limits me (is_idle reply) posts thread call sound.tables;
       lanes = keeps.lanes;
       room = omega arith;
       numbers = (let events = keeps.events in let next = keeps.numbers in omega arith);
@@ -246,6 +248,7 @@ take-sound limits posts memory queue target number outcome after at sound h =
     let rises = sound.rising queue at.queue h.is.in_posts target at.lane h.is.in_queue in
     let lane = with_phase at.lane at.place at.entry (phases.Carried (taken_bytes memory at.entry.kind)) in
     let made : IsSoundPosts limits (counted (with_lane posts queue target lane)) = record {
+      tables = subst (HasTables limits) h.leaves (take-tables limits posts memory queue target number outcome after at h sound.tables);
       lanes = lanes-with_lane limits.ranks posts queue target lane sound.lanes;
       room = (let same = ap (λ (p : Posts). p.events + owed p) h.leaves in omega arith);
       numbers = omega arith;
@@ -275,6 +278,7 @@ put-sound limits posts memory queue target number Applied after at sound h =
     let rises = sound.rising queue at.queue h.is.in_posts target at.lane h.is.in_queue in
     let lane = remove at.lane at.place in
     let made : IsSoundPosts limits (counted (with_lane posts queue target lane)) = record {
+      tables = subst (λ (w : Worked). HasTables limits w.posts) h.leaves (put-tables limits posts memory queue target number Applied after at h sound.tables);
       lanes = lanes-with_lane limits.ranks posts queue target lane sound.lanes;
       room = (let same = ap (λ (p : Worked). p.posts.events + owed p.posts) h.leaves in omega arith);
       numbers = omega arith;
@@ -296,6 +300,7 @@ put-sound limits posts memory queue target number Failed after at sound h =
     let lane = with_phase at.lane at.place at.entry phases.Failed in
     let change = λ (q : Queue). record q { broken = Some target; lanes = slice_set q.lanes target lane } in
     let made : IsSoundPosts limits (put_with posts memory queue target at Failed).posts = record {
+      tables = subst (λ (w : Worked). HasTables limits w.posts) h.leaves (put-tables limits posts memory queue target number Failed after at h sound.tables);
       lanes = lanes-changed limits.ranks posts.queues queue change (λ q. length-set q.lanes target lane) sound.lanes;
       room = (let same = ap (λ (p : Worked). p.posts.events + owed p.posts) h.leaves in omega arith);
       numbers = omega arith;
@@ -328,10 +333,12 @@ told-sound : (limits : Limits) (ranks me : ℕ) (p : Posts) (call : Call) (reply
     → (r : ℕ) (x : Posts) → slice_get (told ranks me p call reply all) r ≡ Some x → IsSoundPosts limits x
 told-sound limits ranks me p call reply all sound r x h =
     let from = told-from ranks me p call reply all r x h in
-    rw from.3 (known-sound from.0 from.1 (sound r from.0 from.2))
+    let tables = told-tables limits ranks me p call reply all (λ k y at. (sound k y at).tables) r x h in
+    rw from.3 (known-sound from.0 from.1 (subst (HasTables limits) from.3 tables) (sound r from.0 from.2))
   where
-    known-sound : (before : Posts) (known : List (List (Option Extent))) → IsSoundPosts limits before → IsSoundPosts limits (record before { known = known })
-    known-sound before known is = record {
+    known-sound : (before : Posts) (known : List (List (Option Extent))) → HasTables limits (record before { known = known }) → IsSoundPosts limits before → IsSoundPosts limits (record before { known = known })
+    known-sound before known tables is = record {
+      tables = tables;
       lanes = is.lanes;
       room = is.room;
       numbers = is.numbers;
