@@ -32,3 +32,4 @@ pub mod WorkedHistories
 pub mod Written
 pub mod EnabledEvents
 pub mod TableLengths
+pub mod Transferred
