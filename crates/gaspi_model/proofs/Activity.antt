@@ -31,7 +31,7 @@ use Rattle.gaspi_model.proofs.Told.{IsTold, told, told-get}
 use Rattle.gaspi_model.proofs.Made.{IsPut, memories_at, call_reach, put_reach, step-called, step-take, step-put}
 
 -- of a state with the posts of a rank replaced
-active-changed : (s : State) (table : List Posts) (o : ℕ) (posts after : Posts) → slice_get s.posts o ≡ Some posts → (memories : List Memory) (rank thread : ℕ)
+pub active-changed : (s : State) (table : List Posts) (o : ℕ) (posts after : Posts) → slice_get s.posts o ≡ Some posts → (memories : List Memory) (rank thread : ℕ)
     → ((o == rank) ≡ true → thread_at after thread ≡ thread_at posts thread)
     → is_active (record { limits = s.limits; posts = slice_set s.posts o after; memories = memories }) rank thread ≡ is_active s rank thread
 active-changed s table o posts after at memories rank thread same = go (o == rank) refl

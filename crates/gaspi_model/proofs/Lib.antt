@@ -33,3 +33,7 @@ pub mod Written
 pub mod EnabledEvents
 pub mod TableLengths
 pub mod Transferred
+pub mod Registered
+pub mod StaysSettled
+pub mod ListedSteps
+pub mod ListedOrder

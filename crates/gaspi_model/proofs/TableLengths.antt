@@ -1,8 +1,9 @@
 -- Every step keeps the lengths of all tables.
-use Rattle.std.proofs.Common.{◌≡◌, ℕ, Bool, true, false, ◌==◌, List, length, Option, None, Some, Result, Ok, Err, refl, sym, ap, ◌∙◌, subst, remove, if◌then◌else◌, ◌⊎◌, inl, inr}
+use Rattle.std.proofs.Common.{◌≡◌, ℕ, Bool, true, false, ◌==◌, List, length, Option, None, Some, Result, Ok, Err, refl, sym, ap, ◌∙◌, subst, arith, remove, if◌then◌else◌, ◌⊎◌, inl, inr}
 use Rattle.std.specs.List.{slice_get, slice_set}
 use Rattle.std.specs.Option.{option_map}
-use Rattle.std.proofs.lemmas.List.{length-set}
+use Rattle.std.proofs.lemmas.List.{length-set, length-map}
+use Rattle.std.proofs.lemmas.Option.{slice_get_within}
 use Rattle.gaspi_types.specs.CallRows.{row_of}
 use Rattle.gaspi_types.specs.SegmentTables.{extent_in}
 use Rattle.gaspi_types.specs.declared.call_rows.Posting.{Posting}
@@ -20,12 +21,14 @@ use Rattle.gaspi_model.specs.Posting.{changed_at, with_post, counted}
 use Rattle.gaspi_model.specs.SegmentCalls.{with_known}
 use Rattle.gaspi_model.specs.Calls.{plain_done, posts_done, call_asks}
 use Rattle.gaspi_model.specs.Transfers.{Found, Worked, with_lane}
-use Rattle.gaspi_model.specs.Sound.{HasTables}
+use Rattle.gaspi_model.specs.Coherence.{extent_of}
+use Rattle.gaspi_model.specs.Sound.{HasTables, IsSound}
+use Rattle.gaspi_model.specs.declared.states.State.{State}
 use Rattle.gaspi_model.specs.declared.states.Queue.{Queue}
 use Rattle.gaspi_model.specs.declared.states.Posts.{Posts}
 use Rattle.gaspi_model.specs.declared.states.Memory.{Memory}
 use Rattle.gaspi_model.proofs.Made.{IsTake, IsPut}
-use Rattle.gaspi_model.proofs.Tables.{length-changed_at}
+use Rattle.gaspi_model.proofs.Tables.{length-changed_at, there-within}
 use Rattle.gaspi_model.proofs.Told.{changed_at-get, told, told-cases}
 
 -- the same tables with the queues, or with the known segments, replaced
@@ -152,3 +155,11 @@ told-tables limits ranks me p call reply all have r x h =
         let some : ◌≡◌ {A = Option Posts} (Some (with_known me seg (extent_in p.own seg) y)) (Some x) = rw (is, at) at h in
         let new : with_known me seg (extent_in p.own seg) y ≡ x = cc in
         rw (sym new) (known-tables limits me seg (extent_in p.own seg) y (have r y at))
+
+-- a memory has a place for each number of a segment
+pub segment-places : (s : State) (rank : ℕ) (memory : Memory) → IsSound s → slice_get s.memories rank ≡ Some memory → length memory.segments ≡ 32
+segment-places s rank memory sound at =
+    let within = slice_get_within s.memories rank memory at in
+    let there = there-within s.posts rank (let ranks = sound.ranks in let memories = sound.memories in omega arith) in
+    let own = sound.coherent.own rank there.0 memory there.1 at in
+    sym (length-map memory.segments (option_map extent_of)) ∙ sym (ap length own) ∙ (sound.posts rank there.0 there.1).tables.own

@@ -1,13 +1,14 @@
 //! Laws of the machine: the contracts of functions that do nothing.
 
-ghost use Rattle.std.specs.Prelude.{◌≡◌, ◌≢◌, ℕ, ◌+◌, ◌%◌, ◌^◌, ◌<◌, ◌≤◌, ◌∷◌, ◌++◌, [], List, Ok, Some, IsOk, true, false, slice_get};
+ghost use Rattle.std.specs.Prelude.{◌≡◌, ◌≢◌, ℕ, ◌+◌, ◌%◌, ◌^◌, ◌<◌, ◌≤◌, ◌∷◌, ◌++◌, [], List, Ok, Some, IsOk, true, false, length, slice_get};
 ghost use Rattle.byteorder.specs.Endian.{little_bytes};
 ghost use Rattle.gaspi_types.specs.CallRows.{need_of};
 ghost use Rattle.gaspi_types.specs.Replies.{is_idle};
 ghost use Rattle.std.specs.List.{list_any, count_by};
 ghost use Rattle.gaspi_types.specs.World.{World, IsWorld, is_caller};
 ghost use Rattle.gaspi_types.specs.declared.calls.Call.{Call};
-ghost use Rattle.gaspi_types.specs.declared.calls.Call.TheVariants.{Store, Write, Notify, WriteNotify, FetchAdd, CompareSwap, End};
+ghost use Rattle.gaspi_types.specs.declared.calls.Call.TheVariants.{Register, Store, Write, Notify, WriteNotify, FetchAdd, CompareSwap, End};
+ghost use Rattle.gaspi_types.specs.declared.calls.segments.Register as register;
 ghost use Rattle.gaspi_types.specs.declared.calls.memory.Store as store;
 ghost use Rattle.gaspi_types.specs.declared.calls.posts.Write as write;
 ghost use Rattle.gaspi_types.specs.declared.calls.posts.Notify as notify;
@@ -15,28 +16,31 @@ ghost use Rattle.gaspi_types.specs.declared.calls.posts.WriteNotify as write_not
 ghost use Rattle.gaspi_types.specs.declared.calls.atomics.FetchAdd as fetch_add;
 ghost use Rattle.gaspi_types.specs.declared.calls.atomics.CompareSwap as compare_swap;
 ghost use Rattle.gaspi_types.specs.declared.events.Event.{Event};
-ghost use Rattle.gaspi_types.specs.declared.events.Event.TheVariants.{Called, Put};
-ghost use Rattle.gaspi_types.specs.declared.events.Outcome.TheVariants.{Applied};
+ghost use Rattle.gaspi_types.specs.declared.events.Event.TheVariants.{Called, Take, Put};
+ghost use Rattle.gaspi_types.specs.declared.events.Outcome.TheVariants.{Applied, Failed};
+ghost use Rattle.gaspi_types.specs.declared.events.Outcome.{Outcome};
 ghost use Rattle.gaspi_types.specs.declared.events.Transfer.{Transfer};
 ghost use Rattle.gaspi_types.specs.declared.replies.Ready.{Ready};
 ghost use Rattle.gaspi_types.specs.declared.replies.Reply.{Reply};
 ghost use Rattle.gaspi_types.specs.declared.replies.Reply.TheVariants as replies;
 ghost use Rattle.gaspi_types.specs.declared.shapes.CallerId.{CallerId};
 ghost use Rattle.gaspi_model.specs.Calls.{recorded_reply};
-ghost use Rattle.gaspi_model.specs.Changes.{IsOnlyCounted, IsPutDone, IsWritten, is_corrupt};
+ghost use Rattle.gaspi_model.specs.Changes.{IsOnlyCounted, IsPutDone, IsPutFailed, IsTaken, IsRegistered, IsWritten, is_corrupt};
 ghost use Rattle.gaspi_model.specs.Order.{IsNotificationStanding, IsWriteStanding};
 ghost use Rattle.gaspi_model.specs.Shards.{AgreeOn, ComeToSame, HaveSamePart, is_shard, same_shard, footprint, numbers_of, is_among};
 ghost use Rattle.gaspi_model.specs.declared.states.Shard.{Shard};
 ghost use Rattle.gaspi_model.specs.declared.states.Shard.TheVariants as shards;
-ghost use Rattle.gaspi_model.specs.Settled.{AreLanesEmpty};
+ghost use Rattle.gaspi_model.specs.Settled.{AreLanesEmpty, IsSettled};
 ghost use Rattle.gaspi_model.specs.State.{opening};
-ghost use Rattle.gaspi_model.specs.Step.{step, owner_of, reached, own_calls, is_legal, ends_caller, answer_in, is_active, room_taken, transfer_event};
+ghost use Rattle.gaspi_model.specs.Step.{step, owner_of, after, reached, own_calls, is_legal, ends_caller, answer_in, is_active, room_taken, transfer_event};
 ghost use Rattle.gaspi_model.specs.Sound.{IsSound, events_left};
-ghost use Rattle.gaspi_model.specs.Transfers.{transfers};
+ghost use Rattle.gaspi_model.specs.Transfers.{transfers, is_earlier};
 ghost use Rattle.gaspi_model.specs.declared.states.Posts.{Posts};
+ghost use Rattle.gaspi_model.specs.declared.states.Memory.{Memory};
 ghost use Rattle.gaspi_model.specs.declared.states.State.{State};
 
-/// The opening state is sound, and every step keeps a state sound, so every state of a legal history is: what a rank has
+/// The opening state is sound, and every step keeps a state sound, so every state of a legal history is: every table has an
+/// item for each queue, rank, thread, number of a segment and slot; what a rank has
 /// recorded and owes is at most EVENTS; its next entry number is at most 256 times its events, and the next generation of
 /// a segment number at most one more than its events; the numbers of a lane rise and are below its origin's next number; a
 /// lane has at most DEPTH carried entries; the entries of a queue from its least posted one on are at most its open count,
@@ -48,6 +52,8 @@ pub fn soundness()
     ensures steps { (s t : State) (e : Event) → IsSound s → step s e ≡ Ok t → IsSound t }
     ensures histories { (w : World) (history : List Event) (s : State) → IsWorld w → reached w history ≡ Ok s → IsSound s }
     ensures limits { (s t : State) (e : Event) → step s e ≡ Ok t → t.limits ≡ s.limits }
+    // A memory has a place for each number of a segment.
+    ensures segments { (s : State) (rank : ℕ) (memory : Memory) → IsSound s → slice_get s.memories rank ≡ Some memory → length memory.segments ≡ 32 }
     // Each event takes one of the events that are left.
     ensures counts { (s t : State) (e : Event) → IsSound s → step s e ≡ Ok t → events_left t + 1 ≡ events_left s }
     // A caller goes on until its end.
@@ -66,12 +72,20 @@ pub fn enabled()
 {}
 
 /// What events change. A put that is made changes exactly the range or the one slot that its entry states, and takes the
-/// entry out of its lane; a store changes exactly its range, and an atomic exactly its word, a `compare_swap` only where
+/// entry out of its lane; one that fails leaves its entry failed in its place, its queue broken and its target corrupt; a
+/// take takes the bytes that the entry's source has now; a segment that is made known is known in its present generation and
+/// size to the rank that is named; a store changes exactly its range, and an atomic exactly its word, a `compare_swap` only where
 /// it answers the comparator; a refusal or a timeout changes nothing; and in each case nothing else has changed but the
-/// count of events. (GASPI: one-sided communication, notifications, atomics, timeouts)
+/// count of events. (GASPI: one-sided communication, notifications, state vector, segments, atomics, timeouts)
 pub fn changes()
     ensures put { (s t : State) (origin queue target number : ℕ) → IsSound s → step s (Put origin queue target number Applied) ≡ Ok t
         → IsPutDone s t origin queue target number }
+    ensures failed { (s t : State) (origin queue target number : ℕ) → IsSound s → step s (Put origin queue target number Failed) ≡ Ok t
+        → IsPutFailed s t origin queue target number }
+    ensures taken { (s t : State) (origin queue target number : ℕ) (outcome : Outcome) → IsSound s → step s (Take origin queue target number outcome) ≡ Ok t
+        → IsTaken s t origin queue target number }
+    ensures registered { (s t : State) (c : CallerId) (call : register.Register) → IsSound s → step s (Called c (Register call) replies.Done) ≡ Ok t
+        → IsRegistered s t c.rank call.seg call.rank }
     ensures idle { (s t : State) (c : CallerId) (call : Call) (reply : Reply) → is_idle reply ≡ true → step s (Called c call reply) ≡ Ok t
         → IsOnlyCounted s t c.rank }
     ensures store { (s t : State) (c : CallerId) (call : store.Store) → IsSound s → step s (Called c (Store call) replies.Done) ≡ Ok t
@@ -142,9 +156,21 @@ pub fn coarser_locality()
 {}
 
 /// Where no transfer may come next, every lane of a queue that is not broken is empty: nothing stands still for want of
-/// room.
+/// room. A state that is settled stays so, whatever legally comes after it.
 pub fn settling()
-    ensures { (s : State) → IsSound s → transfers s.limits s.posts ≡ [] → AreLanesEmpty s }
+    ensures empties { (s : State) → IsSound s → transfers s.limits s.posts ≡ [] → AreLanesEmpty s }
+    ensures stays { (s t : State) (events : List Event) → IsSettled s → after s events ≡ Ok t → IsSettled t }
+{}
+
+/// The transfers that may come next are listed exactly: one whose event is a step stands in the list, and (as `enabled`
+/// says) what stands there is a step; they stand by origin, queue, target and number, so none of them twice.
+pub fn listing()
+    ensures take { (s t : State) (origin queue target number : ℕ) (outcome : Outcome) → step s (Take origin queue target number outcome) ≡ Ok t
+        → (k : ℕ) × (slice_get (transfers s.limits s.posts) k ≡ Some (record { origin = origin; queue = queue; target = target; number = number; put = false })) }
+    ensures put { (s t : State) (origin queue target number : ℕ) (outcome : Outcome) → step s (Put origin queue target number outcome) ≡ Ok t
+        → (k : ℕ) × (slice_get (transfers s.limits s.posts) k ≡ Some (record { origin = origin; queue = queue; target = target; number = number; put = true })) }
+    ensures order { (s : State) (j k : ℕ) (a b : Transfer) → IsSound s → j < k → slice_get (transfers s.limits s.posts) j ≡ Some a → slice_get (transfers s.limits s.posts) k ≡ Some b
+        → is_earlier a b ≡ true }
 {}
 
 /// A caller that is active after a history is one of the world's, and has not recorded its end: so one that has is
