@@ -201,14 +201,18 @@ step-called s t c call reply h =
     let worked = worked-at s posts c.rank reach in
     let ends = lifted-after s c.rank reach posts after.posts after.memory (peer_after c.rank posts call reply) (peer-apart s.limits.ranks c.rank (row_of call).touch) in
     let told_is = told-changed posts (slice_set s.posts c.rank after.posts) in
-    let state : t ≡ with_parts s c.rank (touched_of c.rank reach) parts = sym (same_Ok _ _ h2) in
-    (posts, memory_at reach c.rank s.memories, after, record {
-      posts_there = hp;
-      worked = refl;
-      is = called-ok _ _ _ _ _ _ _ _ (subst (λ (m : Memory). called s.limits c.rank posts m c.thread call reply ≡ Ok after) worked ha);
-      leaves = state ∙ ap (with_parts s c.rank (touched_of c.rank reach)) (sym (same_Ok _ _ h3)) ∙ ends
-          ∙ ap (λ (x : List Posts). record s { posts = x; memories = memories_at reach c.rank after.memory s.memories }) told_is;
-    }))))
+    let state : t ≡ with_parts s c.rank (touched_of c.rank reach) parts = sym (same_Ok _ _ h2) in (
+      posts,
+      memory_at reach c.rank s.memories,
+      after,
+      record {
+        posts_there = hp;
+        worked = refl;
+        is = called-ok _ _ _ _ _ _ _ _ (subst (λ (m : Memory). called s.limits c.rank posts m c.thread call reply ≡ Ok after) worked ha);
+        leaves = state ∙ ap (with_parts s c.rank (touched_of c.rank reach)) (sym (same_Ok _ _ h3)) ∙ ends
+            ∙ ap (λ (x : List Posts). record s { posts = x; memories = memories_at reach c.rank after.memory s.memories }) told_is;
+      },
+    ))))
   where
     reach : Reach
     reach = call_reach s.limits.ranks c.rank call
@@ -259,20 +263,25 @@ step-take s t origin queue target number outcome h =
     bind_then (take s.limits posts (worked_memory (reach posts) (parts_of s posts (touched_of origin (reach posts)))) queue target number outcome) _ parts hl (λ after ha h3.
     let taken = take-ok s.limits posts _ queue target number outcome after ha in
     let found = entry-found posts queue target number taken.0 taken.1.is in
-    let state : t ≡ with_parts s origin (touched_of origin (reach posts)) parts = sym (same_Ok _ _ h2) in
-    (posts, memory_or_none (slice_get s.memories origin), after, taken.0, record {
-      posts_there = hp;
-      worked = refl;
-      is = record {
-        is = taken.1.is;
-        whole = taken.1.whole;
-        permitted = taken.1.permitted;
-        applied = taken.1.applied;
-        leaves = taken.1.leaves ∙ ap (λ (bytes : List ℕ). counted (with_lane posts queue target (with_phase taken.0.lane taken.0.place taken.0.entry (phases.Carried bytes))))
-            (takes posts taken.0.entry.kind taken.0.entry found refl);
-      };
-      leaves = state ∙ ap (with_parts s origin (touched_of origin (reach posts))) (sym (same_Ok _ _ h3)) ∙ leaves posts after taken.0.entry.kind taken.0.entry found refl;
-    }))))
+    let state : t ≡ with_parts s origin (touched_of origin (reach posts)) parts = sym (same_Ok _ _ h2) in (
+      posts,
+      memory_or_none (slice_get s.memories origin),
+      after,
+      taken.0,
+      record {
+        posts_there = hp;
+        worked = refl;
+        is = record {
+          is = taken.1.is;
+          whole = taken.1.whole;
+          permitted = taken.1.permitted;
+          applied = taken.1.applied;
+          leaves = taken.1.leaves ∙ ap (λ (bytes : List ℕ). counted (with_lane posts queue target (with_phase taken.0.lane taken.0.place taken.0.entry (phases.Carried bytes))))
+              (takes posts taken.0.entry.kind taken.0.entry found refl);
+        };
+        leaves = state ∙ ap (with_parts s origin (touched_of origin (reach posts))) (sym (same_Ok _ _ h3)) ∙ leaves posts after taken.0.entry.kind taken.0.entry found refl;
+      },
+    ))))
   where
     reach : Posts → Reach
     reach posts = reach_of s.limits.ranks origin (entry_touch take_touch (entry_in posts queue target number))
@@ -297,16 +306,21 @@ step-put s t origin queue target number outcome h =
     let made = put-ok posts _ queue target number outcome after ha in
     let found = entry-found posts queue target number made.0 made.1.is in
     let reaches = reach-is posts made.0.entry.kind made.0.entry found refl in
-    let state : t ≡ with_parts s origin (touched_of origin (reach posts)) parts = sym (same_Ok _ _ h2) in
-    (posts, memory_at (put_reach s.limits.ranks origin target) origin s.memories, after, made.0, record {
-      posts_there = hp;
-      worked = refl;
-      is = subst (λ (m : Memory). IsPut posts m queue target number outcome after made.0)
-          (worked-at s posts origin (reach posts) ∙ ap (λ (r : Reach). memory_at r origin s.memories) reaches) made.1;
-      leaves = state ∙ ap (with_parts s origin (touched_of origin (reach posts))) (sym (same_Ok _ _ h3))
-          ∙ leaves posts after (reach posts) (λ rank is. put-alone rank (sym reaches ∙ is))
-          ∙ ap (λ (r : Reach). record s { posts = slice_set s.posts origin after.posts; memories = memories_at r origin after.memory s.memories }) reaches;
-    }))))
+    let state : t ≡ with_parts s origin (touched_of origin (reach posts)) parts = sym (same_Ok _ _ h2) in (
+      posts,
+      memory_at (put_reach s.limits.ranks origin target) origin s.memories,
+      after,
+      made.0,
+      record {
+        posts_there = hp;
+        worked = refl;
+        is = subst (λ (m : Memory). IsPut posts m queue target number outcome after made.0)
+            (worked-at s posts origin (reach posts) ∙ ap (λ (r : Reach). memory_at r origin s.memories) reaches) made.1;
+        leaves = state ∙ ap (with_parts s origin (touched_of origin (reach posts))) (sym (same_Ok _ _ h3))
+            ∙ leaves posts after (reach posts) (λ rank is. put-alone rank (sym reaches ∙ is))
+            ∙ ap (λ (r : Reach). record s { posts = slice_set s.posts origin after.posts; memories = memories_at r origin after.memory s.memories }) reaches;
+      },
+    ))))
   where
     reach : Posts → Reach
     reach posts = reach_of s.limits.ranks origin (entry_touch (put_touch target) (entry_in posts queue target number))

@@ -74,6 +74,11 @@ registered s t c call sound h =
         let tables = (sound.posts call.rank theirs.0 theirs.1).tables in
         let known = there-within theirs.0.known c.rank (let many = tables.known in let ranks = sound.ranks in omega arith) in
         let elsewhere : slice_get (slice_set s.posts c.rank (counted posts)) call.rank ≡ Some theirs.0 = slice_get-set_other s.posts c.rank call.rank (counted posts) (λ same. apart (sym same)) ∙ theirs.1 in
-        let knows : with_known c.rank call.seg (extent_in posts.own call.seg) theirs.0 ≡ with_told theirs.0 c.rank call.seg found.extent known.0 = rw (found.there, known.1) refl in
-        (theirs.0, known.0, theirs.1, known.1, state ∙ rw (is, found.ranked, elsewhere)
-        (ap (λ (x : Posts). record s { posts = slice_set (slice_set s.posts c.rank (counted posts)) call.rank x }) knows))
+        let knows : with_known c.rank call.seg (extent_in posts.own call.seg) theirs.0 ≡ with_told theirs.0 c.rank call.seg found.extent known.0 = rw (found.there, known.1) refl in (
+          theirs.0,
+          known.0,
+          theirs.1,
+          known.1,
+          state ∙ rw (is, found.ranked, elsewhere)
+              (ap (λ (x : Posts). record s { posts = slice_set (slice_set s.posts c.rank (counted posts)) call.rank x }) knows),
+        )

@@ -154,27 +154,37 @@ called-there s t c call reply has h =
         → memory_at (call_reach s.limits.ranks c.rank call) c.rank s.memories ≡ memory
         → memories_at (call_reach s.limits.ranks c.rank call) c.rank after.memory s.memories ≡ slice_set s.memories (memory_rank s.limits c.rank call) after.memory
         → (posts : Posts) × (memory : Memory) × (after : Worked) × IsCalledThere s t c call reply posts memory after
-    worked posts m after made memory there same sets = (posts, memory, after, record {
-      posts_there = made.posts_there;
-      memory_there = there;
-      is = subst (λ (x : Memory). IsCalled s.limits c.rank posts x c.thread call reply after) (made.worked ∙ same) made.is;
-      leaves = made.leaves
-          ∙ ap (λ (x : List Memory). record s { posts = told s.limits.ranks c.rank posts call reply (slice_set s.posts c.rank after.posts); memories = x }) sets;
-    })
+    worked posts m after made memory there same sets = (
+      posts,
+      memory,
+      after,
+      record {
+        posts_there = made.posts_there;
+        memory_there = there;
+        is = subst (λ (x : Memory). IsCalled s.limits c.rank posts x c.thread call reply after) (made.worked ∙ same) made.is;
+        leaves = made.leaves
+            ∙ ap (λ (x : List Memory). record s { posts = told s.limits.ranks c.rank posts call reply (slice_set s.posts c.rank after.posts); memories = x }) sets;
+      },
+    )
 
     -- none is
     unworked : (posts : Posts) (m : Memory) (after : Worked) → IsCalledStep s t c call reply posts m after → (memory : Memory) → slice_get s.memories (memory_rank s.limits c.rank call) ≡ Some memory
         → is_unworked (call_reach s.limits.ranks c.rank call) ≡ true
         → memories_at (call_reach s.limits.ranks c.rank call) c.rank after.memory s.memories ≡ s.memories
         → (posts : Posts) × (memory : Memory) × (after : Worked) × IsCalledThere s t c call reply posts memory after
-    unworked posts m after made memory there none same = (posts, memory, record { posts = after.posts; memory = memory }, record {
-      posts_there = made.posts_there;
-      memory_there = there;
-      is = called-unworked s.limits c.rank posts m memory c.thread call reply after none made.is;
-      leaves = made.leaves
-          ∙ ap (λ (x : List Memory). record s { posts = told s.limits.ranks c.rank posts call reply (slice_set s.posts c.rank after.posts); memories = x })
-          (same ∙ sym (set-there s.memories (memory_rank s.limits c.rank call) memory there));
-    })
+    unworked posts m after made memory there none same = (
+      posts,
+      memory,
+      record { posts = after.posts; memory = memory },
+      record {
+        posts_there = made.posts_there;
+        memory_there = there;
+        is = called-unworked s.limits c.rank posts m memory c.thread call reply after none made.is;
+        leaves = made.leaves
+            ∙ ap (λ (x : List Memory). record s { posts = told s.limits.ranks c.rank posts call reply (slice_set s.posts c.rank after.posts); memories = x })
+            (same ∙ sym (set-there s.memories (memory_rank s.limits c.rank call) memory there));
+      },
+    )
 
     by-reach : (r : Reach) → call_reach s.limits.ranks c.rank call ≡ r → (posts : Posts) (m : Memory) (after : Worked) → IsCalledStep s t c call reply posts m after
         → (memory : Memory) → slice_get s.memories (memory_rank s.limits c.rank call) ≡ Some memory
@@ -247,13 +257,18 @@ pub sound-take : (s t : State) (origin queue target number : ℕ) (outcome : Out
     → (posts : Posts) × (memory : Memory) × (after : Posts) × (at : Found) × IsTakeThere s t origin queue target number outcome posts memory after at
 sound-take s t origin queue target number outcome sound h =
     let made = step-take s t origin queue target number outcome h in
-    let m = made.4 in
-    (made.0, made.1, made.2, made.3, record {
-      posts_there = m.posts_there;
-      memory_there = take-there s t origin queue target number outcome (has-memories s sound) made.0 made.1 made.2 made.3 m;
-      is = m.is;
-      leaves = m.leaves;
-    })
+    let m = made.4 in (
+      made.0,
+      made.1,
+      made.2,
+      made.3,
+      record {
+        posts_there = m.posts_there;
+        memory_there = take-there s t origin queue target number outcome (has-memories s sound) made.0 made.1 made.2 made.3 m;
+        is = m.is;
+        leaves = m.leaves;
+      },
+    )
 
 pub sound-put : (s t : State) (origin queue target number : ℕ) (outcome : Outcome) → IsSound s → step s (Put origin queue target number outcome) ≡ Ok t
     → (posts : Posts) × (memory : Memory) × (after : Worked) × (at : Found) × IsPutThere s t origin queue target number outcome posts memory after at
