@@ -23,7 +23,8 @@ use Rattle.gaspi_types.specs.declared.shapes.CallerId.{CallerId}
 use Rattle.gaspi_types.specs.declared.events.Event.{Event}
 use Rattle.gaspi_types.specs.declared.events.Event.TheVariants.{Called}
 use Rattle.gaspi_types.specs.declared.events.Outcome.{Outcome}
-use Rattle.call_texts.specs.CallText.{◌>>=◌, recorded_call_of, IsNumber, IsWritable}
+use Rattle.call_texts.specs.CallText.{recorded_call_of, IsWritable}
+use Rattle.call_texts.specs.Fields.{◌>>=◌, IsNumber}
 use Rattle.gaspi_texts.specs.declared.event_reading.Moved.{Moved}
 use Rattle.gaspi_texts.specs.declared.reply_words.ReplyWord.{ReplyWord}
 use Rattle.gaspi_texts.specs.declared.reply_words.ReplyWord.TheVariants as reply_words

@@ -5,7 +5,7 @@ use Rattle.std.specs.List.{join_with_byte, AllByRecursion}
 use Rattle.std.specs.Option.{option_map, option_map_or}
 use Rattle.std.specs.Str.{bytes_eq}
 use Rattle.hex.specs.Hex.{IsBytes}
-use Rattle.call_texts.specs.CallText.{◌>>=◌}
+use Rattle.call_texts.specs.Fields.{◌>>=◌}
 use Rattle.call_texts.specs.Hex.{bytes_of, hex_text}
 use Rattle.call_texts.specs.Numbers.{number_of, value_of}
 use Rattle.gaspi_types.specs.Replies.{refusal_number, refusal_fields}
