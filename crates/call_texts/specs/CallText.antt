@@ -97,22 +97,22 @@ pub record Spelled : Type 0 where
 
 -- what spells a call; the end of a caller has a word of its own, which no script has
 abbrev pub spelled : Call → Option Spelled
-spelled (calls.Alloc c) = Some (record { word = Alloc; fields = (c.seg, (c.size, tt)) })
-spelled (calls.Register c) = Some (record { word = Register; fields = (c.seg, (c.rank, tt)) })
-spelled (calls.Delete c) = Some (record { word = Delete; fields = (c.seg, tt) })
-spelled (calls.Store c) = Some (record { word = Store; fields = (c.seg, (c.offset, (c.bytes, tt))) })
-spelled (calls.Load c) = Some (record { word = Load; fields = (c.seg, (c.offset, (c.size, tt))) })
-spelled (calls.Write c) =
-    Some (record { word = Write; fields = (c.seg, (c.offset, (c.rank, (c.rseg, (c.roffset, (c.size, (c.queue, tt))))))) })
-spelled (calls.Notify c) = Some (record { word = Notify; fields = (c.rseg, (c.rank, (c.note, (c.value, (c.queue, tt))))) })
-spelled (calls.WriteNotify c) =
-    Some (record { word = WriteNotify; fields = (c.seg, (c.offset, (c.rank, (c.rseg, (c.roffset, (c.size, (c.note, (c.value, (c.queue, tt))))))))) })
-spelled (calls.Wait c) = Some (record { word = Wait; fields = (c.queue, tt) })
-spelled (calls.Waitsome c) = Some (record { word = Waitsome; fields = (c.seg, (c.begin, (c.num, tt))) })
-spelled (calls.Reset c) = Some (record { word = Reset; fields = (c.seg, (c.note, tt)) })
-spelled (calls.FetchAdd c) = Some (record { word = FetchAdd; fields = (c.seg, (c.offset, (c.rank, (c.value, tt)))) })
-spelled (calls.CompareSwap c) =
-    Some (record { word = CompareSwap; fields = (c.seg, (c.offset, (c.rank, (c.comparator, (c.new, tt))))) })
+spelled (calls.Alloc call) = Some (record { word = Alloc; fields = (call.seg, (call.size, tt)) })
+spelled (calls.Register call) = Some (record { word = Register; fields = (call.seg, (call.rank, tt)) })
+spelled (calls.Delete call) = Some (record { word = Delete; fields = (call.seg, tt) })
+spelled (calls.Store call) = Some (record { word = Store; fields = (call.seg, (call.offset, (call.bytes, tt))) })
+spelled (calls.Load call) = Some (record { word = Load; fields = (call.seg, (call.offset, (call.size, tt))) })
+spelled (calls.Write call) =
+    Some (record { word = Write; fields = (call.seg, (call.offset, (call.rank, (call.rseg, (call.roffset, (call.size, (call.queue, tt))))))) })
+spelled (calls.Notify call) = Some (record { word = Notify; fields = (call.rseg, (call.rank, (call.note, (call.value, (call.queue, tt))))) })
+spelled (calls.WriteNotify call) =
+    Some (record { word = WriteNotify; fields = (call.seg, (call.offset, (call.rank, (call.rseg, (call.roffset, (call.size, (call.note, (call.value, (call.queue, tt))))))))) })
+spelled (calls.Wait call) = Some (record { word = Wait; fields = (call.queue, tt) })
+spelled (calls.Waitsome call) = Some (record { word = Waitsome; fields = (call.seg, (call.begin, (call.num, tt))) })
+spelled (calls.Reset call) = Some (record { word = Reset; fields = (call.seg, (call.note, tt)) })
+spelled (calls.FetchAdd call) = Some (record { word = FetchAdd; fields = (call.seg, (call.offset, (call.rank, (call.value, tt)))) })
+spelled (calls.CompareSwap call) =
+    Some (record { word = CompareSwap; fields = (call.seg, (call.offset, (call.rank, (call.comparator, (call.new, tt))))) })
 spelled calls.End = None
 
 -- the call that a word with its fields spells
