@@ -1,5 +1,5 @@
 -- What words spell is in range.
-use Rattle.std.proofs.Common.{◌≡◌, ℕ, ℤ, ◌+◌, ◌^◌, ◌<◌, Bool, true, false, ◌==◌, if◌then◌else◌, nat_lt, List, [], ◌∷◌, take, drop, position, codes, Option, Some, None, IfSome, refl, sym, subst, arith}
+use Rattle.std.proofs.Common.{◌≡◌, ℕ, ℤ, ◌+◌, ◌^◌, ◌<◌, Bool, true, false, ◌==◌, if◌then◌else◌, nat_lt, List, [], ◌∷◌, take, drop, position, codes, Option, Some, None, IfSome, refl, sym, subst, arith, rules}
 use Rattle.std.specs.List.{AllByRecursion}
 use Rattle.std.specs.Option.{option_map}
 use Rattle.std.specs.Str.{bytes_eq}
@@ -77,8 +77,7 @@ abbrev IsFair : RefusalRow → Type 0
 IsFair row = (held : Held row.form) → refusal_fields (row.made held) ≡ numbers_of_held row.form held
 
 rows-fair : AllByRecursion (λ row. IsFair row.1) refusal_rows
-rows-fair =
-    (λ held. refl, (λ held. refl, (λ held. refl, (λ held. refl, (λ held. refl, (λ held. refl, (λ held. refl, (λ held. refl, (λ held. refl, (λ held. refl, (λ held. refl, (λ held. refl, (λ held. refl, (λ held. refl, (λ held. refl, (λ held. refl, (λ held. refl, (λ held. refl, (λ held. refl, (λ held. refl, (λ held. refl, (λ held. refl, (λ held. refl, (λ held. refl, (λ held. refl, tt)))))))))))))))))))))))))
+rows-fair = search rules
 
 row_in-fair : (number : ℕ) (rows : List (ℕ × RefusalRow)) → AllByRecursion (λ row. IsFair row.1) rows → IfSome (row_in number rows) IsFair
 row_in-fair number [] h = tt
