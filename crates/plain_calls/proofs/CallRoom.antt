@@ -119,7 +119,7 @@ alloc_room limits posts call reply limited sound is =
     (grind (arith, nat_tests), grind (arith, nat_tests)))))
 
 -- the post of a call that was found
-posted : (limits : Limits) (me : ℕ) (posts : Posts) (memory : Memory) (thread : ℕ) (call : Call) (reply : Reply) (posting : Posting)
+pub posted : (limits : Limits) (me : ℕ) (posts : Posts) (memory : Memory) (thread : ℕ) (call : Call) (reply : Reply) (posting : Posting)
     → (p : IsPosting limits me posts call posting) → (f : IsFound limits me posts memory thread call reply) → IsPost limits posts posting.rank posting.queue p.asked f.reply_found
 posted limits me posts memory thread call reply posting p f = post_by limits posts posting.rank posting.queue p.asked f.reply_found (sym (p.finds memory) ∙ f.finds)
 
