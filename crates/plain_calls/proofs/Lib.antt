@@ -3,3 +3,4 @@ pub mod CallRoom
 pub mod Chains
 pub mod Items
 pub mod Owed
+pub mod Postings

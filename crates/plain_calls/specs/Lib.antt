@@ -1,3 +1,3 @@
 pub mod Memory
-pub mod Posting
 pub mod Room
+pub mod Telling

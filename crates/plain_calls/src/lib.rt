@@ -1,17 +1,26 @@
-//! What a call answers and what it leaves, in the posts of its caller's rank and in the memory that it works on. The machine
-//! is put together from it.
+//! What a call answers and what it leaves, in the posts of its caller's rank, in the memory that it works on and in the
+//! posts of a peer that it names. The machine is put together from it.
 #![tactic(auto)]
 
-mod asked;
+mod atomic_calls;
 mod calls;
 mod lanes;
 mod memories;
-mod posts;
+mod memory_calls;
+mod notification_calls;
+mod post_calls;
+mod posting;
+mod queue_calls;
 mod recording;
 mod replies;
+mod segment_calls;
+mod tables;
+mod threads;
 
-pub use calls::{answer, is_running, thread_at};
+pub use calls::{answer, news, tell};
 pub use lanes::{is_carried, is_posted, is_write, may_put, may_take, place_of};
 pub use memories::{bytes_of, is_generation, new_segment, segment_at, set_slot, store_bytes};
-pub use recording::{called, is_there};
+pub use recording::called;
 pub use replies::is_idle;
+pub use segment_calls::News;
+pub use threads::{is_running, is_there, thread_at};

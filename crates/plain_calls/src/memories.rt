@@ -6,7 +6,7 @@ ghost use Rattle.gaspi_types.specs.SegmentBytes.{with_range};
 ghost use Rattle.gaspi_types.specs.SegmentWords.{with_sum, with_swap};
 ghost use Rattle.gaspi_types.specs.Slots.{is_set, is_slot_range, first_set};
 ghost use Rattle.gaspi_model.specs.State.{segment_at, new_segment};
-ghost use Rattle.gaspi_model.specs.Calls.{is_generation, bytes_of, slots_of, with_bytes, with_slots};
+ghost use Rattle.gaspi_model.specs.Memories.{is_generation, bytes_of, slots_of, with_bytes, with_slots};
 
 use gaspi_model::{Memory, Segment};
 use gaspi_types::{NoMemory, Rows, add_to_word, is_within, range_of, set_range, swap_word};

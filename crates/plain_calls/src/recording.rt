@@ -4,25 +4,35 @@ ghost use Rattle.std.specs.Prelude.{◌≡◌, ◌≢◌, ◌+◌, ◌<◌, ◌�
 ghost use Rattle.gaspi_types.specs.Replies.{same_reply, is_idle};
 ghost use Rattle.gaspi_types.specs.World.{are_limits};
 ghost use Rattle.gaspi_model.specs.State.{owed};
-ghost use Rattle.gaspi_model.specs.Calls.{posts_after, memory_after};
+ghost use Rattle.gaspi_model.specs.Calls.{posts_after, memory_after, charge};
 ghost use Rattle.gaspi_model.specs.Sound.{IsSoundPosts};
-ghost use Rattle.gaspi_model.specs.Step.{called, is_there, Steps};
-ghost use Rattle.gaspi_model.specs.Transfers.{Parts};
+ghost use Rattle.gaspi_model.specs.Step.{called, Steps};
+ghost use Rattle.gaspi_model.specs.Transfers.{Worked};
 ghost use Rattle.plain_calls.specs.Memory.{is_load, keeps_memory};
 ghost use Rattle.plain_calls.specs.Room.{HasCallRoom};
 
-use crate::calls::{answer, recorded_reply, thread_at};
-use crate::posts::call_done;
-use crate::replies::{charge, is_idle};
+use crate::calls::{answer, call_done};
+use crate::replies::{is_idle, recorded_reply};
+use crate::threads::{is_running, is_there, thread_at};
 use gaspi_model::{Memory, Posts, StepFault, ThreadState, Why};
 use gaspi_types::{Call, Limits, NoMemory, RankId, Reply, ThreadId, same_reply};
 use std::alloc::Global;
 
-/// Whether a thread has a section.
-pub fn is_there(state: ThreadState) -> bool
-    ensures { result ≡ is_there state }
+/// What an event takes of its rank's room: nothing for the end of a caller that has not ended, itself and the two
+/// transfers of each entry for a post that is done, and else itself.
+fn charge(state: ThreadState, call: &Call, reply: &Reply) -> u32
+    ensures value { result ≡ charge state call.now reply.now }
+    ensures bound { result ≤ 5 }
 {
-    !matches!(state, ThreadState::Absent)
+    let row = call.row();
+    if row.ends && is_running(state) {
+        return 0;
+    }
+    if matches!(reply, Reply::Done) {
+        1 + 2 * row.entries()
+    } else {
+        1
+    }
 }
 
 /// Records a call: what it leaves, and one event more. Without memory nothing changes.
@@ -71,7 +81,7 @@ pub fn called(
     requires sound { IsSoundPosts limits.now posts.old }
     requires queues { length posts.old.queues ≤ 8 }
     requires taken { taken.old ≡ posts.old.events + owed posts.old }
-    ensures step { Steps {S = Parts} result (record { posts = posts.old; memory = memory.old }) (record { posts = posts.new; memory = memory.new }) (called limits.now me posts.old memory.old thread call.now reply.now) }
+    ensures step { Steps {S = Worked} result (record { posts = posts.old; memory = memory.old }) (record { posts = posts.new; memory = memory.new }) (called limits.now me posts.old memory.old thread call.now reply.now) }
     ensures taken { taken.new ≡ posts.new.events + owed posts.new }
     ensures ample { (is_load call.now || keeps_memory call.now) ≡ false → result ≢ Err StepFault.NoMemory }
 {

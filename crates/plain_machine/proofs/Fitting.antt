@@ -1,30 +1,32 @@
 -- Ranks and queues keep their numbers: at the start, and at every step.
 use Rattle.std.proofs.Common.{◌≡◌, ℕ, zero, suc, ◌+◌, Bool, true, false, nat_le, List, [], ◌∷◌, Option, None, Some, Result, Ok, Err, ◌⊎◌, inl, inr, length, slice_get, slice_set, refl, sym, ap, ◌∙◌}
 use Rattle.std.proofs.lemmas.List.{length-set}
-use Rattle.gaspi_types.specs.Checks.{check, found}
-use Rattle.gaspi_types.specs.Posts.{write_kinds, notify_kinds, write_notify_kinds}
+use Rattle.gaspi_types.specs.CallRows.{row_of}
+use Rattle.gaspi_types.specs.Checks.{check}
 use Rattle.gaspi_types.specs.Replies.{same_reply, is_idle}
-use Rattle.gaspi_types.specs.declared.entries.Extent.{Extent}
+use Rattle.gaspi_types.specs.declared.call_rows.Posting.{Posting}
 use Rattle.gaspi_types.specs.declared.entries.Kind.{Kind}
 use Rattle.gaspi_types.specs.declared.shapes.Limits.{Limits}
 use Rattle.gaspi_types.specs.declared.calls.Call.{Call}
-use Rattle.gaspi_types.specs.declared.calls.Call.TheVariants.{Alloc, Register, Delete, Store, Load, Write, Notify, WriteNotify, Wait, Waitsome, Reset, FetchAdd, CompareSwap, End}
+use Rattle.gaspi_types.specs.declared.calls.Call.TheVariants.{Wait}
 use Rattle.gaspi_types.specs.declared.replies.Refusal.{Refusal}
 use Rattle.gaspi_types.specs.declared.replies.Reply.{Reply}
 use Rattle.gaspi_types.specs.declared.events.Event.{Event}
 use Rattle.gaspi_types.specs.declared.events.Event.TheVariants.{Called, Take, Put}
 use Rattle.gaspi_model.specs.State.{owed, thread_at}
-use Rattle.gaspi_model.specs.Calls.{answer, recorded_reply, charge, posts_done, posts_after, memory_after, memory_rank, with_known, with_post, changed_at, told}
+use Rattle.gaspi_model.specs.Calls.{answer, recorded_reply, charge, posts_done, posts_after, memory_after}
+use Rattle.gaspi_model.specs.Posting.{with_post, changed_at}
 use Rattle.gaspi_model.specs.Step.{step, called, is_there}
-use Rattle.gaspi_model.specs.Transfers.{take, put, Parts}
+use Rattle.gaspi_model.specs.Transfers.{Worked}
 use Rattle.gaspi_model.specs.declared.states.Posts.{Posts}
 use Rattle.gaspi_model.specs.declared.states.Memory.{Memory}
 use Rattle.gaspi_model.specs.declared.states.State.{State}
 use Rattle.gaspi_model.specs.declared.states.Why.{Why}
-use Rattle.gaspi_model.specs.declared.states.Why.TheVariants as whys
 use Rattle.plain_machine.specs.Machine.{IsFitting}
-use Rattle.plain_calls.proofs.Chains.{passed, found_there, changed_there}
-use Rattle.plain_machine.proofs.Telling.{told_by}
+use Rattle.plain_machine.specs.Reaching.{call_reach}
+use Rattle.plain_calls.proofs.Chains.{passed, changed_there}
+use Rattle.plain_calls.proofs.Postings.{posting_of}
+use Rattle.plain_machine.proofs.Reached.{called_back, taken_back, put_back, told_by}
 use Rattle.plain_machine.proofs.Kept.{take_keeps, put_keeps}
 
 -- what stands in a list after a write is what was written or what stood there
@@ -47,23 +49,17 @@ queues-post posts queue rank (Ok kinds) = length-changed_at posts.queues queue _
 queues-post posts queue rank (Err refusal) = refl
 
 queues-done : (limits : Limits) (me : ℕ) (posts : Posts) (thread : ℕ) (call : Call) → length (posts_done limits me posts thread call).queues ≡ length posts.queues
-queues-done limits me posts thread (Alloc seg size) = refl
-queues-done limits me posts thread (Register seg rank) = refl
-queues-done limits me posts thread (Delete seg) = refl
-queues-done limits me posts thread (Store seg offset bytes) = refl
-queues-done limits me posts thread (Load seg offset size) = refl
-queues-done limits me posts thread (Write seg offset rank rseg roffset size queue) =
-    queues-post posts queue rank (write_kinds me posts.own posts.known seg offset rank rseg roffset size)
-queues-done limits me posts thread (Notify rseg rank note value queue) =
-    queues-post posts queue rank (notify_kinds limits.notes me posts.own posts.known rseg rank note value)
-queues-done limits me posts thread (WriteNotify seg offset rank rseg roffset size note value queue) =
-    queues-post posts queue rank (write_notify_kinds limits.notes me posts.own posts.known seg offset rank rseg roffset size note value)
-queues-done limits me posts thread (Wait queue) = length-changed_at posts.queues queue _
-queues-done limits me posts thread (Waitsome seg begin num) = refl
-queues-done limits me posts thread (Reset seg note) = refl
-queues-done limits me posts thread (FetchAdd seg offset rank value) = refl
-queues-done limits me posts thread (CompareSwap seg offset rank comparator new) = refl
-queues-done limits me posts thread End = refl
+queues-done limits me posts thread call = by_posting (row_of call).posting refl
+  where
+    of_plain : (call : Call) → (row_of call).posting ≡ None → length (posts_done limits me posts thread call).queues ≡ length posts.queues
+    of_plain (Wait call) is = length-changed_at posts.queues call.queue _
+    of_plain call is = cc
+
+    by_posting : (posting : Option Posting) → (row_of call).posting ≡ posting → length (posts_done limits me posts thread call).queues ≡ length posts.queues
+    by_posting None is = of_plain call is
+    by_posting (Some posting) is =
+        let p = posting_of limits me posts call posting is in
+        rw (p.leaves thread) (queues-post posts posting.queue posting.rank p.asked)
 
 queues-after : (limits : Limits) (me : ℕ) (posts : Posts) (thread : ℕ) (call : Call) (reply : Reply) → length (posts_after limits me posts thread call reply).queues ≡ length posts.queues
 queues-after limits me posts thread call reply = by_idle (is_idle reply) refl
@@ -72,7 +68,7 @@ queues-after limits me posts thread call reply = by_idle (is_idle reply) refl
     by_idle true idle = rw idle refl
     by_idle false idle = rw idle (queues-done limits me posts thread call)
 
-queues-called : (limits : Limits) (me : ℕ) (posts : Posts) (memory : Memory) (thread : ℕ) (call : Call) (reply : Reply) (after : Parts)
+queues-called : (limits : Limits) (me : ℕ) (posts : Posts) (memory : Memory) (thread : ℕ) (call : Call) (reply : Reply) (after : Worked)
     → called limits me posts memory thread call reply ≡ Ok after → length after.posts.queues ≡ length posts.queues
 queues-called limits me posts memory thread call reply after is =
     passed (check (is_there (thread_at posts thread)) _) _ _ is (λ u there more.
@@ -80,7 +76,7 @@ queues-called limits me posts memory thread call reply after is =
     passed (check (nat_le (posts.events + owed posts + charge (thread_at posts thread) call reply) limits.events) _) _ _ more (λ u room more.
     done after more)))
   where
-    done : (after : Parts) → ◌≡◌ {A = Result Parts Why} (Ok (record { posts = posts_after limits me posts thread call reply; memory = memory_after limits posts memory call reply })) (Ok after)
+    done : (after : Worked) → ◌≡◌ {A = Result Worked Why} (Ok (record { posts = posts_after limits me posts thread call reply; memory = memory_after limits posts memory call reply })) (Ok after)
         → length after.posts.queues ≡ length posts.queues
     done after is =
         let same : record { posts = posts_after limits me posts thread call reply; memory = memory_after limits posts memory call reply } ≡ after = cc in
@@ -98,54 +94,39 @@ fitting_with s rank p p' memories fits all there same = record {
   ];
 }
 
--- one rank told something
-fitting_told : (s : State) (me rank seg : ℕ) (extent : Option Extent) (posts : List Posts) (memories : List Memory) → IsFitting (record { limits = s.limits; posts = posts; memories = memories })
-    → IsFitting (record { limits = s.limits; posts = changed_at posts rank (with_known me seg extent); memories = memories })
-fitting_told s me rank seg extent posts memories fits = by_item (slice_get posts rank) refl
+-- a rank's posts changed so that its queues stay
+fitting_changed : (s : State) (rank : ℕ) (change : Posts → Posts) (posts : List Posts) (memories : List Memory) → ((peer : Posts) → (change peer).queues ≡ peer.queues)
+    → IsFitting (record { limits = s.limits; posts = posts; memories = memories })
+    → IsFitting (record { limits = s.limits; posts = changed_at posts rank change; memories = memories })
+fitting_changed s rank change posts memories kept fits = by_item (slice_get posts rank) refl
   where
-    by_item : (o : Option Posts) → slice_get posts rank ≡ o → IsFitting (record { limits = s.limits; posts = changed_at posts rank (with_known me seg extent); memories = memories })
+    by_item : (o : Option Posts) → slice_get posts rank ≡ o → IsFitting (record { limits = s.limits; posts = changed_at posts rank change; memories = memories })
     by_item None there = rw there fits
     by_item (Some q) there =
-        rw (changed_there posts rank (with_known me seg extent) q there)
-        (fitting_with (record { limits = s.limits; posts = posts; memories = memories }) rank q (with_known me seg extent q) memories fits refl there refl)
+        rw (changed_there posts rank change q there)
+        (fitting_with (record { limits = s.limits; posts = posts; memories = memories }) rank q (change q) memories fits refl there (ap length (kept q)))
+
+-- the same posts
+fitting_at : (s t : State) (posts : List Posts) → posts ≡ t.posts → IsFitting (record { limits = s.limits; posts = posts; memories = t.memories }) → IsFitting t
+fitting_at s t posts same fits =
+    let ranks = fits.ranks in
+    let memories = fits.memories in
+    let queues = fits.queues in
+    record { ranks = rw (← same) ranks; memories = rw (← same) memories; queues = rw (← same) queues }
 
 -- every step
 pub fitting_by : (s t : State) (e : Event) → IsFitting s → step s e ≡ Ok t → IsFitting t
 fitting_by s t (Called c call reply) fits is =
-    passed (found (slice_get s.posts c.rank) whys.Caller) _ _ is (λ p p_there more.
-    passed (found (slice_get s.memories (memory_rank s.limits c.rank call)) whys.Caller) _ _ more (λ m m_there more.
-    passed (called s.limits c.rank p m c.thread call reply) _ _ more (λ after steps more.
-    done p after (found_there _ _ _ p_there) (queues-called s.limits c.rank p m c.thread call reply after steps) more)))
-  where
-    done : (p : Posts) (after : Parts) → slice_get s.posts c.rank ≡ Some p → length after.posts.queues ≡ length p.queues
-        → ◌≡◌ {A = Result State Why} (Ok (record s { posts = told c.rank p call reply (slice_set s.posts c.rank after.posts); memories = slice_set s.memories (memory_rank s.limits c.rank call) after.memory })) (Ok t)
-        → IsFitting t
-    done p after there same is =
-        let memories = slice_set s.memories (memory_rank s.limits c.rank call) after.memory in
-        let is_t : record s { posts = told c.rank p call reply (slice_set s.posts c.rank after.posts); memories = memories } ≡ t = cc in
-        let recorded = fitting_with s c.rank p after.posts memories fits (length-set s.memories (memory_rank s.limits c.rank call) after.memory) there same in
-        rw (← is_t)
-        (told_by (λ (ps : List Posts). IsFitting (record { limits = s.limits; posts = ps; memories = memories })) c.rank p call reply (slice_set s.posts c.rank after.posts) recorded
-        (λ rank seg extent. fitting_told s c.rank rank seg extent (slice_set s.posts c.rank after.posts) memories recorded))
+    let b = called_back s t c call reply is in
+    let same = queues-called s.limits c.rank b.p b.memory c.thread call reply b.after b.steps in
+    let recorded = fitting_with s c.rank b.p b.after.posts t.memories fits b.memories b.there same in
+    let told =
+    told_by (λ (ps : List Posts). IsFitting (record { limits = s.limits; posts = ps; memories = t.memories })) (call_reach s.limits c.rank call) c.rank b.p call reply (slice_set s.posts c.rank b.after.posts) recorded
+    (λ rank change kept. fitting_changed s rank change (slice_set s.posts c.rank b.after.posts) t.memories kept recorded) in
+    fitting_at s t _ b.posts told
 fitting_by s t (Take origin queue target number outcome) fits is =
-    passed (found (slice_get s.posts origin) whys.Take) _ _ is (λ p p_there more.
-    passed (found (slice_get s.memories origin) whys.Take) _ _ more (λ m m_there more.
-    passed (take s.limits p m queue target number outcome) _ _ more (λ after steps more.
-    done p after (found_there _ _ _ p_there) (take_keeps s.limits p m queue target number outcome after steps).queues more)))
-  where
-    done : (p after : Posts) → slice_get s.posts origin ≡ Some p → length after.queues ≡ length p.queues
-        → ◌≡◌ {A = Result State Why} (Ok (record s { posts = slice_set s.posts origin after })) (Ok t) → IsFitting t
-    done p after there same is =
-        let is_t : record s { posts = slice_set s.posts origin after } ≡ t = cc in
-        rw (← is_t) (fitting_with s origin p after _ fits refl there same)
+    let b = taken_back s t origin queue target number outcome is in
+    rw (← b.is) (fitting_with s origin b.p b.after s.memories fits refl b.there (take_keeps s.limits b.p b.memory queue target number outcome b.after b.steps).queues)
 fitting_by s t (Put origin queue target number outcome) fits is =
-    passed (found (slice_get s.posts origin) whys.Put) _ _ is (λ p p_there more.
-    passed (found (slice_get s.memories target) whys.Put) _ _ more (λ m m_there more.
-    passed (put p m queue target number outcome) _ _ more (λ after steps more.
-    done p after (found_there _ _ _ p_there) (put_keeps p m queue target number outcome after steps).queues more)))
-  where
-    done : (p : Posts) (after : Parts) → slice_get s.posts origin ≡ Some p → length after.posts.queues ≡ length p.queues
-        → ◌≡◌ {A = Result State Why} (Ok (record s { posts = slice_set s.posts origin after.posts; memories = slice_set s.memories target after.memory })) (Ok t) → IsFitting t
-    done p after there same is =
-        let is_t : record s { posts = slice_set s.posts origin after.posts; memories = slice_set s.memories target after.memory } ≡ t = cc in
-        rw (← is_t) (fitting_with s origin p after.posts _ fits (length-set s.memories target after.memory) there same)
+    let b = put_back s t origin queue target number outcome is in
+    fitting_at s t _ b.posts (fitting_with s origin b.p b.after.posts t.memories fits b.memories b.there (put_keeps b.p b.memory queue target number outcome b.after b.steps).queues)

@@ -10,8 +10,8 @@ use Rattle.gaspi_types.specs.declared.events.Outcome.{Outcome}
 use Rattle.gaspi_types.specs.declared.events.Outcome.TheVariants.{Applied, Failed}
 use Rattle.gaspi_types.specs.declared.shapes.Limits.{Limits}
 use Rattle.gaspi_model.specs.State.{owed, queue_owed}
-use Rattle.gaspi_model.specs.Calls.{changed_at, counted}
-use Rattle.gaspi_model.specs.Transfers.{Found, find_entry, take, put, put_with, put_outcome, same_outcome, with_phase, with_lane, Parts}
+use Rattle.gaspi_model.specs.Posting.{changed_at, counted}
+use Rattle.gaspi_model.specs.Transfers.{Found, find_entry, take, put, put_with, put_outcome, same_outcome, with_phase, with_lane, Worked}
 use Rattle.gaspi_model.specs.declared.states.Queue.{Queue}
 use Rattle.gaspi_model.specs.declared.states.Posts.{Posts}
 use Rattle.gaspi_model.specs.declared.states.Memory.{Memory}
@@ -90,7 +90,7 @@ take_keeps limits posts memory queue target number outcome after is =
         rw (← same) (kept_lane posts queue target at _ _ posts.corrupt there refl (omega (arith, put, owes)) _ refl)
 
 -- a put keeps it too, also one that failed
-pub put_keeps : (posts : Posts) (memory : Memory) (queue target number : ℕ) (outcome : Outcome) (after : Parts)
+pub put_keeps : (posts : Posts) (memory : Memory) (queue target number : ℕ) (outcome : Outcome) (after : Worked)
     → put posts memory queue target number outcome ≡ Ok after → IsKept posts after.posts
 put_keeps posts memory queue target number outcome after is =
     passed (find_entry posts queue target number whys.Put) _ _ is (λ at found_it more.
@@ -110,7 +110,7 @@ put_keeps posts memory queue target number outcome after is =
         kept_lane posts queue target at _ _ _ there refl (omega (arith, put, owes)) _ refl
 
     done : (at : Found) (outcome : Outcome) → IsAt posts queue target at → is_carried at.entry ≡ true
-        → ◌≡◌ {A = Result Parts Why} (Ok (put_with posts memory queue target at outcome)) (Ok after) → IsKept posts after.posts
+        → ◌≡◌ {A = Result Worked Why} (Ok (put_with posts memory queue target at outcome)) (Ok after) → IsKept posts after.posts
     done at outcome there carried is =
         let same : put_with posts memory queue target at outcome ≡ after = cc in
         rw (← same) (kept_with at outcome there carried)

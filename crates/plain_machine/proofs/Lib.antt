@@ -7,5 +7,5 @@ pub mod Parted
 pub mod Ranges
 pub mod Renamed
 pub mod Running
-pub mod Telling
+pub mod Reached
 pub mod Walked

@@ -1,72 +1,140 @@
--- The step of the whole state from that of the parts that an event touches.
-use Rattle.std.proofs.Common.{◌≡◌, ℕ, ◌+◌, ◌^◌, ◌<◌, true, Result, Ok, Err, Some, slice_get, slice_set, map, refl, ap, ◌∙◌, arith, List}
-use Rattle.std.proofs.lemmas.List.{map-set}
-use Rattle.std.proofs.lemmas.Option.{slice_get-map}
+-- The step of the whole state from that of a rank's posts and the memory that is lent.
+use Rattle.std.proofs.Common.{◌≡◌, ℕ, ◌+◌, ◌^◌, ◌<◌, true, Option, None, Some, Result, Ok, Err, length, slice_get, slice_set, refl, sym, ap, subst, ◌∙◌, arith, List}
+use Rattle.std.proofs.lemmas.List.{length-set}
 use Rattle.std.proofs.lemmas.Bool.Decides.{nat_tests}
+use Rattle.gaspi_types.specs.Checks.{◌>>=◌, found}
+use Rattle.gaspi_types.specs.Touches.{take_touch, put_touch}
 use Rattle.gaspi_types.specs.World.{are_limits}
-use Rattle.gaspi_types.specs.declared.shapes.Limits.{Limits}
-use Rattle.gaspi_types.specs.declared.shapes.CallerId.{CallerId}
 use Rattle.gaspi_types.specs.declared.calls.Call.{Call}
-use Rattle.gaspi_types.specs.declared.replies.Reply.{Reply}
 use Rattle.gaspi_types.specs.declared.events.Event.TheVariants.{Called, Take, Put}
 use Rattle.gaspi_types.specs.declared.events.Outcome.{Outcome}
-use Rattle.gaspi_model.specs.Calls.{memory_rank, told}
+use Rattle.gaspi_types.specs.declared.replies.Reply.{Reply}
+use Rattle.gaspi_types.specs.declared.shapes.CallerId.{CallerId}
+use Rattle.gaspi_types.specs.declared.shapes.Limits.{Limits}
+use Rattle.gaspi_types.specs.declared.touches.Reach.{Reach}
+use Rattle.gaspi_types.specs.declared.touches.Reach.TheVariants.{PeerPosts}
+use Rattle.gaspi_model.specs.Calls.{peer_after}
+use Rattle.gaspi_model.specs.Parts.{no_memory}
+use Rattle.gaspi_model.specs.Posting.{changed_at}
 use Rattle.gaspi_model.specs.Sound.{IsSoundPosts}
-use Rattle.gaspi_model.specs.Step.{step, called, Steps}
-use Rattle.gaspi_model.specs.Transfers.{take, put, Parts}
+use Rattle.gaspi_model.specs.Step.{step, Steps}
+use Rattle.gaspi_model.specs.Transfers.{take, put, Worked}
 use Rattle.gaspi_model.specs.declared.states.Posts.{Posts}
 use Rattle.gaspi_model.specs.declared.states.Memory.{Memory}
 use Rattle.gaspi_model.specs.declared.states.State.{State}
 use Rattle.gaspi_model.specs.declared.states.StepFault.{StepFault}
 use Rattle.gaspi_model.specs.declared.states.StepFault.TheVariants as faults
+use Rattle.gaspi_model.specs.declared.states.Why.{Why}
 use Rattle.plain_machine.specs.Machine.{taken_of}
+use Rattle.plain_machine.specs.Reaching.{call_reach, entry_reach, memory_at, with_memory_at, with_peer_at, Lent, call_lent, put_lent}
+use Rattle.plain_calls.specs.Telling.{told}
+use Rattle.plain_calls.specs.declared.segment_calls.News.{News}
+use Rattle.plain_calls.proofs.Chains.{changed_there}
 use Rattle.plain_calls.proofs.Items.{set_there}
+use Rattle.plain_machine.proofs.Lists.{item_at}
+use Rattle.plain_machine.proofs.Reached.{called_as, take_as, put_as}
 use Rattle.plain_machine.proofs.Kept.{take_keeps, put_keeps}
 
--- a call that is recorded, and what it makes known told
-pub called_made : (s : State) (c : CallerId) (call : Call) (reply : Reply) (p p' : Posts) (m m' : Memory)
-    → slice_get s.posts c.rank ≡ Some p → slice_get s.memories (memory_rank s.limits c.rank call) ≡ Some m
-    → called s.limits c.rank p m c.thread call reply ≡ Ok (record { posts = p'; memory = m' })
-    → step s (Called c call reply)
-    ≡ Ok (record s { posts = told c.rank p call reply (slice_set s.posts c.rank p'); memories = slice_set s.memories (memory_rank s.limits c.rank call) m' })
-called_made s c call reply p p' m m' posts memory steps = rw (posts, memory) rw steps refl
+-- a step on a part, where the whole is made of it
+pub lift_steps : {S : Type 0} (result : Result (Unit {0}) StepFault) (old new : S) (outcome : Result S Why) (s : State) (whole : S → State)
+    → whole old ≡ s → Steps result old new outcome → Steps result s (whole new) (outcome >>= (λ w. Ok (whole w)))
+lift_steps (Ok done) old new outcome s whole is steps = rw steps refl
+lift_steps (Err (faults.Illegal why)) old new outcome s whole is steps = (rw steps.0 refl, ap whole steps.1 ∙ is)
+lift_steps (Err faults.NoMemory) old new outcome s whole is steps = ap whole steps ∙ is
 
--- one that is not
-pub called_not : (s : State) (c : CallerId) (call : Call) (reply : Reply) (p p' : Posts) (m m' : Memory) (fault : StepFault)
-    → slice_get s.posts c.rank ≡ Some p → slice_get s.memories (memory_rank s.limits c.rank call) ≡ Some m
-    → Steps {S = Parts} (Err fault) (record { posts = p; memory = m }) (record { posts = p'; memory = m' }) (called s.limits c.rank p m c.thread call reply)
-    → Steps (Err fault) s (record s { posts = slice_set s.posts c.rank p'; memories = slice_set s.memories (memory_rank s.limits c.rank call) m' }) (step s (Called c call reply))
-called_not s c call reply p p' m m' (faults.Illegal why) posts memory steps =
-    let same_posts = ap (λ (parts : Parts). parts.posts) steps.1 in
-    let same_memory = ap (λ (parts : Parts). parts.memory) steps.1 in
-    (rw (posts, memory) rw steps.0 refl, rw (same_posts, same_memory) rw (set_there s.posts c.rank p posts, set_there s.memories (memory_rank s.limits c.rank call) m memory) refl)
-called_not s c call reply p p' m m' faults.NoMemory posts memory steps =
-    let same_posts = ap (λ (parts : Parts). parts.posts) steps in
-    let same_memory = ap (λ (parts : Parts). parts.memory) steps in
-    rw (same_posts, same_memory) rw (set_there s.posts c.rank p posts, set_there s.memories (memory_rank s.limits c.rank call) m memory) refl
+-- one that is not made, where more would have been done
+pub lift_fault : {S : Type 0} (fault : StepFault) (old new : S) (outcome : Result S Why) (s : State) (whole more : S → State)
+    → whole old ≡ s → Steps (Err fault) old new outcome → Steps (Err fault) s (whole new) (outcome >>= (λ w. Ok (more w)))
+lift_fault (faults.Illegal why) old new outcome s whole more is steps = (rw steps.0 refl, ap whole steps.1 ∙ is)
+lift_fault faults.NoMemory old new outcome s whole more is steps = ap whole steps ∙ is
 
+-- a step of one rank's posts and a memory, among the posts of all ranks
+pub lent_steps : (result : Result (Unit {0}) StepFault) (all : List Posts) (me : ℕ) (p p' : Posts) (m m' : Memory) (why : Why) (local : Posts → Memory → Result Worked Why)
+    → slice_get all me ≡ Some p → Steps {S = Worked} result (record { posts = p; memory = m }) (record { posts = p'; memory = m' }) (local p m)
+    → Steps {S = Lent} result (record { posts = all; memory = m }) (record { posts = slice_set all me p'; memory = m' })
+    (found (slice_get all me) why >>= (λ posts. local posts m >>= (λ after. Ok (record { posts = slice_set all me after.posts; memory = after.memory }))))
+lent_steps (Ok done) all me p p' m m' why local there steps = rw there rw steps refl
+lent_steps (Err (faults.Illegal cause)) all me p p' m m' why local there steps =
+    let same_posts = ap (λ (w : Worked). w.posts) steps.1 in
+    let same_memory = ap (λ (w : Worked). w.memory) steps.1 in
+    (rw there rw steps.0 refl, rw (same_posts, same_memory) rw (set_there all me p there) refl)
+lent_steps (Err faults.NoMemory) all me p p' m m' why local there steps =
+    let same_posts = ap (λ (w : Worked). w.posts) steps in
+    let same_memory = ap (λ (w : Worked). w.memory) steps in
+    rw (same_posts, same_memory) rw (set_there all me p there) refl
+
+-- a call on the memory that it works on, where it tells no peer
+pub called_steps : (s : State) (c : CallerId) (call : Call) (reply : Reply) (reach : Reach) (result : Result (Unit {0}) StepFault) (m : Memory) (posts' : List Posts) (m' : Memory)
+    → c.rank < length s.posts → call_reach s.limits c.rank call ≡ reach → memory_at s.memories c.rank reach ≡ m → with_memory_at s.memories c.rank reach m ≡ s.memories
+    → ((change : Posts → Posts) (all : List Posts) → with_peer_at reach change all ≡ all)
+    → Steps {S = Lent} result (record { posts = s.posts; memory = m }) (record { posts = posts'; memory = m' }) (call_lent s.limits s.posts m c call reply)
+    → Steps result s (record s { posts = posts'; memories = with_memory_at s.memories c.rank reach m' }) (step s (Called c call reply))
+called_steps s c call reply reach result m posts' m' within is memory kept silent steps =
+    let item = item_at s.posts c.rank within in
+    let whole : Lent → State = λ w. record s { posts = with_peer_at reach (peer_after c.rank item.0 call reply) w.posts; memories = with_memory_at s.memories c.rank reach w.memory } in
+    let is_step : step s (Called c call reply) ≡ (call_lent s.limits s.posts m c call reply >>= (λ w. Ok (whole w))) = rw memory at (called_as s c call reply item.0 reach item.1 is) in
+    let old : whole (record { posts = s.posts; memory = m }) ≡ s =
+    ap (λ (ps : List Posts). record s { posts = ps; memories = with_memory_at s.memories c.rank reach m }) (silent (peer_after c.rank item.0 call reply) s.posts)
+    ∙ ap (λ (ms : List Memory). record s { memories = ms }) kept in
+    let new : whole (record { posts = posts'; memory = m' }) ≡ record s { posts = posts'; memories = with_memory_at s.memories c.rank reach m' } =
+    ap (λ (ps : List Posts). record s { posts = ps; memories = with_memory_at s.memories c.rank reach m' }) (silent (peer_after c.rank item.0 call reply) posts') in
+    subst (λ (o : Result State Why). Steps result s (record s { posts = posts'; memories = with_memory_at s.memories c.rank reach m' }) o) (sym is_step)
+    (subst (λ (t : State). Steps result s t (call_lent s.limits s.posts m c call reply >>= (λ w. Ok (whole w)))) new
+    (lift_steps result (record { posts = s.posts; memory = m }) (record { posts = posts'; memory = m' }) (call_lent s.limits s.posts m c call reply) s whole old steps))
+
+-- a call that tells a peer, and one that would have
+pub called_telling : (s : State) (c : CallerId) (call : Call) (reply : Reply) (rank : ℕ) (p q q' : Posts) (m m' : Memory) (posts' : List Posts)
+    → slice_get s.posts c.rank ≡ Some p → call_reach s.limits c.rank call ≡ PeerPosts rank → m ≡ no_memory → slice_get posts' rank ≡ Some q → q' ≡ peer_after c.rank p call reply q
+    → call_lent s.limits s.posts m c call reply ≡ Ok (record { posts = posts'; memory = m' })
+    → step s (Called c call reply) ≡ Ok (record s { posts = slice_set posts' rank q' })
+called_telling s c call reply rank p q q' m m' posts' there is none peer_there told steps =
+    let lent : call_lent s.limits s.posts no_memory c call reply ≡ Ok (record { posts = posts'; memory = m' }) = rw none at steps in
+    called_as s c call reply p (PeerPosts rank) there is
+    ∙ (ap (λ (r : Result Lent Why). r >>= (λ w. Ok (record s { posts = changed_at w.posts rank (peer_after c.rank p call reply) }))) lent
+    ∙ (ap (λ (ps : List Posts). Ok (record s { posts = ps })) (changed_there posts' rank (peer_after c.rank p call reply) q peer_there)
+    ∙ ap (λ (x : Posts). Ok (record s { posts = slice_set posts' rank x })) (sym told)))
+
+pub called_untold : (s : State) (c : CallerId) (call : Call) (reply : Reply) (rank : ℕ) (p : Posts) (m m' : Memory) (posts' : List Posts) (fault : StepFault)
+    → slice_get s.posts c.rank ≡ Some p → call_reach s.limits c.rank call ≡ PeerPosts rank → m ≡ no_memory
+    → Steps {S = Lent} (Err fault) (record { posts = s.posts; memory = m }) (record { posts = posts'; memory = m' }) (call_lent s.limits s.posts m c call reply)
+    → Steps (Err fault) s (record s { posts = posts' }) (step s (Called c call reply))
+called_untold s c call reply rank p m m' posts' fault there is none steps =
+    let is_step : step s (Called c call reply) ≡ (call_lent s.limits s.posts m c call reply >>= (λ w. Ok (record s { posts = changed_at w.posts rank (peer_after c.rank p call reply) }))) =
+    rw none (called_as s c call reply p (PeerPosts rank) there is) in
+    subst (λ (o : Result State Why). Steps (Err fault) s (record s { posts = posts' }) o) (sym is_step)
+    (lift_fault fault (record { posts = s.posts; memory = m }) (record { posts = posts'; memory = m' }) (call_lent s.limits s.posts m c call reply) s
+    (λ w. record s { posts = w.posts }) (λ w. record s { posts = changed_at w.posts rank (peer_after c.rank p call reply) }) refl steps)
+
+-- what a peer is told takes no room
+pub told_taken : (news : Option News) (peer : Posts) → taken_of (told news peer) ≡ taken_of peer
+told_taken None peer = refl
+told_taken (Some news) peer = refl
+
+-- a take on the memory that it works on
 pub take_steps : (s : State) (origin queue target number : ℕ) (outcome : Outcome) (p p' : Posts) (m : Memory) (result : Result (Unit {0}) StepFault)
-    → slice_get s.posts origin ≡ Some p → slice_get s.memories origin ≡ Some m
+    → slice_get s.posts origin ≡ Some p → m ≡ memory_at s.memories origin (entry_reach s.limits origin take_touch p queue target number)
     → Steps result p p' (take s.limits p m queue target number outcome)
     → Steps result s (record s { posts = slice_set s.posts origin p' }) (step s (Take origin queue target number outcome))
-take_steps s origin queue target number outcome p p' m (Ok done) posts memory steps = rw (posts, memory) rw steps refl
-take_steps s origin queue target number outcome p p' m (Err (faults.Illegal why)) posts memory steps =
-    (rw (posts, memory) rw steps.0 refl, rw steps.1 rw (set_there s.posts origin p posts) refl)
-take_steps s origin queue target number outcome p p' m (Err faults.NoMemory) posts memory steps = rw steps rw (set_there s.posts origin p posts) refl
+take_steps s origin queue target number outcome p p' m result there memory steps =
+    let is_step : step s (Take origin queue target number outcome) ≡ (take s.limits p m queue target number outcome >>= (λ after. Ok (record s { posts = slice_set s.posts origin after }))) =
+    rw memory (take_as s origin queue target number outcome p _ there refl) in
+    subst (λ (o : Result State Why). Steps result s (record s { posts = slice_set s.posts origin p' }) o) (sym is_step)
+    (lift_steps result p p' (take s.limits p m queue target number outcome) s (λ (after : Posts). record s { posts = slice_set s.posts origin after })
+    (ap (λ (ps : List Posts). record s { posts = ps }) (set_there s.posts origin p there)) steps)
 
-pub put_steps : (s : State) (origin queue target number : ℕ) (outcome : Outcome) (p p' : Posts) (m m' : Memory) (result : Result (Unit {0}) StepFault)
-    → slice_get s.posts origin ≡ Some p → slice_get s.memories target ≡ Some m
-    → Steps {S = Parts} result (record { posts = p; memory = m }) (record { posts = p'; memory = m' }) (put p m queue target number outcome)
-    → Steps result s (record s { posts = slice_set s.posts origin p'; memories = slice_set s.memories target m' }) (step s (Put origin queue target number outcome))
-put_steps s origin queue target number outcome p p' m m' (Ok done) posts memory steps = rw (posts, memory) rw steps refl
-put_steps s origin queue target number outcome p p' m m' (Err (faults.Illegal why)) posts memory steps =
-    let same_posts = ap (λ (parts : Parts). parts.posts) steps.1 in
-    let same_memory = ap (λ (parts : Parts). parts.memory) steps.1 in
-    (rw (posts, memory) rw steps.0 refl, rw (same_posts, same_memory) rw (set_there s.posts origin p posts, set_there s.memories target m memory) refl)
-put_steps s origin queue target number outcome p p' m m' (Err faults.NoMemory) posts memory steps =
-    let same_posts = ap (λ (parts : Parts). parts.posts) steps in
-    let same_memory = ap (λ (parts : Parts). parts.memory) steps in
-    rw (same_posts, same_memory) rw (set_there s.posts origin p posts, set_there s.memories target m memory) refl
+-- a put on the memory that it works on
+pub put_steps : (s : State) (origin queue target number : ℕ) (outcome : Outcome) (p : Posts) (reach : Reach) (result : Result (Unit {0}) StepFault) (m : Memory) (posts' : List Posts) (m' : Memory)
+    → slice_get s.posts origin ≡ Some p → entry_reach s.limits origin (put_touch target) p queue target number ≡ reach
+    → memory_at s.memories origin reach ≡ m → with_memory_at s.memories origin reach m ≡ s.memories
+    → Steps {S = Lent} result (record { posts = s.posts; memory = m }) (record { posts = posts'; memory = m' }) (put_lent s.posts m origin queue target number outcome)
+    → Steps result s (record s { posts = posts'; memories = with_memory_at s.memories origin reach m' }) (step s (Put origin queue target number outcome))
+put_steps s origin queue target number outcome p reach result m posts' m' there is memory kept steps =
+    let whole : Lent → State = λ w. record s { posts = w.posts; memories = with_memory_at s.memories origin reach w.memory } in
+    let is_step : step s (Put origin queue target number outcome) ≡ (put_lent s.posts m origin queue target number outcome >>= (λ w. Ok (whole w))) =
+    rw memory at (put_as s origin queue target number outcome p reach there is) in
+    subst (λ (o : Result State Why). Steps result s (whole (record { posts = posts'; memory = m' })) o) (sym is_step)
+    (lift_steps result (record { posts = s.posts; memory = m }) (record { posts = posts'; memory = m' }) (put_lent s.posts m origin queue target number outcome) s whole
+    (ap (λ (ms : List Memory). record s { memories = ms }) kept) steps)
 
 -- a take and a put keep the room that their origin has taken
 pub take_taken : (limits : Limits) (p p' : Posts) (m : Memory) (queue target number : ℕ) (outcome : Outcome) (result : Result (Unit {0}) StepFault)
@@ -76,16 +144,11 @@ take_taken limits p p' m queue target number outcome (Err (faults.Illegal why)) 
 take_taken limits p p' m queue target number outcome (Err faults.NoMemory) steps = ap taken_of steps
 
 pub put_taken : (p p' : Posts) (m m' : Memory) (queue target number : ℕ) (outcome : Outcome) (result : Result (Unit {0}) StepFault)
-    → Steps {S = Parts} result (record { posts = p; memory = m }) (record { posts = p'; memory = m' }) (put p m queue target number outcome) → taken_of p' ≡ taken_of p
+    → Steps {S = Worked} result (record { posts = p; memory = m }) (record { posts = p'; memory = m' }) (put p m queue target number outcome) → taken_of p' ≡ taken_of p
 put_taken p p' m m' queue target number outcome (Ok done) steps = (put_keeps p m queue target number outcome (record { posts = p'; memory = m' }) steps).taken
-put_taken p p' m m' queue target number outcome (Err (faults.Illegal why)) steps = ap (λ (parts : Parts). taken_of parts.posts) steps.1
-put_taken p p' m m' queue target number outcome (Err faults.NoMemory) steps = ap (λ (parts : Parts). taken_of parts.posts) steps
+put_taken p p' m m' queue target number outcome (Err (faults.Illegal why)) steps = ap (λ (w : Worked). taken_of w.posts) steps.1
+put_taken p p' m m' queue target number outcome (Err faults.NoMemory) steps = ap (λ (w : Worked). taken_of w.posts) steps
 
 -- the count of events has room for one more in its 32 bits
 pub events_fit : (limits : Limits) (p : Posts) → are_limits limits ≡ true → IsSoundPosts limits p → p.events + 1 < 2 ^ 32
 events_fit limits p limited sound = let room = sound.room in grind (arith, nat_tests)
-
--- the item of a mapped list
-pub mapped : {X : Type 0} (f : X → ℕ) (xs : List X) (i : ℕ) (x : X) (y : ℕ) → slice_get xs i ≡ Some x → slice_get (map f xs) i ≡ Some y → y ≡ f x
-mapped {X} f xs i x y there is =
-    let both : slice_get (map f xs) i ≡ Some (f x) = slice_get-map f xs i ∙ rw there refl in cc

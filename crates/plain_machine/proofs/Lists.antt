@@ -1,9 +1,9 @@
 -- Lists made from the items of a list, where one item changed.
-use Rattle.std.proofs.Common.{◌≡◌, ℕ, zero, suc, ◌+◌, List, [], ◌∷◌, ◌++◌, Option, None, Some, map, slice_get, slice_set, refl, ap, ◌∙◌}
+use Rattle.std.proofs.Common.{◌≡◌, ℕ, zero, suc, ◌+◌, ◌<◌, List, [], ◌∷◌, ◌++◌, length, Option, None, Some, map, slice_get, slice_set, refl, ap, ◌∙◌, arith}
 use Rattle.std.specs.List.{flat_map, enumerate_from}
 use Rattle.std.proofs.lemmas.List.{map-set}
 use Rattle.std.proofs.lemmas.Option.{slice_get-map}
-use Rattle.gaspi_model.specs.Calls.{changed_at}
+use Rattle.gaspi_model.specs.Posting.{changed_at}
 use Rattle.plain_machine.specs.declared.standing.LaneId.{LaneId}
 use Rattle.plain_calls.proofs.Chains.{changed_there}
 use Rattle.plain_calls.proofs.Items.{set_there}
@@ -29,3 +29,9 @@ same_changed {X} h n i xs change same = by_item (slice_get xs i) refl
     by_item : (o : Option X) → slice_get xs i ≡ o → flat_map h (enumerate_from n (changed_at xs i change)) ≡ flat_map h (enumerate_from n xs)
     by_item None there = rw there refl
     by_item (Some x) there = rw (changed_there xs i change x there) (same_in h n i xs x (change x) there (λ j. same j x))
+
+-- within a list something stands at each place
+pub item_at : {X : Type 0} (xs : List X) (i : ℕ) → i < length xs → (x : X) × (slice_get xs i ≡ Some x)
+item_at [] i within = absurd (let no : ⊥ = omega (arith, within) in no)
+item_at (x ∷ xs) zero within = (x, refl)
+item_at (x ∷ xs) (suc i) within = item_at xs i (omega arith)

@@ -1,16 +1,17 @@
 -- What a step does to the names of the lanes that have an entry.
-use Rattle.std.proofs.Common.{◌≡◌, ℕ, zero, suc, ◌+◌, ◌<◌, ◌≤◌, Bool, true, false, ◌&&◌, nat_le, nat_lt, List, [], ◌∷◌, ◌++◌, Option, None, Some, Result, Ok, Err, length, slice_get, slice_set, remove, is_none, refl, ap, ◌∙◌, arith, if◌then◌else◌}
+use Rattle.std.proofs.Common.{◌≡◌, ℕ, zero, suc, ◌+◌, ◌<◌, ◌≤◌, Bool, true, false, ◌&&◌, nat_le, nat_lt, List, [], ◌∷◌, ◌++◌, Option, None, Some, Result, Ok, Err, length, slice_get, slice_set, remove, is_none, refl, sym, ap, ◌∙◌, arith, if◌then◌else◌}
 use Rattle.std.specs.List.{flat_map, enumerate_from, prefix_len, insert}
 use Rattle.std.proofs.lemmas.Bool.{lt-ltb}
 use Rattle.std.proofs.lemmas.Bool.Decides.{nat_tests}
 use Rattle.std.proofs.lemmas.Option.{slice_get_within}
-use Rattle.gaspi_types.specs.Checks.{check, found}
+use Rattle.gaspi_types.specs.CallRows.{row_of}
+use Rattle.gaspi_types.specs.Checks.{check}
 use Rattle.gaspi_types.specs.Lanes.{may_take, may_put, posted_entries}
-use Rattle.gaspi_types.specs.Posts.{write_kinds, notify_kinds, write_notify_kinds}
 use Rattle.gaspi_types.specs.Replies.{same_reply, is_idle}
 use Rattle.gaspi_types.specs.World.{are_limits}
 use Rattle.gaspi_types.specs.declared.calls.Call.{Call}
-use Rattle.gaspi_types.specs.declared.calls.Call.TheVariants.{Alloc, Register, Delete, Store, Load, Write, Notify, WriteNotify, Wait, Waitsome, Reset, FetchAdd, CompareSwap, End}
+use Rattle.gaspi_types.specs.declared.calls.Call.TheVariants.{Wait}
+use Rattle.gaspi_types.specs.declared.call_rows.Posting.{Posting}
 use Rattle.gaspi_types.specs.declared.entries.Entry.{Entry}
 use Rattle.gaspi_types.specs.declared.entries.Kind.{Kind}
 use Rattle.gaspi_types.specs.declared.entries.Phase.TheVariants as phases
@@ -21,13 +22,15 @@ use Rattle.gaspi_types.specs.declared.events.Outcome.TheVariants.{Applied, Faile
 use Rattle.gaspi_types.specs.declared.replies.Refusal.{Refusal}
 use Rattle.gaspi_types.specs.declared.replies.Reply.{Reply}
 use Rattle.gaspi_types.specs.declared.shapes.Limits.{Limits}
+use Rattle.gaspi_types.specs.declared.touches.Reach.{Reach}
 use Rattle.gaspi_types.specs.declared.shapes.CallerId.{CallerId}
 use Rattle.gaspi_model.proofs.Tables.{slice_get-set_same, past-none}
 use Rattle.gaspi_model.specs.State.{owed, thread_at}
-use Rattle.gaspi_model.specs.Calls.{answer, recorded_reply, charge, posts_done, posts_after, memory_after, with_post, with_entries, changed_at, counted, memory_rank, told}
+use Rattle.gaspi_model.specs.Calls.{answer, recorded_reply, charge, posts_done, posts_after, memory_after, peer_after}
+use Rattle.gaspi_model.specs.Posting.{with_post, with_entries, counted}
 use Rattle.gaspi_model.specs.Sound.{IsSound, IsSoundPosts}
 use Rattle.gaspi_model.specs.Step.{step, called, is_there, Steps}
-use Rattle.gaspi_model.specs.Transfers.{Found, find_entry, take, put, put_with, put_outcome, same_outcome, with_lane, with_phase, Parts}
+use Rattle.gaspi_model.specs.Transfers.{Found, find_entry, take, put, put_with, put_outcome, same_outcome, with_lane, with_phase, Worked}
 use Rattle.gaspi_model.specs.declared.states.Queue.{Queue}
 use Rattle.gaspi_model.specs.declared.states.Posts.{Posts}
 use Rattle.gaspi_model.specs.declared.states.Memory.{Memory}
@@ -37,14 +40,16 @@ use Rattle.gaspi_model.specs.declared.states.StepFault.TheVariants as faults
 use Rattle.gaspi_model.specs.declared.states.Why.{Why}
 use Rattle.gaspi_model.specs.declared.states.Why.TheVariants as whys
 use Rattle.plain_machine.specs.Machine.{IsFitting}
-use Rattle.plain_machine.specs.Standing.{lane_id, lane_named, queue_named, rank_named, standing_lanes, lane_entries, is_before, post_lane, call_lane, event_lane, is_put}
+use Rattle.plain_machine.specs.Reaching.{call_reach, with_peer_at}
+use Rattle.plain_machine.specs.Standing.{lane_id, lane_named, queue_named, rank_named, standing_lanes, lane_entries, is_before, post_lane, posting_lane, call_lane, event_lane, is_put}
 use Rattle.plain_machine.specs.declared.standing.LaneId.{LaneId}
 use Rattle.plain_calls.proofs.Chains.{passed, found_there, check_holds, changed_there}
 use Rattle.plain_machine.proofs.Kept.{IsAt, found_at}
-use Rattle.plain_calls.proofs.CallRoom.{found_by, post_by, HasLength, one_write, one_notify, two_kinds, IsPost}
+use Rattle.plain_calls.proofs.CallRoom.{found_by, posted}
+use Rattle.plain_calls.proofs.Postings.{HasLength, IsPost, posting_of}
 use Rattle.plain_calls.proofs.Items.{length-posted_entries}
 use Rattle.plain_machine.proofs.Lists.{same_in, same_changed}
-use Rattle.plain_machine.proofs.Telling.{told_standing}
+use Rattle.plain_machine.proofs.Reached.{called_back, taken_back, put_back, told_by}
 use Rattle.plain_machine.proofs.Parted.{IsParted, parted_by, kept_by, named_by, unnamed_by}
 
 -- posts that differ in one lane and in nothing else that names lanes
@@ -80,10 +85,10 @@ named_set o queue target place [] e = refl
 named_set o queue target zero (x ∷ lane) e = refl
 named_set o queue target (suc place) (x ∷ lane) e = refl
 
-named_more : (o queue target : ℕ) (lane more : List Entry) (n : ℕ) → length more ≡ suc n → lane_named o queue (target, lane ++ more) ≡ lane_id o queue target ∷ []
-named_more o queue target [] [] n long = absurd (let no : ⊥ = omega (arith, long) in no)
-named_more o queue target [] (y ∷ more) n long = refl
-named_more o queue target (x ∷ lane) more n long = refl
+named_more : (o queue target : ℕ) (lane more : List Entry) → 1 ≤ length more → lane_named o queue (target, lane ++ more) ≡ lane_id o queue target ∷ []
+named_more o queue target [] [] some = absurd (let no : ⊥ = omega (arith, some) in no)
+named_more o queue target [] (y ∷ more) some = refl
+named_more o queue target (x ∷ lane) more some = refl
 
 -- posts with a lane of theirs replaced
 relaned : (posts : Posts) (queue target : ℕ) (at : Found) (lane' : List Entry) → IsAt posts queue target at → IsRelaned posts (counted (with_lane posts queue target lane')) queue target at.lane lane'
@@ -116,7 +121,7 @@ take_names ps o limits posts memory queue target number outcome after o_there is
         (rw (named_set o queue target at.place at.lane (record at.entry { phase = phases.Carried bytes })) at parts))
 
 -- a put may take the name of its lane away
-put_names : (ps : List Posts) (o : ℕ) (posts : Posts) (memory : Memory) (queue target number : ℕ) (outcome : Outcome) (after : Parts) → slice_get ps o ≡ Some posts
+put_names : (ps : List Posts) (o : ℕ) (posts : Posts) (memory : Memory) (queue target number : ℕ) (outcome : Outcome) (after : Worked) → slice_get ps o ≡ Some posts
     → put posts memory queue target number outcome ≡ Ok after
     → IsParted (lane_id o queue target) (standing_lanes ps) (standing_lanes (slice_set ps o after.posts)) (lane_id o queue target ∷ []) (lane_named o queue (target, lane_entries (slice_set ps o after.posts) (lane_id o queue target)))
 put_names ps o posts memory queue target number outcome after o_there is =
@@ -145,18 +150,18 @@ put_names ps o posts memory queue target number outcome after o_there is =
       lanes = refl;
     })
 
-    done : (at : Found) (outcome : Outcome) (after : Parts) → IsAt posts queue target at
-        → ◌≡◌ {A = Result Parts Why} (Ok (put_with posts memory queue target at outcome)) (Ok after)
+    done : (at : Found) (outcome : Outcome) (after : Worked) → IsAt posts queue target at
+        → ◌≡◌ {A = Result Worked Why} (Ok (put_with posts memory queue target at outcome)) (Ok after)
         → IsParted (lane_id o queue target) (standing_lanes ps) (standing_lanes (slice_set ps o after.posts)) (lane_id o queue target ∷ []) (lane_named o queue (target, lane_entries (slice_set ps o after.posts) (lane_id o queue target)))
     done at outcome after there is =
         let same : put_with posts memory queue target at outcome ≡ after = cc in
         rw (← same) (of_outcome at outcome there)
 
 -- a post that is done gives its lane a name
-post_names : (ps : List Posts) (o : ℕ) (limits : Limits) (posts : Posts) (queue target : ℕ) (finds : Result (List Kind) Refusal) (reply : Reply) (n : ℕ) → slice_get ps o ≡ Some posts
-    → IsSoundPosts limits posts → IsPost limits posts target queue finds reply → HasLength finds (suc n)
+post_names : (ps : List Posts) (o : ℕ) (limits : Limits) (posts : Posts) (queue target : ℕ) (finds : Result (List Kind) Refusal) (reply : Reply) (entries : ℕ) → slice_get ps o ≡ Some posts
+    → IsSoundPosts limits posts → IsPost limits posts target queue finds reply → HasLength finds entries → 1 ≤ entries
     → IsParted (lane_id o queue target) (standing_lanes ps) (standing_lanes (slice_set ps o (counted (with_post posts queue target finds)))) (lane_named o queue (target, lane_entries ps (lane_id o queue target))) (lane_id o queue target ∷ [])
-post_names ps o limits posts queue target finds reply n o_there sound p count = by_lane (slice_get p.q.lanes target) refl
+post_names ps o limits posts queue target finds reply entries o_there sound p count some = by_lane (slice_get p.q.lanes target) refl
   where
     more : List Entry
     more = posted_entries posts.next p.kinds
@@ -178,7 +183,7 @@ post_names ps o limits posts queue target finds reply n o_there sound p count = 
         }) in
         let long = length-posted_entries posts.next p.kinds ∙ count p.kinds p.made in
         let parts = parted ps o queue target posts (counted (with_post posts queue target finds)) lane (lane ++ more) o_there r in
-        rw (entries_old ps o queue target posts _ lane (lane ++ more) o_there r) (rw (named_more o queue target lane more n long) at parts)
+        rw (entries_old ps o queue target posts _ lane (lane ++ more) o_there r) (rw (named_more o queue target lane more (rw long some)) at parts)
 
 -- an accepted post has a lane
 post_has_lane : (limits : Limits) (me : ℕ) (posts : Posts) (rank queue : ℕ) (asked : Result (List Kind) Refusal) (reply : Reply) → are_limits limits ≡ true → length posts.queues ≤ 8
@@ -191,50 +196,51 @@ post_has_lane limits me posts rank queue asked reply limited few p lane =
     let is : post_lane me rank queue ≡ Some (lane_id me queue rank) = rw a rw b refl in
     cc
 
--- a call that posts to no lane keeps the names of its rank
+-- a call that posts nothing keeps the names of its rank
+quiet_plain : (limits : Limits) (me : ℕ) (posts : Posts) (thread : ℕ) (call : Call) (j : ℕ) → (row_of call).posting ≡ None
+    → rank_named (j, posts_done limits me posts thread call) ≡ rank_named (j, posts)
+quiet_plain limits me posts thread (Wait call) j is = same_changed (queue_named j) 0 call.queue posts.queues (λ (q : Queue). record q { open_count = 0 }) (λ k q. refl)
+quiet_plain limits me posts thread call j is = cc
+
+-- so does one that posts to no lane
 quiet_call : (limits : Limits) (me : ℕ) (posts : Posts) (memory : Memory) (thread : ℕ) (call : Call) (reply : Reply) (j : ℕ) → are_limits limits ≡ true → length posts.queues ≤ 8
     → same_reply reply (recorded_reply (answer limits me posts memory thread call)) ≡ true → is_idle reply ≡ false → call_lane me call ≡ None
     → rank_named (j, posts_done limits me posts thread call) ≡ rank_named (j, posts)
-quiet_call limits me posts memory thread (Alloc seg size) reply j limited few same busy lane = refl
-quiet_call limits me posts memory thread (Register seg rank) reply j limited few same busy lane = refl
-quiet_call limits me posts memory thread (Delete seg) reply j limited few same busy lane = refl
-quiet_call limits me posts memory thread (Store seg offset bytes) reply j limited few same busy lane = refl
-quiet_call limits me posts memory thread (Load seg offset size) reply j limited few same busy lane = refl
-quiet_call limits me posts memory thread (Write seg offset rank rseg roffset size queue) reply j limited few same busy lane =
-    let f = found_by limits me posts memory thread (Write seg offset rank rseg roffset size queue) reply same busy in
-    absurd (post_has_lane limits me posts rank queue (write_kinds me posts.own posts.known seg offset rank rseg roffset size) f.reply_found limited few (post_by limits posts rank queue (write_kinds me posts.own posts.known seg offset rank rseg roffset size) f.reply_found f.finds) lane)
-quiet_call limits me posts memory thread (Notify rseg rank note value queue) reply j limited few same busy lane =
-    let f = found_by limits me posts memory thread (Notify rseg rank note value queue) reply same busy in
-    absurd (post_has_lane limits me posts rank queue (notify_kinds limits.notes me posts.own posts.known rseg rank note value) f.reply_found limited few (post_by limits posts rank queue (notify_kinds limits.notes me posts.own posts.known rseg rank note value) f.reply_found f.finds) lane)
-quiet_call limits me posts memory thread (WriteNotify seg offset rank rseg roffset size note value queue) reply j limited few same busy lane =
-    let f = found_by limits me posts memory thread (WriteNotify seg offset rank rseg roffset size note value queue) reply same busy in
-    absurd (post_has_lane limits me posts rank queue (write_notify_kinds limits.notes me posts.own posts.known seg offset rank rseg roffset size note value) f.reply_found limited few (post_by limits posts rank queue (write_notify_kinds limits.notes me posts.own posts.known seg offset rank rseg roffset size note value) f.reply_found f.finds) lane)
-quiet_call limits me posts memory thread (Wait queue) reply j limited few same busy lane =
-    same_changed (queue_named j) 0 queue posts.queues (λ (q : Queue). record q { open_count = 0 }) (λ k q. refl)
-quiet_call limits me posts memory thread (Waitsome seg begin num) reply j limited few same busy lane = refl
-quiet_call limits me posts memory thread (Reset seg note) reply j limited few same busy lane = refl
-quiet_call limits me posts memory thread (FetchAdd seg offset rank value) reply j limited few same busy lane = refl
-quiet_call limits me posts memory thread (CompareSwap seg offset rank comparator new) reply j limited few same busy lane = refl
-quiet_call limits me posts memory thread End reply j limited few same busy lane = refl
+quiet_call limits me posts memory thread call reply j limited few same busy lane = by_posting (row_of call).posting refl
+  where
+    by_posting : (posting : Option Posting) → (row_of call).posting ≡ posting → rank_named (j, posts_done limits me posts thread call) ≡ rank_named (j, posts)
+    by_posting None is = quiet_plain limits me posts thread call j is
+    by_posting (Some posting) is =
+        let p = posting_of limits me posts call posting is in
+        let f = found_by limits me posts memory thread call reply same busy in
+        let post = posted limits me posts memory thread call reply posting p f in
+        let none : post_lane me posting.rank posting.queue ≡ None = rw is at lane in
+        absurd (post_has_lane limits me posts posting.rank posting.queue p.asked f.reply_found limited few post none)
 
 -- what a recorded call has passed
-record IsCalled (limits : Limits) (me : ℕ) (posts : Posts) (memory : Memory) (thread : ℕ) (call : Call) (reply : Reply) (after : Posts) : Type 0 where
+record IsAnswered (limits : Limits) (me : ℕ) (posts : Posts) (memory : Memory) (thread : ℕ) (call : Call) (reply : Reply) (after : Posts) : Type 0 where
   replied : same_reply reply (recorded_reply (answer limits me posts memory thread call)) ≡ true
   after_is : posts_after limits me posts thread call reply ≡ after
 
-called_by : (limits : Limits) (me : ℕ) (posts : Posts) (memory : Memory) (thread : ℕ) (call : Call) (reply : Reply) (after : Parts)
-    → called limits me posts memory thread call reply ≡ Ok after → IsCalled limits me posts memory thread call reply after.posts
+called_by : (limits : Limits) (me : ℕ) (posts : Posts) (memory : Memory) (thread : ℕ) (call : Call) (reply : Reply) (after : Worked)
+    → called limits me posts memory thread call reply ≡ Ok after → IsAnswered limits me posts memory thread call reply after.posts
 called_by limits me posts memory thread call reply after is =
     passed (check (is_there (thread_at posts thread)) _) _ _ is (λ u there more.
     passed (check (same_reply reply (recorded_reply (answer limits me posts memory thread call))) _) _ _ more (λ u answered more.
     passed (check (nat_le (posts.events + owed posts + charge (thread_at posts thread) call reply) limits.events) _) _ _ more (λ u room more.
     record { replied = check_holds _ _ _ answered; after_is = done after more })))
   where
-    done : (after : Parts) → ◌≡◌ {A = Result Parts Why} (Ok (record { posts = posts_after limits me posts thread call reply; memory = memory_after limits posts memory call reply })) (Ok after)
+    done : (after : Worked) → ◌≡◌ {A = Result Worked Why} (Ok (record { posts = posts_after limits me posts thread call reply; memory = memory_after limits posts memory call reply })) (Ok after)
         → posts_after limits me posts thread call reply ≡ after.posts
     done after is =
         let same : record { posts = posts_after limits me posts thread call reply; memory = memory_after limits posts memory call reply } ≡ after = cc in
-        ap (λ (parts : Parts). parts.posts) same
+        ap (λ (w : Worked). w.posts) same
+
+-- what a peer is told names no lane
+told_standing : (reach : Reach) (me : ℕ) (p : Posts) (call : Call) (reply : Reply) (all : List Posts) → standing_lanes (with_peer_at reach (peer_after me p call reply) all) ≡ standing_lanes all
+told_standing reach me p call reply all =
+    told_by (λ ps. standing_lanes ps ≡ standing_lanes all) reach me p call reply all refl
+    (λ rank change kept. same_changed rank_named 0 rank all change (λ j peer. ap (λ (qs : List Queue). flat_map (queue_named j) (enumerate_from 0 qs)) (kept peer)))
 
 -- what a step that was made has done to the posts
 record IsPosted (s t : State) (o : ℕ) (P : Posts → Posts → Type 0) : Type 0 where
@@ -245,19 +251,16 @@ record IsPosted (s t : State) (o : ℕ) (P : Posts → Posts → Type 0) : Type 
   by : P p p'
 
 call_posts : (s t : State) (c : CallerId) (call : Call) (reply : Reply) → step s (Called c call reply) ≡ Ok t
-    → IsPosted s t c.rank (λ p p'. (memory : Memory) × IsCalled s.limits c.rank p memory c.thread call reply p')
+    → IsPosted s t c.rank (λ p p'. (memory : Memory) × IsAnswered s.limits c.rank p memory c.thread call reply p')
 call_posts s t c call reply is =
-    passed (found (slice_get s.posts c.rank) whys.Caller) _ _ is (λ p p_there more.
-    passed (found (slice_get s.memories (memory_rank s.limits c.rank call)) whys.Caller) _ _ more (λ m m_there more.
-    passed (called s.limits c.rank p m c.thread call reply) _ _ more (λ after steps more.
-    record { p = p; p' = after.posts; there = found_there _ _ _ p_there; is = done p after more; by = (m, called_by s.limits c.rank p m c.thread call reply after steps) })))
-  where
-    done : (p : Posts) (after : Parts)
-        → ◌≡◌ {A = Result State Why} (Ok (record s { posts = told c.rank p call reply (slice_set s.posts c.rank after.posts); memories = slice_set s.memories (memory_rank s.limits c.rank call) after.memory })) (Ok t)
-        → standing_lanes t.posts ≡ standing_lanes (slice_set s.posts c.rank after.posts)
-    done p after is =
-        let same : record s { posts = told c.rank p call reply (slice_set s.posts c.rank after.posts); memories = slice_set s.memories (memory_rank s.limits c.rank call) after.memory } ≡ t = cc in
-        rw (← same) (told_standing c.rank p call reply (slice_set s.posts c.rank after.posts))
+    let b = called_back s t c call reply is in
+    record {
+      p = b.p;
+      p' = b.after.posts;
+      there = b.there;
+      is = ap standing_lanes (sym b.posts) ∙ told_standing (call_reach s.limits c.rank call) c.rank b.p call reply (slice_set s.posts c.rank b.after.posts);
+      by = (b.memory, called_by s.limits c.rank b.p b.memory c.thread call reply b.after b.steps);
+    }
 
 -- a lane of an event that is a call
 some_lane : (idle : Bool) (o : Option LaneId) (id : LaneId) → (if idle then None else o) ≡ Some id → (idle ≡ false) × (o ≡ Some id)
@@ -274,44 +277,19 @@ pub posting : (s t : State) (e : Event) (id : LaneId) → IsSound s → event_la
 posting s t (Take origin queue target number outcome) id sound lane puts is = absurd (let no : ⊥ = cc in no)
 posting s t (Put origin queue target number outcome) id sound lane puts is = absurd (let no : ⊥ = cc in no)
 posting s t (Called c call reply) id sound lane puts is =
-    let l = some_lane (is_idle reply) (call_lane c.rank call) id lane in of_call call l.0 l.1 (call_posts s t c call reply is)
+    let l = some_lane (is_idle reply) (call_lane c.rank call) id lane in of_posting (row_of call).posting refl l.0 l.1 (call_posts s t c call reply is)
   where
-    of_post : (rank queue : ℕ) (asked : Result (List Kind) Refusal) (found : Reply) (n : ℕ) (p p' : Posts) → slice_get s.posts c.rank ≡ Some p → standing_lanes t.posts ≡ standing_lanes (slice_set s.posts c.rank p')
-        → post_lane c.rank rank queue ≡ Some id → IsPost s.limits p rank queue asked found → HasLength asked (suc n) → counted (with_post p queue rank asked) ≡ p'
+    of_posting : (posting : Option Posting) → (row_of call).posting ≡ posting → is_idle reply ≡ false → posting_lane c.rank posting ≡ Some id
+        → IsPosted s t c.rank (λ p p'. (memory : Memory) × IsAnswered s.limits c.rank p memory c.thread call reply p')
         → IsParted id (standing_lanes s.posts) (standing_lanes t.posts) (lane_named id.origin id.queue (id.target, lane_entries s.posts id)) (id ∷ [])
-    of_post rank queue asked found n p p' there new lane post long after =
-        rw (← lane_of_post (nat_lt rank 16 && nat_lt queue 8) (lane_id c.rank queue rank) id lane, new, ← after)
-        (post_names s.posts c.rank s.limits p queue rank asked found n there (sound.posts c.rank p there) post long)
-
-    of_call : (call : Call) → is_idle reply ≡ false → call_lane c.rank call ≡ Some id
-        → IsPosted s t c.rank (λ p p'. (memory : Memory) × IsCalled s.limits c.rank p memory c.thread call reply p')
-        → IsParted id (standing_lanes s.posts) (standing_lanes t.posts) (lane_named id.origin id.queue (id.target, lane_entries s.posts id)) (id ∷ [])
-    of_call (Alloc seg size) busy lane done = absurd (let no : ⊥ = cc in no)
-    of_call (Register seg rank) busy lane done = absurd (let no : ⊥ = cc in no)
-    of_call (Delete seg) busy lane done = absurd (let no : ⊥ = cc in no)
-    of_call (Store seg offset bytes) busy lane done = absurd (let no : ⊥ = cc in no)
-    of_call (Load seg offset size) busy lane done = absurd (let no : ⊥ = cc in no)
-    of_call (Write seg offset rank rseg roffset size queue) busy lane done =
-        let f = found_by s.limits c.rank done.p done.by.0 c.thread (Write seg offset rank rseg roffset size queue) reply done.by.1.replied busy in
-        of_post rank queue (write_kinds c.rank done.p.own done.p.known seg offset rank rseg roffset size) f.reply_found 0 done.p done.p' done.there done.is lane
-        (post_by s.limits done.p rank queue (write_kinds c.rank done.p.own done.p.known seg offset rank rseg roffset size) f.reply_found f.finds) (one_write c.rank done.p.own done.p.known seg offset rank rseg roffset size)
-        (rw busy at done.by.1.after_is)
-    of_call (Notify rseg rank note value queue) busy lane done =
-        let f = found_by s.limits c.rank done.p done.by.0 c.thread (Notify rseg rank note value queue) reply done.by.1.replied busy in
-        of_post rank queue (notify_kinds s.limits.notes c.rank done.p.own done.p.known rseg rank note value) f.reply_found 0 done.p done.p' done.there done.is lane
-        (post_by s.limits done.p rank queue (notify_kinds s.limits.notes c.rank done.p.own done.p.known rseg rank note value) f.reply_found f.finds) (one_notify s.limits.notes c.rank done.p.own done.p.known rseg rank note value)
-        (rw busy at done.by.1.after_is)
-    of_call (WriteNotify seg offset rank rseg roffset size note value queue) busy lane done =
-        let f = found_by s.limits c.rank done.p done.by.0 c.thread (WriteNotify seg offset rank rseg roffset size note value queue) reply done.by.1.replied busy in
-        of_post rank queue (write_notify_kinds s.limits.notes c.rank done.p.own done.p.known seg offset rank rseg roffset size note value) f.reply_found 1 done.p done.p' done.there done.is lane
-        (post_by s.limits done.p rank queue (write_notify_kinds s.limits.notes c.rank done.p.own done.p.known seg offset rank rseg roffset size note value) f.reply_found f.finds) (two_kinds s.limits.notes c.rank done.p.own done.p.known seg offset rank rseg roffset size note value)
-        (rw busy at done.by.1.after_is)
-    of_call (Wait queue) busy lane done = absurd (let no : ⊥ = cc in no)
-    of_call (Waitsome seg begin num) busy lane done = absurd (let no : ⊥ = cc in no)
-    of_call (Reset seg note) busy lane done = absurd (let no : ⊥ = cc in no)
-    of_call (FetchAdd seg offset rank value) busy lane done = absurd (let no : ⊥ = cc in no)
-    of_call (CompareSwap seg offset rank comparator new) busy lane done = absurd (let no : ⊥ = cc in no)
-    of_call End busy lane done = absurd (let no : ⊥ = cc in no)
+    of_posting None row busy lane done = absurd (let no : ⊥ = cc in no)
+    of_posting (Some posting) row busy lane done =
+        let p = posting_of s.limits c.rank done.p call posting row in
+        let f = found_by s.limits c.rank done.p done.by.0 c.thread call reply done.by.1.replied busy in
+        let post = posted s.limits c.rank done.p done.by.0 c.thread call reply posting p f in
+        let after : counted (with_post done.p posting.queue posting.rank p.asked) ≡ done.p' = ap counted (sym (p.leaves c.thread)) ∙ (rw busy at done.by.1.after_is) in
+        rw (← lane_of_post (nat_lt posting.rank 16 && nat_lt posting.queue 8) (lane_id c.rank posting.queue posting.rank) id lane, done.is, ← after)
+        (post_names s.posts c.rank s.limits done.p posting.queue posting.rank p.asked f.reply_found posting.entries done.there (sound.posts c.rank done.p done.there) post p.long p.some)
 
 -- a put
 pub leaving : (s t : State) (e : Event) (id : LaneId) → event_lane e ≡ Some id → is_put e ≡ true → step s e ≡ Ok t
@@ -319,24 +297,15 @@ pub leaving : (s t : State) (e : Event) (id : LaneId) → event_lane e ≡ Some 
 leaving s t (Called c call reply) id lane puts is = absurd (let no : ⊥ = cc in no)
 leaving s t (Take origin queue target number outcome) id lane puts is = absurd (let no : ⊥ = cc in no)
 leaving s t (Put origin queue target number outcome) id lane puts is =
-    passed (found (slice_get s.posts origin) whys.Put) _ _ is (λ p p_there more.
-    passed (found (slice_get s.memories target) whys.Put) _ _ more (λ m m_there more.
-    passed (put p m queue target number outcome) _ _ more (λ after steps more.
-    done p m after (found_there _ _ _ p_there) steps more)))
-  where
-    done : (p : Posts) (m : Memory) (after : Parts) → slice_get s.posts origin ≡ Some p → put p m queue target number outcome ≡ Ok after
-        → ◌≡◌ {A = Result State Why} (Ok (record s { posts = slice_set s.posts origin after.posts; memories = slice_set s.memories target after.memory })) (Ok t)
-        → IsParted id (standing_lanes s.posts) (standing_lanes t.posts) (id ∷ []) (lane_named id.origin id.queue (id.target, lane_entries t.posts id))
-    done p m after there steps is =
-        let same : record s { posts = slice_set s.posts origin after.posts; memories = slice_set s.memories target after.memory } ≡ t = cc in
-        let at : lane_id origin queue target ≡ id = cc in
-        rw (← at, ← same) (put_names s.posts origin p m queue target number outcome after there steps)
+    let b = put_back s t origin queue target number outcome is in
+    let at : lane_id origin queue target ≡ id = cc in
+    rw (← at, ← b.posts) (put_names s.posts origin b.p b.memory queue target number outcome b.after b.there b.steps)
 
 -- any other event keeps the names
 pub quiet : (s t : State) (e : Event) → IsSound s → IsFitting s → event_lane e ≡ None → step s e ≡ Ok t → standing_lanes t.posts ≡ standing_lanes s.posts
 quiet s t (Called c call reply) sound fits lane is = by_idle (is_idle reply) refl
   where
-    done : IsPosted s t c.rank (λ p p'. (memory : Memory) × IsCalled s.limits c.rank p memory c.thread call reply p')
+    done : IsPosted s t c.rank (λ p p'. (memory : Memory) × IsAnswered s.limits c.rank p memory c.thread call reply p')
     done = call_posts s t c call reply is
 
     by_idle : (idle : Bool) → is_idle reply ≡ idle → standing_lanes t.posts ≡ standing_lanes s.posts
@@ -349,16 +318,8 @@ quiet s t (Called c call reply) sound fits lane is = by_idle (is_idle reply) ref
         rw (done.is, ← after) (same_in rank_named 0 c.rank s.posts done.p (counted (posts_done s.limits c.rank done.p c.thread call)) done.there
         (λ j. quiet_call s.limits c.rank done.p done.by.0 c.thread call reply j sound.limits (fits.queues c.rank done.p done.there) done.by.1.replied busy none))
 quiet s t (Take origin queue target number outcome) sound fits lane is =
-    passed (found (slice_get s.posts origin) whys.Take) _ _ is (λ p p_there more.
-    passed (found (slice_get s.memories origin) whys.Take) _ _ more (λ m m_there more.
-    passed (take s.limits p m queue target number outcome) _ _ more (λ after steps more.
-    done p m after (found_there _ _ _ p_there) steps more)))
-  where
-    done : (p : Posts) (m : Memory) (after : Posts) → slice_get s.posts origin ≡ Some p → take s.limits p m queue target number outcome ≡ Ok after
-        → ◌≡◌ {A = Result State Why} (Ok (record s { posts = slice_set s.posts origin after })) (Ok t) → standing_lanes t.posts ≡ standing_lanes s.posts
-    done p m after there steps is =
-        let same : record s { posts = slice_set s.posts origin after } ≡ t = cc in
-        rw (← same) (take_names s.posts origin s.limits p m queue target number outcome after there steps)
+    let b = taken_back s t origin queue target number outcome is in
+    rw (← b.is) (take_names s.posts origin s.limits b.p b.memory queue target number outcome b.after b.there b.steps)
 quiet s t (Put origin queue target number outcome) sound fits lane is = absurd (let no : ⊥ = cc in no)
 
 -- The names after the step of a function that steps.

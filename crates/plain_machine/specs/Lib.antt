@@ -1,4 +1,4 @@
 pub mod Entries
 pub mod Machine
+pub mod Reaching
 pub mod Standing
-pub mod Telling

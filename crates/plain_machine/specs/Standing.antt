@@ -1,10 +1,11 @@
 -- The lanes that have an entry, by origin, queue and target, and the transfers that may come next in a lane.
 use Rattle.std.specs.Prelude.{◌≡◌, ℕ, ◌+◌, Bool, true, false, ◌&&◌, ◌||◌, ◌==◌, nat_lt, List, [], ◌∷◌, length, Option, None, Some, if◌then◌else◌, slice_get, is_none}
 use Rattle.std.specs.List.{flat_map, enumerate_from}
+use Rattle.gaspi_types.specs.CallRows.{row_of}
 use Rattle.gaspi_types.specs.Lanes.{carried_count, has_earlier_write}
 use Rattle.gaspi_types.specs.Replies.{is_idle}
+use Rattle.gaspi_types.specs.declared.call_rows.Posting.{Posting}
 use Rattle.gaspi_types.specs.declared.calls.Call.{Call}
-use Rattle.gaspi_types.specs.declared.calls.Call.TheVariants.{Alloc, Register, Delete, Store, Load, Write, Notify, WriteNotify, Wait, Waitsome, Reset, FetchAdd, CompareSwap, End}
 use Rattle.gaspi_types.specs.declared.entries.Entry.{Entry}
 use Rattle.gaspi_types.specs.declared.events.Event.{Event}
 use Rattle.gaspi_types.specs.declared.events.Event.TheVariants.{Called, Take, Put}
@@ -88,21 +89,12 @@ abbrev pub post_lane : ℕ → ℕ → ℕ → Option LaneId
 post_lane rank target queue = if nat_lt target 16 && nat_lt queue 8 then Some (lane_id rank queue target) else None
 
 -- the lane to which a call posts
+abbrev pub posting_lane : ℕ → Option Posting → Option LaneId
+posting_lane rank None = None
+posting_lane rank (Some posting) = post_lane rank posting.rank posting.queue
+
 abbrev pub call_lane : ℕ → Call → Option LaneId
-call_lane rank (Alloc seg size) = None
-call_lane rank (Register seg target) = None
-call_lane rank (Delete seg) = None
-call_lane rank (Store seg offset bytes) = None
-call_lane rank (Load seg offset size) = None
-call_lane rank (Write seg offset target rseg roffset size queue) = post_lane rank target queue
-call_lane rank (Notify rseg target note value queue) = post_lane rank target queue
-call_lane rank (WriteNotify seg offset target rseg roffset size note value queue) = post_lane rank target queue
-call_lane rank (Wait queue) = None
-call_lane rank (Waitsome seg begin num) = None
-call_lane rank (Reset seg note) = None
-call_lane rank (FetchAdd seg offset target value) = None
-call_lane rank (CompareSwap seg offset target comparator new) = None
-call_lane rank End = None
+call_lane rank call = posting_lane rank (row_of call).posting
 
 -- The lane to which an event may add entries, or from which it may take one: that of a post which is done, and of a put.
 abbrev pub event_lane : Event → Option LaneId

@@ -4,6 +4,7 @@
 mod listing;
 mod machine;
 mod opening;
+mod reaching;
 mod standing;
 mod steps;
 mod transfers;

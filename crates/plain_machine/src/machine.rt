@@ -1,7 +1,7 @@
 //! The machine: a state that is sound, its steps, and what it answers.
 
 ghost use Rattle.std.specs.Prelude.{◌≡◌, ◌≢◌, ◌+◌, ◌<◌, ◌↔◌, IfOk, IsOk, IsTrue, Some, Err, true, false, not, length, slice_get};
-ghost use Rattle.gaspi_types.specs.Need.{need_of};
+ghost use Rattle.gaspi_types.specs.CallRows.{need_of};
 ghost use Rattle.gaspi_model.specs.State.{opening};
 ghost use Rattle.gaspi_model.specs.Step.{step, Steps, answer_in, is_declared, is_active, room_taken, transfer_event};
 ghost use Rattle.gaspi_model.specs.Transfers.{transfers};
@@ -9,8 +9,9 @@ ghost use Rattle.plain_calls.specs.Memory.{is_load, takes_memory};
 
 use crate::listing::{transfer_at, transfer_count, transfers};
 use crate::opening::{all_memories, all_posts, all_taken};
+use crate::reaching::{call_reach, no_memory, worked_memory};
 use crate::standing::LaneId;
-use crate::steps::{memory_rank, step_named};
+use crate::steps::step_named;
 use crate::transfers::{find_entry, put_outcome};
 use gaspi_model::{Memory, Posts, StepFault, Why, soundness};
 use gaspi_types::{
@@ -90,14 +91,14 @@ impl Machine {
         ensures answer { IfOk result (λ ready. answer_in self.now caller.rank caller.thread call.now ≡ Some ready) }
         ensures ample { is_load call.now ≡ false → IsOk result }
     {
-        let rank = caller.rank.index();
+        let none = no_memory(alloc);
+        let reach = call_reach(&self.limits, caller.rank, call);
         answer(
             alloc,
             &self.limits,
             caller.rank,
-            self.posts.at(rank),
-            self.memories
-                .at(memory_rank(&self.limits, caller.rank, call)),
+            self.posts.at(caller.rank.index()),
+            worked_memory(&self.memories, &none, caller.rank, reach),
             caller.thread,
             call,
         )

@@ -100,33 +100,9 @@ fn post_lane(rank: RankId, target: u64, queue: u64) -> Option<LaneId>
 fn call_lane(rank: RankId, call: &Call) -> Option<LaneId>
     ensures { result ≡ call_lane rank call.now }
 {
-    match call {
-        Call::Write {
-            rank: target,
-            queue,
-            ..
-        }
-        | Call::Notify {
-            rank: target,
-            queue,
-            ..
-        }
-        | Call::WriteNotify {
-            rank: target,
-            queue,
-            ..
-        } => post_lane(rank, *target, *queue),
-        Call::Alloc { .. }
-        | Call::Register { .. }
-        | Call::Delete { .. }
-        | Call::Store { .. }
-        | Call::Load { .. }
-        | Call::Wait { .. }
-        | Call::Waitsome { .. }
-        | Call::Reset { .. }
-        | Call::FetchAdd { .. }
-        | Call::CompareSwap { .. }
-        | Call::End => None,
+    match call.row().posting {
+        Some(posting) => post_lane(rank, posting.rank, posting.queue),
+        None => None,
     }
 }
 

@@ -1,85 +1,87 @@
 //! The step of the machine, on the posts and the memories of all ranks.
 
-ghost use Rattle.std.specs.Prelude.{◌≡◌, ◌≢◌, ◌||◌, map, Some, Err, true, false};
+ghost use Rattle.std.specs.Prelude.{◌≡◌, ◌≢◌, ◌<◌, ◌||◌, length, map, Err, true, false, Some};
 ghost use Rattle.gaspi_types.specs.declared.events.Event.TheVariants.{Called, Take, Put};
-ghost use Rattle.gaspi_model.specs.Calls.{memory_rank, with_known, with_told};
+ghost use Rattle.gaspi_types.specs.declared.touches.Reach.TheVariants.{PeerPosts};
 ghost use Rattle.gaspi_model.specs.Sound.{IsSound};
 ghost use Rattle.gaspi_model.specs.Step.{step, Steps};
 ghost use Rattle.plain_machine.specs.Machine.{IsFitting, state_of, taken_of};
 ghost use Rattle.plain_calls.specs.Memory.{is_load, keeps_memory, takes_memory};
-ghost use Rattle.plain_machine.specs.Telling.{told_extent, told_of};
+ghost use Rattle.plain_machine.specs.Reaching.{call_reach, Lent, call_lent, put_lent, AreRanks};
 ghost use Rattle.plain_machine.specs.Standing.{standing_lanes, event_lane, is_put};
 
+use crate::reaching::{call_reach, no_memory, put_reach, take_reach, worked_memory};
 use crate::standing::{LaneId, event_lane, has_entry, is_put, name_lane, unname_lane};
 use crate::transfers::{put, take};
 use gaspi_model::{Memory, Posts, StepFault, Why};
-use gaspi_types::{
-    Call, CallerId, Event, Extent, Limits, Outcome, QueueId, RankId, Reply, Rows, extent_in,
-};
-use plain_calls::{called, is_idle};
+use gaspi_types::{Call, CallerId, Event, Limits, Outcome, QueueId, RankId, Reach, Reply, Rows};
+use plain_calls::{called, news, tell};
 use std::alloc::Global;
 
-/// The rank whose memory a call works on, as a place: for an atomic the one that it names, where that is a rank, and else
-/// its caller's.
-pub fn memory_rank(limits: &Limits, me: RankId, call: &Call) -> usize
-    ensures { result ≡ memory_rank limits.now me call.now }
-{
-    match call {
-        Call::FetchAdd { rank, .. } | Call::CompareSwap { rank, .. }
-            if *rank < u64::from(limits.ranks) => { *rank as usize }
-        _ => me.index(),
-    }
-}
-
-/// The segment that a call makes known.
-fn told_extent(posts: &Posts, call: &Call) -> Option<Extent>
-    ensures { result ≡ told_extent posts.now call.now }
-{
-    match call {
-        Call::Register { seg, .. } => extent_in(&posts.own, *seg),
-        _ => None,
-    }
-}
-
-/// Writes what a rank knows of a segment of an owner.
-fn set_known(posts: &mut Posts, owner: RankId, seg: u64, extent: Option<Extent>)
-    ensures { posts.new ≡ with_known owner seg extent posts.old }
-{
-    let place = owner.index();
-    if place < posts.known.len() {
-        let table = posts.known.at_mut(place);
-        let segment = seg as usize;
-        if segment < table.len() {
-            *table.at_mut(segment) = extent;
-        }
-    }
-}
-
-/// Makes a segment known to a rank, where that is not its owner. (GASPI: segment_register)
-fn tell(posts: &mut Rows<Posts>, owner: RankId, seg: u64, rank: u64, extent: Option<Extent>)
-    ensures { posts.new ≡ with_told owner extent seg rank posts.old }
-{
-    let place = rank as usize;
-    if rank != u64::from(owner.number()) && place < posts.len() {
-        set_known(posts.at_mut(place), owner, seg, extent);
-    }
-}
-
-/// Tells another rank what a call makes known to it.
-fn tell_called(
+/// Steps by a call with its reply on the posts of its rank and the memory that it works on. `taken` is the room that each
+/// rank has taken.
+fn call_on(
+    alloc: Global,
+    limits: &Limits,
     posts: &mut Rows<Posts>,
-    me: RankId,
+    memory: &mut Memory,
+    taken: &mut Rows<u32>,
+    caller: CallerId,
     call: &Call,
     reply: &Reply,
-    extent: Option<Extent>,
-)
-    ensures { posts.new ≡ told_of me extent call.now reply.now posts.old }
+) -> Result<(), StepFault>
+    requires ranks { AreRanks limits.now posts.old }
+    requires there { caller.rank < length posts.old }
+    requires taken { taken.old ≡ map taken_of posts.old }
+    ensures step { Steps {S = Lent} result (record { posts = posts.old; memory = memory.old }) (record { posts = posts.new; memory = memory.new }) (call_lent limits.now posts.old memory.old caller call.now reply.now) }
+    ensures ranks { length posts.new ≡ length posts.old }
+    ensures taken { taken.new ≡ map taken_of posts.new }
+    ensures ample { (is_load call.now || keeps_memory call.now) ≡ false → result ≢ Err StepFault.NoMemory }
 {
-    if is_idle(reply) {
-        return;
-    }
-    if let Call::Register { seg, rank } = call {
-        tell(posts, me, *seg, *rank, extent);
+    let rank = caller.rank.index();
+    called(
+        alloc,
+        limits,
+        caller.rank,
+        posts.at_mut(rank),
+        memory,
+        taken.at_mut(rank),
+        caller.thread,
+        call,
+        reply,
+    )
+}
+
+/// Steps by a call with its reply that tells a peer.
+fn call_telling(
+    alloc: Global,
+    limits: &Limits,
+    posts: &mut Rows<Posts>,
+    memories: &Rows<Memory>,
+    taken: &mut Rows<u32>,
+    caller: CallerId,
+    call: &Call,
+    reply: &Reply,
+    peer: RankId,
+) -> Result<(), StepFault>
+    requires sound { IsSound (state_of limits.now posts.old memories.now) }
+    requires fitting { IsFitting (state_of limits.now posts.old memories.now) }
+    requires there { caller.rank < length posts.old }
+    requires taken { taken.old ≡ map taken_of posts.old }
+    requires reach { call_reach limits.now caller.rank call.now ≡ PeerPosts peer }
+    ensures step { Steps result (state_of limits.now posts.old memories.now) (state_of limits.now posts.new memories.now) (step (state_of limits.now posts.old memories.now) (Called caller call.now reply.now)) }
+    ensures taken { taken.new ≡ map taken_of posts.new }
+    ensures ample { (is_load call.now || keeps_memory call.now) ≡ false → result ≢ Err StepFault.NoMemory }
+{
+    let _memories = memories;
+    let news = news(caller.rank, posts.at(caller.rank.index()), call, reply);
+    let mut none = no_memory(alloc);
+    match call_on(alloc, limits, posts, &mut none, taken, caller, call, reply) {
+        Ok(()) => {
+            tell(posts.at_mut(peer.index()), news);
+            Ok(())
+        }
+        Err(fault) => Err(fault),
     }
 }
 
@@ -102,32 +104,29 @@ fn step_called(
     ensures ample { (is_load call.now || keeps_memory call.now) ≡ false → result ≢ Err StepFault.NoMemory }
 {
     let rank = caller.rank.index();
-    let memory = memory_rank(limits, caller.rank, call);
-    if rank >= posts.len() || memory >= memories.len() {
+    if rank >= posts.len() {
         return Err(StepFault::Illegal(Why::Caller));
     }
-    let extent = told_extent(posts.at(rank), call);
-    let stepped = called(
-        alloc,
-        limits,
-        caller.rank,
-        posts.at_mut(rank),
-        memories.at_mut(memory),
-        taken.at_mut(rank),
-        caller.thread,
-        call,
-        reply,
-    );
-    match stepped {
-        Ok(()) => {
-            tell_called(posts, caller.rank, call, reply, extent);
-            Ok(())
+    match call_reach(limits, caller.rank, call) {
+        Reach::Alone => {
+            let mut none = no_memory(alloc);
+            call_on(alloc, limits, posts, &mut none, taken, caller, call, reply)
         }
-        Err(fault) => Err(fault),
+        Reach::OwnMemory => {
+            let memory = memories.at_mut(rank);
+            call_on(alloc, limits, posts, memory, taken, caller, call, reply)
+        }
+        Reach::PeerMemory(peer) => {
+            let memory = memories.at_mut(peer.index());
+            call_on(alloc, limits, posts, memory, taken, caller, call, reply)
+        }
+        Reach::PeerPosts(peer) => call_telling(
+            alloc, limits, posts, memories, taken, caller, call, reply, peer,
+        ),
     }
 }
 
-/// Steps by a take.
+/// Steps by a take: a write takes its bytes from its origin's memory.
 fn step_take(
     alloc: Global,
     limits: &Limits,
@@ -144,14 +143,17 @@ fn step_take(
     ensures taken { map taken_of posts.new ≡ map taken_of posts.old }
 {
     let rank = origin.index();
-    if rank >= posts.len() || rank >= memories.len() {
+    if rank >= posts.len() {
         return Err(StepFault::Illegal(Why::Take));
     }
+    let none = no_memory(alloc);
+    let reach = take_reach(limits, posts.at(rank), origin, queue, target, number);
+    let memory = worked_memory(memories, &none, origin, reach);
     take(
         alloc,
         limits,
         posts.at_mut(rank),
-        memories.at(rank),
+        memory,
         queue,
         target,
         number,
@@ -159,8 +161,37 @@ fn step_take(
     )
 }
 
-/// Steps by a put. It takes no memory.
+/// Steps by a put on the posts of its origin and the memory that it works on. It takes no memory.
+fn put_on(
+    limits: &Limits,
+    posts: &mut Rows<Posts>,
+    memory: &mut Memory,
+    origin: RankId,
+    queue: QueueId,
+    target: RankId,
+    number: u32,
+    outcome: Outcome,
+) -> Result<(), StepFault>
+    requires ranks { AreRanks limits.now posts.old }
+    requires there { origin < length posts.old }
+    ensures step { Steps {S = Lent} result (record { posts = posts.old; memory = memory.old }) (record { posts = posts.new; memory = memory.new }) (put_lent posts.old memory.old origin queue target number outcome) }
+    ensures taken { map taken_of posts.new ≡ map taken_of posts.old }
+    ensures ample { result ≢ Err StepFault.NoMemory }
+{
+    let _limits = limits;
+    put(
+        posts.at_mut(origin.index()),
+        memory,
+        queue,
+        target,
+        number,
+        outcome,
+    )
+}
+
+/// Steps by a put, on the memory of its target. It takes no memory.
 fn step_put(
+    alloc: Global,
     limits: &Limits,
     posts: &mut Rows<Posts>,
     memories: &mut Rows<Memory>,
@@ -170,25 +201,36 @@ fn step_put(
     number: u32,
     outcome: Outcome,
 ) -> Result<(), StepFault>
-    requires { IsSound (state_of limits.now posts.old memories.old) }
+    requires sound { IsSound (state_of limits.now posts.old memories.old) }
+    requires fitting { IsFitting (state_of limits.now posts.old memories.old) }
     ensures step { Steps result (state_of limits.now posts.old memories.old) (state_of limits.now posts.new memories.new) (step (state_of limits.now posts.old memories.old) (Put origin queue target number outcome)) }
     ensures taken { map taken_of posts.new ≡ map taken_of posts.old }
     ensures ample { result ≢ Err StepFault.NoMemory }
 {
-    let _limits = limits;
     let rank = origin.index();
-    let owner = target.index();
-    if rank >= posts.len() || owner >= memories.len() {
+    if rank >= posts.len() {
         return Err(StepFault::Illegal(Why::Put));
     }
-    put(
-        posts.at_mut(rank),
-        memories.at_mut(owner),
-        queue,
-        target,
-        number,
-        outcome,
-    )
+    match put_reach(limits, posts.at(rank), origin, queue, target, number) {
+        Reach::OwnMemory => {
+            let memory = memories.at_mut(rank);
+            put_on(
+                limits, posts, memory, origin, queue, target, number, outcome,
+            )
+        }
+        Reach::PeerMemory(peer) => {
+            let memory = memories.at_mut(peer.index());
+            put_on(
+                limits, posts, memory, origin, queue, target, number, outcome,
+            )
+        }
+        Reach::Alone | Reach::PeerPosts(_) => {
+            let mut none = no_memory(alloc);
+            put_on(
+                limits, posts, &mut none, origin, queue, target, number, outcome,
+            )
+        }
+    }
 }
 
 /// Steps by an event: at Ok the step's state stands; an illegal event is none, for that cause, and changed nothing;
@@ -219,7 +261,7 @@ fn step(
         }
         Event::Put(origin, queue, target, number, outcome) => {
             step_put(
-                limits, posts, memories, *origin, *queue, *target, *number, *outcome,
+                alloc, limits, posts, memories, *origin, *queue, *target, *number, *outcome,
             )
         }
     }

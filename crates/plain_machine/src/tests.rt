@@ -3,8 +3,9 @@ ghost use Rattle.std.specs.Prelude.{◌≡◌, ◌<◌};
 use crate::Machine;
 use gaspi_model::{StepFault, Why};
 use gaspi_types::{
-    Bytes, Call, CallerId, Event, Outcome, QueueId, RankId, Ready, Refusal, Reply, Rows, Shape,
-    ThreadId, Transfer,
+    Alloc, Bytes, Call, CallerId, CompareSwap, Delete, Event, FetchAdd, Load, Notify, Outcome,
+    QueueId, RankId, Ready, Refusal, Register, Reply, Reset, Rows, Shape, Store, ThreadId,
+    Transfer, Wait, Write, WriteNotify,
 };
 use std::alloc::Global;
 use std::process::Abort;
@@ -36,7 +37,7 @@ fn bytes(alloc: Global) -> Result<Bytes, Fail> {
 }
 
 fn write_notify() -> Call {
-    Call::WriteNotify {
+    Call::WriteNotify(WriteNotify {
         seg: 0,
         offset: 0,
         rank: 1,
@@ -46,11 +47,11 @@ fn write_notify() -> Call {
         note: 3,
         value: 7,
         queue: 0,
-    }
+    })
 }
 
 fn write() -> Call {
-    Call::Write {
+    Call::Write(Write {
         seg: 0,
         offset: 0,
         rank: 1,
@@ -58,26 +59,26 @@ fn write() -> Call {
         roffset: 4,
         size: 2,
         queue: 0,
-    }
+    })
 }
 
 fn notify(note: u64, value: u32) -> Call {
-    Call::Notify {
+    Call::Notify(Notify {
         rseg: 0,
         rank: 1,
         note,
         value,
         queue: 0,
-    }
+    })
 }
 
 fn add(value: u64) -> Call {
-    Call::FetchAdd {
+    Call::FetchAdd(FetchAdd {
         seg: 0,
         offset: 0,
         rank: 1,
         value,
-    }
+    })
 }
 
 fn transfer(number: u32, put: bool) -> Transfer {
@@ -173,11 +174,11 @@ fn a_post(rt: HostRuntime) -> Result<(), Fail> {
 fn a_notified_write(rt: HostRuntime) -> Result<(), Fail> {
     let alloc = rt.alloc();
     let mut machine = two_ranks(alloc)?;
-    let store = Call::Store {
+    let store = Call::Store(Store {
         seg: 0,
         offset: 0,
         bytes: bytes(alloc)?,
-    };
+    });
     calls(&rt, alloc, &mut machine, 0, store, Reply::Done);
     calls(&rt, alloc, &mut machine, 0, write_notify(), Reply::Done);
     moves(&rt, alloc, &mut machine, 0, false);
@@ -190,21 +191,21 @@ fn a_notified_write(rt: HostRuntime) -> Result<(), Fail> {
         alloc,
         &mut machine,
         0,
-        Call::Wait { queue: 0 },
+        Call::Wait(Wait { queue: 0 }),
         Reply::Done,
     );
     answers(
         &rt,
         alloc,
         &machine,
-        &Call::Reset { seg: 0, note: 3 },
+        &Call::Reset(Reset { seg: 0, note: 3 }),
         Ready::Reply(Reply::Value(7)),
     )?;
-    let load = Call::Load {
+    let load = Call::Load(Load {
         seg: 0,
         offset: 4,
         size: 2,
-    };
+    });
     answers(
         &rt,
         alloc,
@@ -238,7 +239,7 @@ fn a_write_and_a_notification(rt: HostRuntime) -> Result<(), Fail> {
         &rt,
         alloc,
         &machine,
-        &Call::Reset { seg: 0, note: 3 },
+        &Call::Reset(Reset { seg: 0, note: 3 }),
         Ready::Reply(Reply::Value(7)),
     )
 }
@@ -281,20 +282,27 @@ fn a_target_that_goes_away(rt: HostRuntime) -> Result<(), Fail> {
         alloc,
         &mut machine,
         1,
-        Call::Delete { seg: 0 },
+        Call::Delete(Delete { seg: 0 }),
         Reply::Done,
     );
     moves(&rt, alloc, &mut machine, 0, false);
     moves(&rt, alloc, &mut machine, 0, true);
     assert_eq!(rt; machine.transfer_count(), 0);
     let broken = refused(Refusal::QueueBroken { rank: 1 });
-    calls(&rt, alloc, &mut machine, 0, Call::Wait { queue: 0 }, broken);
+    calls(
+        &rt,
+        alloc,
+        &mut machine,
+        0,
+        Call::Wait(Wait { queue: 0 }),
+        broken,
+    );
     calls(
         &rt,
         alloc,
         &mut machine,
         1,
-        Call::Alloc { seg: 0, size: 8 },
+        Call::Alloc(Alloc { seg: 0, size: 8 }),
         Reply::Done,
     );
     calls(
@@ -310,17 +318,17 @@ fn a_target_that_goes_away(rt: HostRuntime) -> Result<(), Fail> {
         alloc,
         &mut machine,
         1,
-        Call::Register { seg: 0, rank: 0 },
+        Call::Register(Register { seg: 0, rank: 0 }),
         Reply::Done,
     );
     calls(&rt, alloc, &mut machine, 0, add(5), Reply::Value(0));
-    let swap = Call::CompareSwap {
+    let swap = Call::CompareSwap(CompareSwap {
         seg: 0,
         offset: 0,
         rank: 1,
         comparator: 5,
         new: u64::MAX,
-    };
+    });
     calls(&rt, alloc, &mut machine, 1, swap, Reply::Value(5));
     answers(
         &rt,

@@ -1,7 +1,7 @@
 //! Takes and puts: what a transfer may do, and what it leaves. (GASPI: one-sided communication, notification order)
 
 ghost use Rattle.std.specs.Prelude.{◌≡◌, ◌≢◌, ◌+◌, ◌<◌, ◌^◌, IfOk, Err};
-ghost use Rattle.gaspi_model.specs.Transfers.{same_outcome, find_entry, take, put, put_outcome, target_segment, target_generation, taken_bytes, carried_bytes, memory_put, Parts};
+ghost use Rattle.gaspi_model.specs.Transfers.{same_outcome, find_entry, take, put, put_outcome, target_segment, target_generation, taken_bytes, carried_bytes, memory_put, Worked};
 ghost use Rattle.gaspi_model.specs.Step.{Steps};
 ghost use Rattle.plain_machine.specs.Entries.{Finds, lane_phase, queue_phase, posts_phase, queue_failed, posts_failed_at, queue_without, posts_without};
 
@@ -246,7 +246,7 @@ pub fn put(
     outcome: Outcome,
 ) -> Result<(), StepFault>
     requires { posts.old.events + 1 < 2 ^ 32 }
-    ensures step { Steps {S = Parts} result (record { posts = posts.old; memory = memory.old }) (record { posts = posts.new; memory = memory.new }) (put posts.old memory.old queue target number outcome) }
+    ensures step { Steps {S = Worked} result (record { posts = posts.old; memory = memory.old }) (record { posts = posts.new; memory = memory.new }) (put posts.old memory.old queue target number outcome) }
     ensures ample { result ≢ Err StepFault.NoMemory }
 {
     let at = match find_entry(posts, queue, target, number, Why::Put) {

@@ -1,0 +1,131 @@
+-- A call that posts: what it asks for, what it finds and what it leaves, as its row says.
+use Rattle.std.proofs.Common.{◌≡◌, ℕ, ◌+◌, ◌*◌, ◌≤◌, true, not, ◌==◌, nat_le, nat_lt, List, [], ◌∷◌, Option, Some, Result, Ok, if◌then◌else◌, length, slice_get, refl, sym, ap, arith}
+use Rattle.gaspi_types.specs.CallRows.{row_of}
+use Rattle.gaspi_types.specs.Checks.{check, found, absent}
+use Rattle.gaspi_types.specs.Posts.{write_kinds, notify_kinds, write_notify_kinds}
+use Rattle.gaspi_types.specs.Replies.{is_done}
+use Rattle.gaspi_types.specs.SegmentBytes.{is_transfer_size, is_within}
+use Rattle.gaspi_types.specs.SegmentTables.{extent_in, known_extent}
+use Rattle.gaspi_types.specs.declared.call_rows.Posting.{Posting}
+use Rattle.gaspi_types.specs.declared.calls.Call.{Call}
+use Rattle.gaspi_types.specs.declared.calls.Call.TheVariants.{Write, Notify, WriteNotify}
+use Rattle.gaspi_types.specs.declared.calls.posts.Write as write
+use Rattle.gaspi_types.specs.declared.calls.posts.Notify as notify
+use Rattle.gaspi_types.specs.declared.calls.posts.WriteNotify as write_notify
+use Rattle.gaspi_types.specs.declared.entries.Extent.{Extent}
+use Rattle.gaspi_types.specs.declared.entries.Kind.{Kind}
+use Rattle.gaspi_types.specs.declared.shapes.Limits.{Limits}
+use Rattle.gaspi_types.specs.declared.replies.Refusal.{Refusal}
+use Rattle.gaspi_types.specs.declared.replies.Reply.{Reply}
+use Rattle.gaspi_types.specs.declared.replies.Reply.TheVariants as replies
+use Rattle.gaspi_model.specs.Calls.{call_finds, posts_done, charge}
+use Rattle.gaspi_model.specs.PostCalls.{asked_finds, write_asks, notify_asks, write_notify_asks}
+use Rattle.gaspi_model.specs.Posting.{with_post}
+use Rattle.gaspi_model.specs.declared.states.Queue.{Queue}
+use Rattle.gaspi_model.specs.declared.states.Posts.{Posts}
+use Rattle.gaspi_model.specs.declared.states.Memory.{Memory}
+use Rattle.gaspi_model.specs.declared.states.ThreadState.{ThreadState}
+use Rattle.plain_calls.proofs.Chains.{passed, found_there, check_holds}
+
+-- what an accepted post stands on
+pub record IsPost (limits : Limits) (posts : Posts) (rank queue : ℕ) (finds : Result (List Kind) Refusal) (reply : Reply) : Type 0 where
+  pub replied : is_done reply ≡ true
+  pub ranked : nat_lt rank limits.ranks ≡ true
+  pub q : Queue
+  pub there : slice_get posts.queues queue ≡ Some q
+  pub kinds : List Kind
+  pub made : finds ≡ Ok kinds
+  pub room : nat_le (q.open_count + length kinds) limits.depth ≡ true
+
+pub post_by : (limits : Limits) (posts : Posts) (rank queue : ℕ) (asked : Result (List Kind) Refusal) (reply : Reply)
+    → asked_finds limits posts rank queue asked ≡ Ok (Some reply) → IsPost limits posts rank queue asked reply
+post_by limits posts rank queue asked reply is =
+    passed (check (nat_lt rank limits.ranks) _) _ _ is (λ u ranked more.
+    passed (found (slice_get posts.queues queue) _) _ _ more (λ q there more.
+    passed asked _ _ more (λ kinds made more.
+    passed (absent q.broken _) _ _ more (λ v whole more.
+    passed (check (nat_le (q.open_count + length kinds) limits.depth) _) _ _ more (λ w room more.
+    record { replied = done_reply reply more; ranked = check_holds _ _ _ ranked; q = q; there = found_there _ _ _ there; kinds = kinds; made = made; room = check_holds _ _ _ room })))))
+  where
+    done_reply : (reply : Reply) → ◌≡◌ {A = Result (Option Reply) Refusal} (Ok (Some replies.Done)) (Ok (Some reply)) → is_done reply ≡ true
+    done_reply reply is = let same : replies.Done ≡ reply = cc in sym (ap is_done same)
+
+-- how many entries what is asked for has, where it has them
+abbrev pub HasLength : Result (List Kind) Refusal → ℕ → Type 0
+HasLength asked entries = (kinds : List Kind) → asked ≡ Ok kinds → length kinds ≡ entries
+
+same_length : (those kinds : List Kind) → ◌≡◌ {A = Result (List Kind) Refusal} (Ok those) (Ok kinds) → length kinds ≡ length those
+same_length those kinds is = let same : those ≡ kinds = cc in sym (ap length same)
+
+-- a write
+one_write : (me : ℕ) (own : List (Option Extent)) (known : List (List (Option Extent))) (call : write.Write) → HasLength (write_kinds me own known call) 1
+one_write me own known call kinds is =
+    passed (found (extent_in own call.seg) _) _ _ is (λ mine a more.
+    passed (found (known_extent me own known call.rank call.rseg) _) _ _ more (λ theirs a more.
+    passed (check (is_transfer_size call.size) _) _ _ more (λ u a more.
+    passed (check (is_within call.offset call.size mine.size) _) _ _ more (λ u a more.
+    passed (check (is_within call.roffset call.size theirs.size) _) _ _ more (λ u a more. same_length (_ ∷ []) kinds more)))))
+
+-- a notification
+one_notify : (notes me : ℕ) (own : List (Option Extent)) (known : List (List (Option Extent))) (call : notify.Notify) → HasLength (notify_kinds notes me own known call) 1
+one_notify notes me own known call kinds is =
+    passed (found (known_extent me own known call.rank call.rseg) _) _ _ is (λ theirs a more.
+    passed (check (nat_lt call.note notes) _) _ _ more (λ u a more.
+    passed (check (not (call.value == 0)) _) _ _ more (λ u a more. same_length (_ ∷ []) kinds more)))
+
+-- a write and its notification
+two_kinds : (notes me : ℕ) (own : List (Option Extent)) (known : List (List (Option Extent))) (call : write_notify.WriteNotify) → HasLength (write_notify_kinds notes me own known call) 2
+two_kinds notes me own known call kinds is =
+    passed (found (extent_in own call.seg) _) _ _ is (λ mine a more.
+    passed (found (known_extent me own known call.rank call.rseg) _) _ _ more (λ theirs a more.
+    passed (check (is_transfer_size call.size) _) _ _ more (λ u a more.
+    passed (check (is_within call.offset call.size mine.size) _) _ _ more (λ u a more.
+    passed (check (is_within call.roffset call.size theirs.size) _) _ _ more (λ u a more.
+    passed (check (nat_lt call.note notes) _) _ _ more (λ u a more.
+    passed (check (not (call.value == 0)) _) _ _ more (λ u a more. same_length (_ ∷ _ ∷ []) kinds more)))))))
+
+-- what a call that posts asks for, and that it does what its row says
+pub record IsPosting (limits : Limits) (me : ℕ) (posts : Posts) (call : Call) (posting : Posting) : Type 0 where
+  pub asked : Result (List Kind) Refusal
+  pub long : HasLength asked posting.entries
+  pub few : posting.entries ≤ 2
+  pub some : 1 ≤ posting.entries
+  pub finds : (memory : Memory) → call_finds limits me posts memory call ≡ asked_finds limits posts posting.rank posting.queue asked
+  pub leaves : (thread : ℕ) → posts_done limits me posts thread call ≡ with_post posts posting.queue posting.rank asked
+  pub charged : (t : ThreadState) (reply : Reply) → charge t call reply ≡ (if is_done reply then 1 + 2 * posting.entries else 1)
+
+pub posting_of : (limits : Limits) (me : ℕ) (posts : Posts) (call : Call) (posting : Posting) → (row_of call).posting ≡ Some posting → IsPosting limits me posts call posting
+posting_of limits me posts (Write call) posting is =
+    let same : record { entries = 1; rank = call.rank; queue = call.queue } ≡ posting = cc in
+    rw (← same) (record {
+      asked = write_asks me posts call;
+      long = one_write me posts.own posts.known call;
+      few = omega arith;
+      some = omega arith;
+      finds = λ memory. refl;
+      leaves = λ thread. refl;
+      charged = λ t reply. refl;
+    })
+posting_of limits me posts (Notify call) posting is =
+    let same : record { entries = 1; rank = call.rank; queue = call.queue } ≡ posting = cc in
+    rw (← same) (record {
+      asked = notify_asks limits me posts call;
+      long = one_notify limits.notes me posts.own posts.known call;
+      few = omega arith;
+      some = omega arith;
+      finds = λ memory. refl;
+      leaves = λ thread. refl;
+      charged = λ t reply. refl;
+    })
+posting_of limits me posts (WriteNotify call) posting is =
+    let same : record { entries = 2; rank = call.rank; queue = call.queue } ≡ posting = cc in
+    rw (← same) (record {
+      asked = write_notify_asks limits me posts call;
+      long = two_kinds limits.notes me posts.own posts.known call;
+      few = omega arith;
+      some = omega arith;
+      finds = λ memory. refl;
+      leaves = λ thread. refl;
+      charged = λ t reply. refl;
+    })
+posting_of limits me posts call posting is = absurd (let no : ⊥ = cc in no)

@@ -1,0 +1,68 @@
+//! What a post leaves: its entries at the end of a lane. (GASPI: one-sided communication)
+
+ghost use Rattle.std.specs.Prelude.{◌≡◌, ◌+◌, ◌<◌, ◌^◌, length, slice_get, Some, Ok, OnOk, OnErr};
+ghost use Rattle.gaspi_model.specs.Posting.{with_entries, with_post};
+ghost use Rattle.gaspi_model.specs.declared.states.Queue.{Queue};
+ghost use Rattle.plain_calls.specs.Room.{IsRoom};
+
+use crate::lanes::posted_entries;
+use gaspi_model::{Posts, Queue};
+use gaspi_types::{Entry, Kind, NoMemory, Refusal, Rows};
+use std::alloc::Global;
+
+/// Adds entries to a lane of a queue. Without memory nothing changes.
+#[tactic(auto, using(crate::proofs::Items::set_there))]
+fn append_entries(q: &mut Queue, target: u64, entries: Rows<Entry>) -> Result<(), NoMemory>
+    requires { q.old.open_count + length entries < 2 ^ 32 }
+    ensures ok { OnOk result (q.new ≡ with_entries target entries q.old) }
+    ensures err { OnErr result (q.new ≡ q.old) }
+{
+    let count = entries.len() as u32;
+    let place = target as usize;
+    if place < q.lanes.len() {
+        q.lanes.at_mut(place).extend(entries)?;
+    }
+    q.open_count += count;
+    Ok(())
+}
+
+/// Makes a post that is accepted. Without memory nothing changes.
+#[tactic(auto, using(crate::proofs::Items::posts_lemmas))]
+fn post(
+    alloc: Global,
+    posts: &mut Posts,
+    queue: u64,
+    target: u64,
+    kinds: &[Kind],
+) -> Result<(), NoMemory>
+    requires numbers { posts.old.next + length kinds.now < 2 ^ 32 }
+    requires counts { (q : Queue) → slice_get posts.old.queues queue ≡ Some q → q.open_count + length kinds.now < 2 ^ 32 }
+    ensures ok { OnOk result (posts.new ≡ with_post posts.old queue target (Ok kinds.now)) }
+    ensures err { OnErr result (posts.new ≡ posts.old) }
+{
+    let entries = posted_entries(alloc, posts.next, kinds)?;
+    let place = queue as usize;
+    if place < posts.queues.len() {
+        append_entries(posts.queues.at_mut(place), target, entries)?;
+    }
+    posts.next += kinds.len() as u32;
+    Ok(())
+}
+
+/// Makes a post of the entries that a call asks for, where it has them. Without memory nothing changes.
+pub fn post_asked<const N: usize>(
+    alloc: Global,
+    posts: &mut Posts,
+    queue: u64,
+    target: u64,
+    asked: Result<[Kind; N], Refusal>,
+) -> Result<(), NoMemory>
+    requires { IsRoom posts.old N queue }
+    ensures ok { OnOk result (posts.new ≡ with_post posts.old queue target asked.entry) }
+    ensures err { OnErr result (posts.new ≡ posts.old) }
+{
+    match asked {
+        Ok(kinds) => post(alloc, posts, queue, target, &kinds),
+        Err(_) => Ok(()),
+    }
+}

@@ -1,0 +1,143 @@
+//! The calls of segments: what they find, and what they leave. (GASPI: segments)
+
+ghost use Rattle.std.specs.Prelude.{◌≡◌, ◌+◌, ◌<◌, ◌≤◌, ◌^◌, length, OnOk, OnErr, IfSome};
+ghost use Rattle.std.specs.List.{list_any};
+ghost use Rattle.gaspi_types.specs.Lanes.{has_user};
+ghost use Rattle.gaspi_types.specs.SegmentTables.{extent_in};
+ghost use Rattle.gaspi_model.specs.SegmentCalls.{alloc_finds, with_own, alloc_leaves, register_finds, with_known, user_of, delete_finds, without_own, delete_leaves};
+ghost use Rattle.plain_calls.specs.Room.{HasAllocRoom};
+
+use crate::lanes::has_user;
+use crate::memories::{new_segment, set_segment};
+use crate::tables::{next_generation, set_own, use_generation};
+use gaspi_model::{Memory, Posts, Queue};
+use gaspi_types::{
+    Alloc, Delete, Extent, Limits, NoMemory, RankId, Refusal, Register, Reply, Rows, extent_in,
+    is_segment_size,
+};
+use std::alloc::Global;
+
+/// Checks a segment that is to be made. (GASPI: segment_alloc)
+pub fn alloc_finds(posts: &Posts, call: &Alloc) -> Result<Option<Reply>, Refusal>
+    ensures { result ≡ alloc_finds posts.now call.now }
+{
+    if call.seg >= 32 {
+        return Err(Refusal::NoSegment);
+    }
+    if extent_in(&posts.own, call.seg).is_some() {
+        return Err(Refusal::SegmentThere);
+    }
+    if !is_segment_size(call.size) {
+        return Err(Refusal::BadSize);
+    }
+    Ok(Some(Reply::Done))
+}
+
+/// Makes an own segment of the next generation of its number. Without memory nothing changes. (GASPI: segment_alloc)
+pub fn alloc_leaves(
+    alloc: Global,
+    limits: &Limits,
+    posts: &mut Posts,
+    memory: &mut Memory,
+    call: &Alloc,
+) -> Result<(), NoMemory>
+    requires { HasAllocRoom posts.old call.now }
+    ensures posts { OnOk result (posts.new ≡ with_own posts.old call.now.seg call.now.size) }
+    ensures memory { OnOk result (memory.new ≡ alloc_leaves limits.now posts.old memory.old call.now) }
+    ensures posts_kept { OnErr result (posts.new ≡ posts.old) }
+    ensures memory_kept { OnErr result (memory.new ≡ memory.old) }
+{
+    let size = call.size as u32;
+    let generation = next_generation(&posts.next_generations, call.seg);
+    let segment = new_segment(alloc, limits.notes, generation, size)?;
+    set_segment(memory, call.seg, Some(segment));
+    set_own(posts, call.seg, Some(Extent { generation, size }));
+    use_generation(&mut posts.next_generations, call.seg);
+    Ok(())
+}
+
+/// Checks a segment that is to be made known to a rank. (GASPI: segment_register)
+pub fn register_finds(
+    limits: &Limits,
+    posts: &Posts,
+    call: &Register,
+) -> Result<Option<Reply>, Refusal>
+    ensures { result ≡ register_finds limits.now posts.now call.now }
+{
+    if call.rank >= u64::from(limits.ranks) {
+        return Err(Refusal::BadRank);
+    }
+    extent_in(&posts.own, call.seg).ok_or(Refusal::NoSegment)?;
+    Ok(Some(Reply::Done))
+}
+
+/// What a peer is told: a segment of an owner, as it is now.
+#[derive(Clone, Copy, Debug, PartialEq, Eq)]
+pub struct News {
+    pub owner: RankId,
+    pub seg: u64,
+    pub extent: Option<Extent>,
+}
+
+/// What a peer is told of a segment that is made known to it. (GASPI: segment_register)
+pub fn register_news(me: RankId, posts: &Posts, call: &Register) -> News
+    ensures { result ≡ record { owner = me; seg = call.now.seg; extent = extent_in posts.now.own call.now.seg } }
+{
+    News {
+        owner: me,
+        seg: call.seg,
+        extent: extent_in(&posts.own, call.seg),
+    }
+}
+
+/// Makes a segment of an owner known to a rank.
+pub fn set_known(posts: &mut Posts, news: News)
+    ensures { posts.new ≡ with_known news.owner news.seg news.extent posts.old }
+{
+    let place = news.owner.index();
+    if place < posts.known.len() {
+        let table = posts.known.at_mut(place);
+        let segment = news.seg as usize;
+        if segment < table.len() {
+            *table.at_mut(segment) = news.extent;
+        }
+    }
+}
+
+/// Whether an entry of a queue has to read an own segment yet.
+fn queue_uses(q: &Queue, seg: u64) -> bool
+    ensures { result ≡ list_any (has_user seg) q.now.lanes }
+{
+    q.lanes.as_slice().iter().any(|lane| has_user(seg, lane))
+}
+
+/// The least queue with an entry that has to read an own segment yet.
+fn user_of(queues: &Rows<Queue>, seg: u64) -> Option<usize>
+    ensures queue { result ≡ user_of queues.now seg }
+    ensures bound { IfSome result (λ queue. queue < length queues.now) }
+{
+    queues.as_slice().iter().position(|q| queue_uses(q, seg))
+}
+
+/// Checks that no entry of the rank's own uses a segment. (GASPI: segment_delete)
+pub fn delete_finds(posts: &Posts, call: &Delete) -> Result<Option<Reply>, Refusal>
+    requires { length posts.now.queues ≤ 8 }
+    ensures { result ≡ delete_finds posts.now call.now }
+{
+    extent_in(&posts.own, call.seg).ok_or(Refusal::NoSegment)?;
+    match user_of(&posts.queues, call.seg) {
+        Some(queue) => Err(Refusal::SegmentBusy {
+            queue: queue as u32,
+        }),
+        None => Ok(Some(Reply::Done)),
+    }
+}
+
+/// Drops an own segment. (GASPI: segment_delete)
+pub fn delete_leaves(posts: &mut Posts, memory: &mut Memory, call: &Delete)
+    ensures posts { posts.new ≡ without_own posts.old call.now.seg }
+    ensures memory { memory.new ≡ delete_leaves memory.old call.now }
+{
+    set_own(posts, call.seg, None);
+    set_segment(memory, call.seg, None);
+}

@@ -1,0 +1,77 @@
+-- What an event that reaches some parts works on, with the posts of all ranks and one memory lent. (own choice)
+use Rattle.std.specs.Prelude.{◌≡◌, ℕ, ◌≤◌, true, List, length, Some, Result, Ok, slice_get, slice_set}
+use Rattle.gaspi_types.specs.CallRows.{row_of}
+use Rattle.gaspi_types.specs.Checks.{◌>>=◌, found}
+use Rattle.gaspi_types.specs.Touches.{reach_of}
+use Rattle.gaspi_types.specs.World.{are_limits}
+use Rattle.gaspi_types.specs.declared.calls.Call.{Call}
+use Rattle.gaspi_types.specs.declared.entries.Kind.{Kind}
+use Rattle.gaspi_types.specs.declared.events.Outcome.{Outcome}
+use Rattle.gaspi_types.specs.declared.replies.Reply.{Reply}
+use Rattle.gaspi_types.specs.declared.shapes.CallerId.{CallerId}
+use Rattle.gaspi_types.specs.declared.shapes.Limits.{Limits}
+use Rattle.gaspi_types.specs.declared.touches.Touch.{Touch}
+use Rattle.gaspi_types.specs.declared.touches.Reach.{Reach}
+use Rattle.gaspi_types.specs.declared.touches.Reach.TheVariants.{Alone, OwnMemory, PeerMemory, PeerPosts}
+use Rattle.gaspi_model.specs.Parts.{no_memory, memory_or_none}
+use Rattle.gaspi_model.specs.Posting.{changed_at}
+use Rattle.gaspi_model.specs.Sound.{IsSoundPosts}
+use Rattle.gaspi_model.specs.Step.{called, entry_touch}
+use Rattle.gaspi_model.specs.Transfers.{put, entry_in}
+use Rattle.gaspi_model.specs.declared.states.Posts.{Posts}
+use Rattle.gaspi_model.specs.declared.states.Memory.{Memory}
+use Rattle.gaspi_model.specs.declared.states.Why.{Why}
+use Rattle.gaspi_model.specs.declared.states.Why.TheVariants as whys
+
+-- what a call of a rank reaches
+abbrev pub call_reach : Limits → ℕ → Call → Reach
+call_reach limits me call = reach_of limits.ranks me (row_of call).touch
+
+-- what a transfer of a rank reaches, by its entry's kind
+abbrev pub entry_reach : Limits → ℕ → (Kind → Touch) → Posts → ℕ → ℕ → ℕ → Reach
+entry_reach limits me touch posts queue target number = reach_of limits.ranks me (entry_touch touch (entry_in posts queue target number))
+
+-- the memory that is worked on; where none is, one with no segment
+abbrev pub memory_at : List Memory → ℕ → Reach → Memory
+memory_at memories me Alone = no_memory
+memory_at memories me OwnMemory = memory_or_none (slice_get memories me)
+memory_at memories me (PeerMemory rank) = memory_or_none (slice_get memories rank)
+memory_at memories me (PeerPosts rank) = no_memory
+
+-- the memories with that one replaced
+abbrev pub with_memory_at : List Memory → ℕ → Reach → Memory → List Memory
+with_memory_at memories me Alone memory = memories
+with_memory_at memories me OwnMemory memory = slice_set memories me memory
+with_memory_at memories me (PeerMemory rank) memory = slice_set memories rank memory
+with_memory_at memories me (PeerPosts rank) memory = memories
+
+-- the posts of all ranks, with those of the peer that is reached changed
+abbrev pub with_peer_at : Reach → (Posts → Posts) → List Posts → List Posts
+with_peer_at Alone change all = all
+with_peer_at OwnMemory change all = all
+with_peer_at (PeerMemory rank) change all = all
+with_peer_at (PeerPosts rank) change all = changed_at all rank change
+
+-- the posts of all ranks, and one memory
+pub record Lent : Type 0 where
+  pub posts : List Posts
+  pub memory : Memory
+
+-- a call, and a put, on those
+abbrev pub call_lent : Limits → List Posts → Memory → CallerId → Call → Reply → Result Lent Why
+call_lent limits all memory c call reply = do
+  posts ← found (slice_get all c.rank) whys.Caller
+  after ← called limits c.rank posts memory c.thread call reply
+  Ok (record { posts = slice_set all c.rank after.posts; memory = after.memory })
+
+abbrev pub put_lent : List Posts → Memory → ℕ → ℕ → ℕ → ℕ → Outcome → Result Lent Why
+put_lent all memory origin queue target number outcome = do
+  posts ← found (slice_get all origin) whys.Put
+  after ← put posts memory queue target number outcome
+  Ok (record { posts = slice_set all origin after.posts; memory = after.memory })
+
+-- the posts of all ranks are sound
+pub record AreRanks (limits : Limits) (all : List Posts) : Type 0 where
+  pub limited : are_limits limits ≡ true
+  pub sound : (rank : ℕ) (posts : Posts) → slice_get all rank ≡ Some posts → IsSoundPosts limits posts
+  pub queues : (rank : ℕ) (posts : Posts) → slice_get all rank ≡ Some posts → length posts.queues ≤ 8
