@@ -43,7 +43,7 @@ use Rattle.plain_machine.specs.Machine.{IsFitting}
 use Rattle.plain_machine.specs.Reaching.{call_reach, with_peer_at}
 use Rattle.plain_machine.specs.Standing.{lane_id, lane_named, queue_named, rank_named, standing_lanes, lane_entries, is_before, post_lane, posting_lane, call_lane, event_lane, is_put}
 use Rattle.plain_machine.specs.declared.standing.LaneId.{LaneId}
-use Rattle.plain_calls.proofs.Chains.{passed, found_there, check_holds, changed_there}
+use Rattle.plain_calls.proofs.Chains.{passed, check_holds, changed_there}
 use Rattle.plain_machine.proofs.Kept.{IsAt, found_at}
 use Rattle.plain_calls.proofs.CallRoom.{found_by, posted}
 use Rattle.plain_calls.proofs.Postings.{HasLength, IsPost, posting_of}

@@ -1,10 +1,15 @@
-use Rattle.std.proofs.Common.{sym, ap, ◌∙◌}
+use Rattle.std.proofs.Common.{sym}
 use Rattle.std.proofs.lemmas.List.{map-set}
 use Rattle.gaspi_model.specs.Step.{called}
 use Rattle.gaspi_model.specs.declared.states.Why.TheVariants as whys
 use Rattle.plain_machine.specs.Machine.{taken_of}
 use Rattle.plain_machine.proofs.Lifted.{lent_steps}
 use Rattle.plain_machine.proofs.steps.call_on.Goals as goal
+
+pub called-requires-clause-sound : goal.called-requires-clause-sound
+called-requires-clause-sound c =
+    let there = rw c.index-rank.ensures.value at c.at_mut.ensures.value in
+    c.requires.ranks.sound c.args.caller.rank c.at_mut.result.now there
 
 pub returns-clause-step : goal.returns-clause-step
 returns-clause-step c =
