@@ -4,8 +4,8 @@ use crate::{
     Cursor, Halted, RunOutcome, Script, ScriptFault, ScriptLine, Scripts, read_world, split_input,
 };
 use gaspi_types::{
-    Call, CallerId, Load, NoMemory, RankId, Reply, Reset, Rows, Shape, Store, ThreadId, Timeout, Wait, Waitsome,
-    WriteNotify,
+    Call, CallerId, Load, NoMemory, RankId, Reply, Reset, Rows, Shape, Store, ThreadId, Timeout,
+    Wait, Waitsome, WriteNotify,
 };
 use std::alloc::Global;
 use std::process::Abort;
