@@ -1,5 +1,5 @@
 -- What a step does to the room that a rank has taken.
-use Rattle.std.proofs.Common.{◌≡◌, ℕ, ◌+◌, ◌*◌, true, List, [], ◌∷◌, length, Option, None, Some, Result, Ok, refl, sym, ap, ◌∙◌, subst, arith, not, nat_lt, nat_le, ◌==◌}
+use Rattle.std.proofs.Common.{◌≡◌, ℕ, ◌+◌, ◌*◌, ◌≤◌, true, false, List, [], ◌∷◌, length, Option, None, Some, Result, Ok, refl, sym, ap, ◌∙◌, subst, arith, not, nat_lt, nat_le, ◌==◌}
 use Rattle.std.specs.List.{slice_get, slice_set, sum_by, remove}
 use Rattle.std.proofs.lemmas.List.Sums.{sum_by-remove, sum_by-cons}
 use Rattle.std.proofs.lemmas.Option.{slice_get_within, get_or_from_slice_get}
@@ -8,12 +8,21 @@ use Rattle.gaspi_types.specs.declared.entries.Entry.{Entry}
 use Rattle.gaspi_types.specs.declared.entries.Kind.{Kind}
 use Rattle.gaspi_types.specs.declared.entries.Phase.{Phase}
 use Rattle.gaspi_types.specs.declared.entries.Phase.TheVariants as phases
+use Rattle.gaspi_types.specs.CallRows.{row_of, is_end, entries_of}
+use Rattle.gaspi_types.specs.declared.call_rows.Posting.{Posting}
+use Rattle.gaspi_types.specs.declared.calls.Call.{Call}
+use Rattle.gaspi_types.specs.declared.calls.Call.TheVariants.{Write, Notify, WriteNotify, End}
+use Rattle.gaspi_types.specs.declared.calls.posts.Write as write
+use Rattle.gaspi_types.specs.declared.calls.posts.Notify as notify
+use Rattle.gaspi_types.specs.declared.calls.posts.WriteNotify as write_notify
 use Rattle.gaspi_types.specs.declared.shapes.Limits.{Limits}
+use Rattle.gaspi_model.specs.Calls.{call_asks}
 use Rattle.gaspi_types.specs.declared.events.Outcome.{Outcome}
 use Rattle.gaspi_types.specs.declared.events.Outcome.TheVariants.{Applied, Failed}
 use Rattle.gaspi_model.specs.State.{owed, queue_owed}
-use Rattle.gaspi_model.specs.Calls.{changed_at, counted, asked_finds}
-use Rattle.gaspi_model.specs.Transfers.{Found, with_lane, with_phase, taken_bytes, Parts}
+use Rattle.gaspi_model.specs.Posting.{changed_at, counted}
+use Rattle.gaspi_model.specs.PostCalls.{asked_finds}
+use Rattle.gaspi_model.specs.Transfers.{Found, with_lane, with_phase, taken_bytes, Worked}
 use Rattle.gaspi_model.specs.declared.states.Queue.{Queue}
 use Rattle.gaspi_model.specs.declared.states.Posts.{Posts}
 use Rattle.gaspi_model.specs.declared.states.Memory.{Memory}
@@ -86,7 +95,7 @@ take-owed limits posts memory queue target number outcome after at h =
     let lane = lane_owed-phase at.lane at.place at.entry phase h.is.in_lane in
     rw h.leaves (with_lane-owed posts queue target number at _ h.is (omega arith))
 
-pub put-owed : (posts : Posts) (memory : Memory) (queue target number : ℕ) (outcome : Outcome) (after : Parts) (at : Found)
+pub put-owed : (posts : Posts) (memory : Memory) (queue target number : ℕ) (outcome : Outcome) (after : Worked) (at : Found)
     → IsPut posts memory queue target number outcome after at → after.posts.events + owed after.posts ≡ posts.events + owed posts
 put-owed posts memory queue target number Applied after at h =
     let one = carried_owes at.entry.phase (both (is_carried at.entry) _ h.permitted).0 in
@@ -102,36 +111,58 @@ put-owed posts memory queue target number Failed after at h =
 -- A call that is recorded: the room that is taken grows by its charge.
 
 -- a write asks for one entry, and so does a notification
-pub kinds-write : (me : ℕ) (own : List (Option Extent)) (known : List (List (Option Extent))) (seg offset rank rseg roffset size : ℕ) (kinds : List Kind)
-    → write_kinds me own known seg offset rank rseg roffset size ≡ Ok kinds → length kinds ≡ 1
-kinds-write me own known seg offset rank rseg roffset size kinds h =
-    found_then (extent_in own seg) _ _ kinds h (λ mine hm h1.
-    found_then (known_extent me own known rank rseg) _ _ kinds h1 (λ theirs ht h2.
-    check_then (is_transfer_size size) _ _ kinds h2 (λ sized h3.
-    check_then (is_within offset size mine.size) _ _ kinds h3 (λ from h4.
-    check_then (is_within roffset size theirs.size) _ _ kinds h4 (λ to h5.
+kinds-write : (me : ℕ) (own : List (Option Extent)) (known : List (List (Option Extent))) (call : write.Write) (kinds : List Kind) → write_kinds me own known call ≡ Ok kinds → length kinds ≡ 1
+kinds-write me own known call kinds h =
+    found_then (extent_in own call.seg) _ _ kinds h (λ mine hm h1.
+    found_then (known_extent me own known call.rank call.rseg) _ _ kinds h1 (λ theirs ht h2.
+    check_then (is_transfer_size call.size) _ _ kinds h2 (λ sized h3.
+    check_then (is_within call.offset call.size mine.size) _ _ kinds h3 (λ from h4.
+    check_then (is_within call.roffset call.size theirs.size) _ _ kinds h4 (λ to h5.
     sym (ap length (same_Ok _ _ h5)))))))
 
-pub kinds-notify : (notes me : ℕ) (own : List (Option Extent)) (known : List (List (Option Extent))) (rseg rank note value : ℕ) (kinds : List Kind)
-    → notify_kinds notes me own known rseg rank note value ≡ Ok kinds → length kinds ≡ 1
-kinds-notify notes me own known rseg rank note value kinds h =
-    found_then (known_extent me own known rank rseg) _ _ kinds h (λ theirs ht h1.
-    check_then (nat_lt note notes) _ _ kinds h1 (λ noted h2.
-    check_then (not (value == 0)) _ _ kinds h2 (λ valued h3.
+kinds-notify : (notes me : ℕ) (own : List (Option Extent)) (known : List (List (Option Extent))) (call : notify.Notify) (kinds : List Kind)
+    → notify_kinds notes me own known call ≡ Ok kinds → length kinds ≡ 1
+kinds-notify notes me own known call kinds h =
+    found_then (known_extent me own known call.rank call.rseg) _ _ kinds h (λ theirs ht h1.
+    check_then (nat_lt call.note notes) _ _ kinds h1 (λ noted h2.
+    check_then (not (call.value == 0)) _ _ kinds h2 (λ valued h3.
     sym (ap length (same_Ok _ _ h3)))))
 
 -- a write with its notification asks for two
-pub kinds-two : (notes me : ℕ) (own : List (Option Extent)) (known : List (List (Option Extent))) (seg offset rank rseg roffset size note value : ℕ) (kinds : List Kind)
-    → write_notify_kinds notes me own known seg offset rank rseg roffset size note value ≡ Ok kinds → length kinds ≡ 2
-kinds-two notes me own known seg offset rank rseg roffset size note value kinds h =
-    found_then (extent_in own seg) _ _ kinds h (λ mine hm h1.
-    found_then (known_extent me own known rank rseg) _ _ kinds h1 (λ theirs ht h2.
-    check_then (is_transfer_size size) _ _ kinds h2 (λ sized h3.
-    check_then (is_within offset size mine.size) _ _ kinds h3 (λ from h4.
-    check_then (is_within roffset size theirs.size) _ _ kinds h4 (λ to h5.
-    check_then (nat_lt note notes) _ _ kinds h5 (λ noted h6.
-    check_then (not (value == 0)) _ _ kinds h6 (λ valued h7.
+kinds-two : (notes me : ℕ) (own : List (Option Extent)) (known : List (List (Option Extent))) (call : write_notify.WriteNotify) (kinds : List Kind)
+    → write_notify_kinds notes me own known call ≡ Ok kinds → length kinds ≡ 2
+kinds-two notes me own known call kinds h =
+    found_then (extent_in own call.seg) _ _ kinds h (λ mine hm h1.
+    found_then (known_extent me own known call.rank call.rseg) _ _ kinds h1 (λ theirs ht h2.
+    check_then (is_transfer_size call.size) _ _ kinds h2 (λ sized h3.
+    check_then (is_within call.offset call.size mine.size) _ _ kinds h3 (λ from h4.
+    check_then (is_within call.roffset call.size theirs.size) _ _ kinds h4 (λ to h5.
+    check_then (nat_lt call.note notes) _ _ kinds h5 (λ noted h6.
+    check_then (not (call.value == 0)) _ _ kinds h6 (λ valued h7.
     sym (ap length (same_Ok _ _ h7)))))))))
+
+-- a call that posts asks for as many entries as its row says
+pub asks-counted : (limits : Limits) (me : ℕ) (posts : Posts) (call : Call) (to : Posting) (kinds : List Kind) → (row_of call).posting ≡ Some to
+    → call_asks limits me posts call ≡ Ok kinds → length kinds ≡ to.entries
+asks-counted limits me posts (Write call) to kinds is h =
+    kinds-write me posts.own posts.known call kinds h ∙ (let same : ◌≡◌ {A = Posting} (record { entries = 1; rank = call.rank; queue = call.queue }) to = cc in ap (λ (p : Posting). p.entries) same)
+asks-counted limits me posts (Notify call) to kinds is h =
+    kinds-notify limits.notes me posts.own posts.known call kinds h ∙ (let same : ◌≡◌ {A = Posting} (record { entries = 1; rank = call.rank; queue = call.queue }) to = cc in ap (λ (p : Posting). p.entries) same)
+asks-counted limits me posts (WriteNotify call) to kinds is h =
+    kinds-two limits.notes me posts.own posts.known call kinds h ∙ (let same : ◌≡◌ {A = Posting} (record { entries = 2; rank = call.rank; queue = call.queue }) to = cc in ap (λ (p : Posting). p.entries) same)
+asks-counted limits me posts other to kinds is h = absurd (let no : ⊥ = cc in no)
+
+-- and is no end
+pub posting-goes_on : (call : Call) (to : Posting) → (row_of call).posting ≡ Some to → is_end call ≡ false
+posting-goes_on End to is = absurd (let no : ⊥ = cc in no)
+posting-goes_on other to is = refl
+
+-- it appends at most two
+pub few-posted : (call : Call) → entries_of call ≤ 2
+few-posted (Write call) = omega arith
+few-posted (Notify call) = omega arith
+few-posted (WriteNotify call) = omega arith
+few-posted other = omega arith
 
 -- a post that was taken
 pub record IsPosted (limits : Limits) (posts : Posts) (rank queue : ℕ) (asked : Result (List Kind) Refusal) (reply : Option Reply) (q : Queue) (kinds : List Kind) : Type 0 where

@@ -1,30 +1,34 @@
 -- A call that is recorded: the room that is taken grows by its charge.
-use Rattle.std.proofs.Common.{◌≡◌, ℕ, ◌+◌, ◌*◌, ◌<◌, Bool, true, false, List, [], ◌++◌, length, Option, None, Some, Result, Ok, Err, refl, sym, subst, arith, cond, get_or, if◌then◌else◌}
+use Rattle.std.proofs.Common.{◌≡◌, ℕ, ◌+◌, ◌*◌, ◌<◌, Bool, true, false, List, [], ◌++◌, length, Option, None, Some, Result, Ok, Err, refl, sym, subst, arith, cond, get_or, ap, ◌∙◌, ◌&&◌, if◌then◌else◌}
 use Rattle.std.specs.List.{slice_get, slice_set}
 use Rattle.std.proofs.lemmas.Bool.{ltb-true}
 use Rattle.std.proofs.lemmas.List.Sums.{sum_by-append}
 use Rattle.std.proofs.lemmas.Option.{slice_get-get_or}
 use Rattle.gaspi_types.specs.Lanes.{lane_owed, posted_entries}
-use Rattle.gaspi_types.specs.Replies.{is_idle}
-use Rattle.gaspi_types.specs.Posts.{write_kinds, notify_kinds, write_notify_kinds}
+use Rattle.gaspi_types.specs.Replies.{is_idle, is_done}
 use Rattle.gaspi_types.specs.declared.entries.Entry.{Entry}
 use Rattle.gaspi_types.specs.declared.entries.Kind.{Kind}
 use Rattle.gaspi_types.specs.declared.shapes.Limits.{Limits}
 use Rattle.gaspi_types.specs.declared.calls.Call.{Call}
-use Rattle.gaspi_types.specs.declared.calls.Call.TheVariants.{Alloc, Register, Delete, Store, Load, Write, Notify, WriteNotify, Wait, Waitsome, Reset, FetchAdd, CompareSwap, End}
+use Rattle.gaspi_types.specs.declared.calls.Call.TheVariants.{Alloc, Delete, Wait, End}
+use Rattle.gaspi_types.specs.CallRows.{row_of, entries_of, is_end}
+use Rattle.gaspi_types.specs.declared.call_rows.Posting.{Posting}
 use Rattle.gaspi_types.specs.declared.replies.Reply.{Reply}
 use Rattle.gaspi_types.specs.declared.replies.Reply.TheVariants as replies
 use Rattle.gaspi_types.specs.declared.replies.Refusal.{Refusal}
 use Rattle.gaspi_types.specs.declared.replies.Refusal.TheVariants.{CallerEnded}
 use Rattle.gaspi_model.specs.State.{owed, queue_owed, is_running, thread_at}
-use Rattle.gaspi_model.specs.Calls.{changed_at, with_entries, with_post, with_own, posts_after, counted, charge, post_charge, answer, asked_finds, call_finds, ready_of, recorded_reply}
+use Rattle.gaspi_model.specs.Posting.{changed_at, with_entries, with_post, counted}
+use Rattle.gaspi_model.specs.SegmentCalls.{with_own, without_own}
+use Rattle.gaspi_model.specs.PostCalls.{asked_finds}
+use Rattle.gaspi_model.specs.Calls.{posts_after, charge, answer, call_finds, ready_of, recorded_reply, plain_finds, plain_done, call_asks}
 use Rattle.gaspi_model.specs.declared.states.Queue.{Queue}
 use Rattle.gaspi_model.specs.declared.states.ThreadState.{ThreadState}
 use Rattle.gaspi_model.specs.declared.states.ThreadState.TheVariants as threads
 use Rattle.gaspi_model.specs.declared.states.Posts.{Posts}
 use Rattle.gaspi_model.specs.declared.states.Memory.{Memory}
 use Rattle.gaspi_model.proofs.Tables.{sum_by-changed, changed_at-found}
-use Rattle.gaspi_model.proofs.Accounts.{entries_owed-queue, queue_owed-lane, lane_owed-posted, kinds-write, kinds-notify, kinds-two, IsPosted, post-ok}
+use Rattle.gaspi_model.proofs.Accounts.{entries_owed-queue, queue_owed-lane, lane_owed-posted, asks-counted, posting-goes_on, IsPosted, post-ok}
 
 -- each queue has that many lanes
 abbrev pub HasLanes : ℕ → Posts → Type 0
@@ -101,7 +105,8 @@ posts-grow false posts done events same = omega arith
 posted-grows : (limits : Limits) (posts : Posts) (rank queue count : ℕ) (asked : Result (List Kind) Refusal) (finds : Result (Option Reply) Refusal) → HasLanes limits.ranks posts
     → ((kinds : List Kind) → asked ≡ Ok kinds → length kinds ≡ count) → asked_finds limits posts rank queue asked ≡ finds
     → (counted (if is_idle (recorded_reply (ready_of finds)) then posts else with_post posts queue rank asked)).events
-    + owed (counted (if is_idle (recorded_reply (ready_of finds)) then posts else with_post posts queue rank asked)) ≡ posts.events + owed posts + post_charge count (recorded_reply (ready_of finds))
+    + owed (counted (if is_idle (recorded_reply (ready_of finds)) then posts else with_post posts queue rank asked))
+    ≡ posts.events + owed posts + (if is_done (recorded_reply (ready_of finds)) then 1 + 2 * count else 1)
 posted-grows limits posts rank queue count asked (Ok None) lanes counts is = omega arith
 posted-grows limits posts rank queue count asked (Ok (Some reply)) lanes counts is =
     let posted = post-ok limits posts rank queue asked (Some reply) is in
@@ -118,51 +123,55 @@ waited-grows : (b : Bool) (posts : Posts) (queue : ℕ) → (counted (if b then 
 waited-grows true posts queue = omega arith
 waited-grows false posts queue = let same = waited-owed posts queue in omega arith
 
+-- a call that posts nothing charges for itself alone
+plain-charge : (call : Call) (reply : Reply) → (row_of call).posting ≡ None → (if is_done reply then 1 + 2 * entries_of call else 1) ≡ 1
+plain-charge call reply none = rw none (go (is_done reply))
+  where
+    go : (b : Bool) → (if b then 1 + 2 * 0 else 1) ≡ 1
+    go true = refl
+    go false = refl
+
+-- of a running thread, by what the call finds that posts nothing
+plain-grows : (limits : Limits) (me : ℕ) (posts : Posts) (memory : Memory) (thread : ℕ) (call : Call) (finds : Result (Option Reply) Refusal)
+    → is_running (thread_at posts thread) ≡ true → plain_finds limits me posts memory call ≡ finds
+    → (counted (if is_idle (recorded_reply (ready_of finds)) then posts else plain_done posts thread call)).events
+    + owed (counted (if is_idle (recorded_reply (ready_of finds)) then posts else plain_done posts thread call)) ≡ posts.events + owed posts + (if is_end call then 0 else 1)
+plain-grows limits me posts memory thread (Alloc call) finds running is = posts-grow (is_idle (recorded_reply (ready_of finds))) posts (with_own posts call.seg call.size) refl refl
+plain-grows limits me posts memory thread (Delete call) finds running is = posts-grow (is_idle (recorded_reply (ready_of finds))) posts (without_own posts call.seg) refl refl
+plain-grows limits me posts memory thread (Wait call) finds running is = waited-grows (is_idle (recorded_reply (ready_of finds))) posts call.queue
+plain-grows limits me posts memory thread End finds running is =
+    let ends = ended-owed posts thread running in
+    rw (← is) (omega arith)
+plain-grows limits me posts memory thread other finds running is = idle-grows (is_idle (recorded_reply (ready_of finds))) posts
+
 -- of a running thread, by what the call finds
 running-grows : (limits : Limits) (me : ℕ) (posts : Posts) (memory : Memory) (thread : ℕ) (call : Call) (finds : Result (Option Reply) Refusal)
     → HasLanes limits.ranks posts → is_running (thread_at posts thread) ≡ true → call_finds limits me posts memory call ≡ finds
     → Grows limits me posts thread call (recorded_reply (ready_of finds))
-running-grows limits me posts memory thread (Alloc seg size) finds lanes running is = posts-grow (is_idle (recorded_reply (ready_of finds))) posts (with_own posts seg size) refl refl
-running-grows limits me posts memory thread (Register seg rank) finds lanes running is = idle-grows (is_idle (recorded_reply (ready_of finds))) posts
-running-grows limits me posts memory thread (Delete seg) finds lanes running is =
-    posts-grow (is_idle (recorded_reply (ready_of finds))) posts (record posts { own = slice_set posts.own seg None }) refl refl
-running-grows limits me posts memory thread (Store seg offset bytes) finds lanes running is = idle-grows (is_idle (recorded_reply (ready_of finds))) posts
-running-grows limits me posts memory thread (Load seg offset size) finds lanes running is = idle-grows (is_idle (recorded_reply (ready_of finds))) posts
-running-grows limits me posts memory thread (Write seg offset rank rseg roffset size queue) finds lanes running is =
-    posted-grows limits posts rank queue 1 (write_kinds me posts.own posts.known seg offset rank rseg roffset size) finds lanes
-    (λ kinds asks. kinds-write me posts.own posts.known seg offset rank rseg roffset size kinds asks) is
-running-grows limits me posts memory thread (Notify rseg rank note value queue) finds lanes running is =
-    posted-grows limits posts rank queue 1 (notify_kinds limits.notes me posts.own posts.known rseg rank note value) finds lanes
-    (λ kinds asks. kinds-notify limits.notes me posts.own posts.known rseg rank note value kinds asks) is
-running-grows limits me posts memory thread (WriteNotify seg offset rank rseg roffset size note value queue) finds lanes running is =
-    posted-grows limits posts rank queue 2 (write_notify_kinds limits.notes me posts.own posts.known seg offset rank rseg roffset size note value) finds lanes
-    (λ kinds asks. kinds-two limits.notes me posts.own posts.known seg offset rank rseg roffset size note value kinds asks) is
-running-grows limits me posts memory thread (Wait queue) finds lanes running is = waited-grows (is_idle (recorded_reply (ready_of finds))) posts queue
-running-grows limits me posts memory thread (Waitsome seg begin num) finds lanes running is = idle-grows (is_idle (recorded_reply (ready_of finds))) posts
-running-grows limits me posts memory thread (Reset seg note) finds lanes running is = idle-grows (is_idle (recorded_reply (ready_of finds))) posts
-running-grows limits me posts memory thread (FetchAdd seg offset rank value) finds lanes running is = idle-grows (is_idle (recorded_reply (ready_of finds))) posts
-running-grows limits me posts memory thread (CompareSwap seg offset rank comparator new) finds lanes running is = idle-grows (is_idle (recorded_reply (ready_of finds))) posts
-running-grows limits me posts memory thread End finds lanes running is =
-    let ends = ended-owed posts thread running in
-    rw (← is, running) (omega arith)
+running-grows limits me posts memory thread call finds lanes running is = by-posting (row_of call).posting refl
+  where
+    charged : (b : Bool) → is_end call ≡ b → (row_of call).posting ≡ None
+        → (if is_end call && true then 0 else (if is_done (recorded_reply (ready_of finds)) then 1 + 2 * entries_of call else 1)) ≡ (if is_end call then 0 else 1)
+    charged true ends none = rw ends refl
+    charged false goes none = rw goes (plain-charge call (recorded_reply (ready_of finds)) none)
+
+    by-posting : (o : Option Posting) → (row_of call).posting ≡ o → Grows limits me posts thread call (recorded_reply (ready_of finds))
+    by-posting None none =
+        let grows = plain-grows limits me posts memory thread call finds running (rw none at is) in
+        let charge_is = charged (is_end call) refl none in
+        rw (none, running) (grows ∙ ap (λ (n : ℕ). posts.events + owed posts + n) (sym (rw none at charge_is)))
+    by-posting (Some to) post =
+        let grows = posted-grows limits posts to.rank to.queue to.entries (call_asks limits me posts call) finds lanes (λ kinds asks. asks-counted limits me posts call to kinds post asks) (rw post at is) in
+        rw (post, posting-goes_on call to post) grows
 
 -- of a thread that has ended, or has no section
 ended-grows : (limits : Limits) (me : ℕ) (posts : Posts) (thread : ℕ) (call : Call) → is_running (thread_at posts thread) ≡ false
     → Grows limits me posts thread call (replies.Refused CallerEnded)
-ended-grows limits me posts thread (Alloc seg size) ended = omega arith
-ended-grows limits me posts thread (Register seg rank) ended = omega arith
-ended-grows limits me posts thread (Delete seg) ended = omega arith
-ended-grows limits me posts thread (Store seg offset bytes) ended = omega arith
-ended-grows limits me posts thread (Load seg offset size) ended = omega arith
-ended-grows limits me posts thread (Write seg offset rank rseg roffset size queue) ended = omega arith
-ended-grows limits me posts thread (Notify rseg rank note value queue) ended = omega arith
-ended-grows limits me posts thread (WriteNotify seg offset rank rseg roffset size note value queue) ended = omega arith
-ended-grows limits me posts thread (Wait queue) ended = omega arith
-ended-grows limits me posts thread (Waitsome seg begin num) ended = omega arith
-ended-grows limits me posts thread (Reset seg note) ended = omega arith
-ended-grows limits me posts thread (FetchAdd seg offset rank value) ended = omega arith
-ended-grows limits me posts thread (CompareSwap seg offset rank comparator new) ended = omega arith
-ended-grows limits me posts thread End ended = rw ended (omega arith)
+ended-grows limits me posts thread call ended = go (is_end call) refl
+  where
+    go : (b : Bool) → is_end call ≡ b → Grows limits me posts thread call (replies.Refused CallerEnded)
+    go true is = rw (is, ended) (omega arith)
+    go false is = rw is (omega arith)
 
 -- the room that is taken grows by the charge of a call that is recorded with the reply that it has
 pub call-grows : (limits : Limits) (me : ℕ) (posts : Posts) (memory : Memory) (thread : ℕ) (call : Call) (reply : Reply) → HasLanes limits.ranks posts
@@ -170,5 +179,9 @@ pub call-grows : (limits : Limits) (me : ℕ) (posts : Posts) (memory : Memory) 
 call-grows limits me posts memory thread call reply lanes is = go (is_running (thread_at posts thread)) refl
   where
     go : (b : Bool) → is_running (thread_at posts thread) ≡ b → Grows limits me posts thread call reply
-    go true running = rw (is, running) (running-grows limits me posts memory thread call (call_finds limits me posts memory call) lanes running refl)
-    go false ended = rw (is, ended) (ended-grows limits me posts thread call ended)
+    go true running =
+        let same : reply ≡ recorded_reply (ready_of (call_finds limits me posts memory call)) = rw running at is in
+        rw same (running-grows limits me posts memory thread call (call_finds limits me posts memory call) lanes running refl)
+    go false ended =
+        let refused : reply ≡ replies.Refused CallerEnded = rw ended at is in
+        rw refused (ended-grows limits me posts thread call ended)

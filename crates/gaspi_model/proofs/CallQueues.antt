@@ -3,41 +3,33 @@ use Rattle.std.proofs.Common.{◌≡◌, ℕ, ◌+◌, ◌≤◌, Bool, true, fa
 use Rattle.std.specs.List.{slice_get, list_any}
 use Rattle.std.proofs.lemmas.Bool.{leb-true}
 use Rattle.gaspi_types.specs.Lanes.{has_posted, posted_entries}
-use Rattle.gaspi_types.specs.Posts.{write_kinds, notify_kinds, write_notify_kinds}
 use Rattle.gaspi_types.specs.Replies.{is_idle}
 use Rattle.gaspi_types.specs.declared.entries.Entry.{Entry}
 use Rattle.gaspi_types.specs.declared.entries.Kind.{Kind}
 use Rattle.gaspi_types.specs.declared.shapes.Limits.{Limits}
 use Rattle.gaspi_types.specs.declared.calls.Call.{Call}
-use Rattle.gaspi_types.specs.declared.calls.Call.TheVariants.{Alloc, Register, Delete, Store, Load, Write, Notify, WriteNotify, Wait, Waitsome, Reset, FetchAdd, CompareSwap, End}
+use Rattle.gaspi_types.specs.declared.calls.Call.TheVariants.{Wait}
+use Rattle.gaspi_types.specs.declared.calls.queues.Wait as wait
+use Rattle.gaspi_types.specs.CallRows.{row_of}
+use Rattle.gaspi_types.specs.declared.call_rows.Posting.{Posting}
 use Rattle.gaspi_types.specs.declared.replies.Reply.{Reply}
 use Rattle.gaspi_types.specs.declared.replies.Reply.TheVariants as replies
 use Rattle.gaspi_types.specs.declared.replies.Refusal.{Refusal}
 use Rattle.gaspi_types.specs.declared.replies.Refusal.TheVariants.{BadQueue, QueueBroken}
 use Rattle.gaspi_model.specs.State.{is_running, thread_at}
-use Rattle.gaspi_model.specs.Calls.{changed_at, with_entries, with_post, asked_finds, posts_done, posts_after, answer, call_finds, wait_finds, recorded_reply, ready_of}
+use Rattle.gaspi_model.specs.Posting.{changed_at, with_entries, with_post}
+use Rattle.gaspi_model.specs.PostCalls.{asked_finds}
+use Rattle.gaspi_model.specs.QueueCalls.{wait_finds}
+use Rattle.gaspi_model.specs.Calls.{posts_done, plain_done, posts_after, answer, call_finds, plain_finds, call_asks, recorded_reply}
 use Rattle.gaspi_model.specs.Sound.{AreRising, IsSoundQueue}
 use Rattle.gaspi_model.specs.declared.states.Queue.{Queue}
 use Rattle.gaspi_model.specs.declared.states.Posts.{Posts}
 use Rattle.gaspi_model.specs.declared.states.Memory.{Memory}
 use Rattle.gaspi_model.proofs.Chains.{found_then, absent_then}
+use Rattle.gaspi_model.proofs.FoundReplies.{found-reply}
 use Rattle.gaspi_model.proofs.Tables.{slice_get-set}
 use Rattle.gaspi_model.proofs.Accounts.{post-ok}
 use Rattle.gaspi_model.proofs.OpenCounts.{queue-posted, queue-waited}
-
--- a call that was answered neither with a refusal nor with a timeout found its reply
-pub found-reply : (limits : Limits) (me : ℕ) (posts : Posts) (memory : Memory) (thread : ℕ) (call : Call) (reply : Reply)
-    → reply ≡ recorded_reply (answer limits me posts memory thread call) → is_idle reply ≡ false → call_finds limits me posts memory call ≡ Ok (Some reply)
-found-reply limits me posts memory thread call reply is idle = by-thread (is_running (thread_at posts thread)) refl
-  where
-    by-finds : (finds : Result (Option Reply) Refusal) → call_finds limits me posts memory call ≡ finds → reply ≡ recorded_reply (ready_of finds) → call_finds limits me posts memory call ≡ Ok (Some reply)
-    by-finds (Ok (Some r)) h same = h ∙ ap (λ (x : Reply). Ok (Some x)) (sym same)
-    by-finds (Ok None) h same = absurd (let out = rw same at idle in let no : ⊥ = cc in no)
-    by-finds (Err refusal) h same = absurd (let out = rw same at idle in let no : ⊥ = cc in no)
-
-    by-thread : (b : Bool) → is_running (thread_at posts thread) ≡ b → call_finds limits me posts memory call ≡ Ok (Some reply)
-    by-thread true running = by-finds (call_finds limits me posts memory call) refl (rw running at is)
-    by-thread false ended = absurd (let refused : reply ≡ replies.Refused _ = rw ended at is in let out = rw refused at idle in let no : ⊥ = cc in no)
 
 -- all queues are sound
 abbrev pub AllSound : ℕ → List Queue → Type 0
@@ -56,9 +48,9 @@ queues-changed depth queues changed change all one queue q h = go (slice_get que
     go (Some x) at = parts x at (slice_get-set queues changed queue (change x) q (rw at at h))
 
 -- what a wait that is done found
-wait-done : (posts : Posts) (queue : ℕ) (reply : Reply) (q : Queue) → wait_finds posts queue ≡ Ok (Some reply) → slice_get posts.queues queue ≡ Some q → list_any has_posted q.lanes ≡ false
-wait-done posts queue reply q h at =
-    found_then (slice_get posts.queues queue) BadQueue _ (Some reply) h (λ x hx h1.
+wait-done : (posts : Posts) (call : wait.Wait) (reply : Reply) (q : Queue) → wait_finds posts call ≡ Ok (Some reply) → slice_get posts.queues call.queue ≡ Some q → list_any has_posted q.lanes ≡ false
+wait-done posts call reply q h at =
+    found_then (slice_get posts.queues call.queue) BadQueue _ (Some reply) h (λ x hx h1.
     absent_then x.broken QueueBroken _ (Some reply) h1 (λ whole h2.
     let same : x ≡ q = (let some : ◌≡◌ {A = Option Queue} (Some x) (Some q) = sym hx ∙ at in cc) in
     rw (sym same) (go x (list_any has_posted x.lanes) refl h2)))
@@ -83,25 +75,20 @@ post-queues limits posts rank queue asked reply h all rise =
     let room : q.open_count + length posted.1 ≤ limits.depth = rw (sym same) (leb-true _ _ p.room) in
     queue-posted limits.depth posts.next q rank posted.1 (all queue q at) (rise queue q at) room))
 
+plain-queues : (limits : Limits) (me : ℕ) (posts : Posts) (memory : Memory) (thread : ℕ) (call : Call) (reply : Reply) → plain_finds limits me posts memory call ≡ Ok (Some reply)
+    → AllSound limits.depth posts.queues → AllSound limits.depth (plain_done posts thread call).queues
+plain-queues limits me posts memory thread (Wait call) reply h all =
+    queues-changed limits.depth posts.queues call.queue (λ (q : Queue). record q { open_count = 0 }) all
+    (λ q at. queue-waited limits.depth q (all call.queue q at) (wait-done posts call reply q h at))
+plain-queues limits me posts memory thread other reply h all = all
+
 done-queues : (limits : Limits) (me : ℕ) (posts : Posts) (memory : Memory) (thread : ℕ) (call : Call) (reply : Reply) → call_finds limits me posts memory call ≡ Ok (Some reply)
     → AllSound limits.depth posts.queues → RiseBelow posts.next posts.queues → AllSound limits.depth (posts_done limits me posts thread call).queues
-done-queues limits me posts memory thread (Alloc seg size) reply h all rise = all
-done-queues limits me posts memory thread (Register seg rank) reply h all rise = all
-done-queues limits me posts memory thread (Delete seg) reply h all rise = all
-done-queues limits me posts memory thread (Store seg offset bytes) reply h all rise = all
-done-queues limits me posts memory thread (Load seg offset size) reply h all rise = all
-done-queues limits me posts memory thread (Write seg offset rank rseg roffset size queue) reply h all rise = post-queues limits posts rank queue (write_kinds me posts.own posts.known seg offset rank rseg roffset size) reply h all rise
-done-queues limits me posts memory thread (Notify rseg rank note value queue) reply h all rise = post-queues limits posts rank queue (notify_kinds limits.notes me posts.own posts.known rseg rank note value) reply h all rise
-done-queues limits me posts memory thread (WriteNotify seg offset rank rseg roffset size note value queue) reply h all rise =
-    post-queues limits posts rank queue (write_notify_kinds limits.notes me posts.own posts.known seg offset rank rseg roffset size note value) reply h all rise
-done-queues limits me posts memory thread (Wait queue) reply h all rise =
-    queues-changed limits.depth posts.queues queue (λ (q : Queue). record q { open_count = 0 }) all
-    (λ q at. queue-waited limits.depth q (all queue q at) (wait-done posts queue reply q h at))
-done-queues limits me posts memory thread (Waitsome seg begin num) reply h all rise = all
-done-queues limits me posts memory thread (Reset seg note) reply h all rise = all
-done-queues limits me posts memory thread (FetchAdd seg offset rank value) reply h all rise = all
-done-queues limits me posts memory thread (CompareSwap seg offset rank comparator new) reply h all rise = all
-done-queues limits me posts memory thread End reply h all rise = all
+done-queues limits me posts memory thread call reply h all rise = go (row_of call).posting refl
+  where
+    go : (o : Option Posting) → (row_of call).posting ≡ o → AllSound limits.depth (posts_done limits me posts thread call).queues
+    go None none = rw none (plain-queues limits me posts memory thread call reply (rw none at h) all)
+    go (Some to) post = rw post (post-queues limits posts to.rank to.queue (call_asks limits me posts call) reply (rw post at h) all rise)
 
 -- the queues after a call that is recorded with the reply that it has
 pub called-queues : (limits : Limits) (me : ℕ) (posts : Posts) (memory : Memory) (thread : ℕ) (call : Call) (reply : Reply)

@@ -6,7 +6,6 @@ use Rattle.std.proofs.lemmas.Bool.{ltb-true, ltb-false, eq-eqb, eqb-true}
 use Rattle.std.proofs.lemmas.List.{length-replicate, map-set}
 use Rattle.byteorder.specs.Endian.{little_bytes}
 use Rattle.gaspi_types.specs.Lanes.{is_posted, has_user, is_user}
-use Rattle.gaspi_types.specs.Posts.{write_kinds, notify_kinds, write_notify_kinds}
 use Rattle.gaspi_types.specs.Replies.{is_idle}
 use Rattle.gaspi_types.specs.SegmentTables.{extent_in, alloc_checks, next_generation}
 use Rattle.gaspi_types.specs.SegmentWords.{word_at, with_sum, with_swap}
@@ -17,11 +16,18 @@ use Rattle.gaspi_types.specs.declared.entries.Kind.{Kind}
 use Rattle.gaspi_types.specs.declared.entries.Kind.TheVariants as kinds_of
 use Rattle.gaspi_types.specs.declared.shapes.Limits.{Limits}
 use Rattle.gaspi_types.specs.declared.calls.Call.{Call}
-use Rattle.gaspi_types.specs.declared.calls.Call.TheVariants.{Alloc, Register, Delete, Store, Load, Write, Notify, WriteNotify, Wait, Waitsome, Reset, FetchAdd, CompareSwap, End}
+use Rattle.gaspi_types.specs.declared.calls.Call.TheVariants.{Alloc, Delete, Store, Wait, Reset, FetchAdd, CompareSwap, End}
+use Rattle.gaspi_types.specs.declared.calls.segments.Alloc as alloc
+use Rattle.gaspi_types.specs.declared.calls.segments.Delete as delete
+use Rattle.gaspi_types.specs.CallRows.{row_of}
+use Rattle.gaspi_types.specs.declared.call_rows.Posting.{Posting}
 use Rattle.gaspi_types.specs.declared.replies.Refusal.{Refusal}
 use Rattle.gaspi_types.specs.declared.replies.Reply.{Reply}
 use Rattle.gaspi_model.specs.State.{entry_at, new_segment}
-use Rattle.gaspi_model.specs.Calls.{changed_at, with_post, posts_done, posts_after, memory_done, memory_after, memory_rank, counted, alloc_finds, delete_finds, user_of, bytes_of, call_finds, answer, recorded_reply, with_known, told}
+use Rattle.gaspi_model.specs.Memories.{bytes_of}
+use Rattle.gaspi_model.specs.Posting.{changed_at, with_post, counted}
+use Rattle.gaspi_model.specs.SegmentCalls.{alloc_finds, delete_finds, user_of, with_known}
+use Rattle.gaspi_model.specs.Calls.{posts_done, plain_done, posts_after, memory_done, memory_after, call_finds, plain_finds, call_asks, answer, recorded_reply}
 use Rattle.gaspi_model.specs.Coherence.{extent_of, extents_of, slot_counts, Tables, tables_of, AreMade, AllFit, Knows}
 use Rattle.gaspi_model.specs.declared.states.Queue.{Queue}
 use Rattle.gaspi_model.specs.declared.states.Posts.{Posts}
@@ -30,10 +36,11 @@ use Rattle.gaspi_model.specs.declared.states.Memory.{Memory}
 use Rattle.gaspi_model.proofs.Chains.{bind_then, check_then, found_then, absent_then}
 use Rattle.gaspi_model.proofs.Tables.{slice_get-set, joined}
 use Rattle.gaspi_model.proofs.Layouts.{with_range-length, HaveSameLayout, same-layout, bytes-layout, slots-layout, replaced-layout, with_swap-length}
-use Rattle.gaspi_model.proofs.Told.{changed_at-get, told-cases}
+use Rattle.gaspi_model.proofs.Told.{changed_at-get, told, told-cases}
+use Rattle.gaspi_model.proofs.Worked.{memory_rank}
 use Rattle.gaspi_model.proofs.Successors.{extent-set, lies-other, Succeeds, succeeds-itself, SourcesStay, alloc-succeeds, delete-succeeds}
-use Rattle.gaspi_model.proofs.FittingEntries.{MayPost, KindsFit, fits-post, fits-queue, write-fits, notify-fits, write_notify-fits}
-use Rattle.gaspi_model.proofs.CallQueues.{found-reply}
+use Rattle.gaspi_model.proofs.FittingEntries.{MayPost, KindsFit, fits-post, fits-queue, asks-fit}
+use Rattle.gaspi_model.proofs.FoundReplies.{found-reply}
 
 -- What a call finds where it makes a segment or deletes one.
 
@@ -41,11 +48,11 @@ pub record IsAllocated (posts : Posts) (seg size : ℕ) : Type 0 where
   pub numbered : nat_lt seg 32 ≡ true
   pub free : extent_in posts.own seg ≡ None
 
-pub alloc-found : (posts : Posts) (seg size : ℕ) (reply : Reply) → alloc_finds posts seg size ≡ Ok (Some reply) → IsAllocated posts seg size
-alloc-found posts seg size reply h =
-    bind_then (alloc_checks posts.own seg size) _ (Some reply) h (λ fits hc h1.
-    check_then (nat_lt seg 32) _ _ fits hc (λ numbered h2.
-    absent_then (extent_in posts.own seg) _ _ fits h2 (λ free h3. record { numbered = numbered; free = free })))
+pub alloc-found : (posts : Posts) (call : alloc.Alloc) (reply : Reply) → alloc_finds posts call ≡ Ok (Some reply) → IsAllocated posts call.seg call.size
+alloc-found posts call reply h =
+    bind_then (alloc_checks posts.own call.seg call.size) _ (Some reply) h (λ fits hc h1.
+    check_then (nat_lt call.seg 32) _ _ fits hc (λ numbered h2.
+    absent_then (extent_in posts.own call.seg) _ _ fits h2 (λ free h3. record { numbered = numbered; free = free })))
 
 -- a test that no item passes
 not-any : {A : Type 0} (p : A → Bool) (xs : List A) (k : ℕ) (x : A) → list_any p xs ≡ false → slice_get xs k ≡ Some x → p x ≡ false
@@ -74,10 +81,10 @@ no-position p xs k x none at = go (nat_lt (prefix_len (λ y. not (p y)) xs) (len
     go true is = absurd (let some : ◌≡◌ {A = Option ℕ} (Some (prefix_len (λ y. not (p y)) xs)) None = rw is at none in let no : ⊥ = cc in no)
     go false is = prefix-whole p xs k x (ltb-false (prefix_len (λ y. not (p y)) xs) (length xs) is) at
 
-pub delete-found : (posts : Posts) (seg : ℕ) (reply : Reply) → delete_finds posts seg ≡ Ok (Some reply) → user_of posts.queues seg ≡ None
-delete-found posts seg reply h =
-    found_then (extent_in posts.own seg) _ _ (Some reply) h (λ mine hm h1.
-    absent_then (user_of posts.queues seg) _ _ (Some reply) h1 (λ unused h2. unused))
+pub delete-found : (posts : Posts) (call : delete.Delete) (reply : Reply) → delete_finds posts call ≡ Ok (Some reply) → user_of posts.queues call.seg ≡ None
+delete-found posts call reply h =
+    found_then (extent_in posts.own call.seg) _ _ (Some reply) h (λ mine hm h1.
+    absent_then (user_of posts.queues call.seg) _ _ (Some reply) h1 (λ unused h2. unused))
 
 -- where no entry uses a segment, the source of each posted write is another
 unused-apart : (queues : List Queue) (seg : ℕ) → user_of queues seg ≡ None → (queue : ℕ) (q : Queue) → slice_get queues queue ≡ Some q → (target : ℕ) (lane : List Entry) → slice_get q.lanes target ≡ Some lane
@@ -126,56 +133,52 @@ post-fits notes tables me posts queue rank (Ok kinds) may fit all = record {
   sources = λ queue q hq target lane hl place e he own range is posted lies. lies;
 }
 
-done-fits : (limits : Limits) (tables : List Tables) (me : ℕ) (posts : Posts) (memory : Memory) (thread : ℕ) (call : Call) (reply : Reply) → MayPost tables me (tables_of posts) posts.known
-    → length posts.next_generations ≡ 32 → AllFit limits.notes tables me posts.queues → call_finds limits me posts memory call ≡ Ok (Some reply)
-    → KeepsFit limits.notes tables me posts (posts_done limits me posts thread call)
-done-fits limits tables me posts memory thread (Alloc seg size) reply may many all finds =
-    let found = alloc-found posts seg size reply finds in
+plain-fits : (limits : Limits) (tables : List Tables) (me : ℕ) (posts : Posts) (memory : Memory) (thread : ℕ) (call : Call) (reply : Reply) → MayPost tables me (tables_of posts) posts.known
+    → length posts.next_generations ≡ 32 → AllFit limits.notes tables me posts.queues → plain_finds limits me posts memory call ≡ Ok (Some reply)
+    → KeepsFit limits.notes tables me posts (plain_done posts thread call)
+plain-fits limits tables me posts memory thread (Alloc call) reply may many all finds =
+    let found = alloc-found posts call reply finds in
     record {
-      succeeds = alloc-succeeds posts.own posts.next_generations seg size found.free (let less = ltb-true seg 32 found.numbered in omega arith);
+      succeeds = alloc-succeeds posts.own posts.next_generations call.seg call.size found.free (let less = ltb-true call.seg 32 found.numbered in omega arith);
       known = may.knows;
       entries = all;
       sources = λ queue q hq target lane hl place e he own range is posted lies.
-          lies-other posts.own seg (Some (record { generation = next_generation posts.next_generations seg; size = size })) own
+          lies-other posts.own call.seg (Some (record { generation = next_generation posts.next_generations call.seg; size = call.size })) own
           (λ same.
-          let there : extent_in posts.own seg ≡ Some lies.extent = rw same lies.there in
+          let there : extent_in posts.own call.seg ≡ Some lies.extent = rw same lies.there in
           let never : ◌≡◌ {A = Option Extent} None (Some lies.extent) = sym found.free ∙ there in
           let no : ⊥ = cc in no) lies;
     }
-done-fits limits tables me posts memory thread (Register seg rank) reply may many all finds = fits-itself limits.notes tables me posts may.knows all
-done-fits limits tables me posts memory thread (Delete seg) reply may many all finds =
-    let unused = delete-found posts seg reply finds in
+plain-fits limits tables me posts memory thread (Delete call) reply may many all finds =
+    let unused = delete-found posts call reply finds in
     record {
-      succeeds = delete-succeeds posts.own posts.next_generations seg;
+      succeeds = delete-succeeds posts.own posts.next_generations call.seg;
       known = may.knows;
       entries = all;
       sources = λ queue q hq target lane hl place e he own range is posted lies.
-          lies-other posts.own seg None own (unused-apart posts.queues seg unused queue q hq target lane hl place e he own range is posted) lies;
+          lies-other posts.own call.seg None own (unused-apart posts.queues call.seg unused queue q hq target lane hl place e he own range is posted) lies;
     }
-done-fits limits tables me posts memory thread (Store seg offset bytes) reply may many all finds = fits-itself limits.notes tables me posts may.knows all
-done-fits limits tables me posts memory thread (Load seg offset size) reply may many all finds = fits-itself limits.notes tables me posts may.knows all
-done-fits limits tables me posts memory thread (Write seg offset rank rseg roffset size queue) reply may many all finds =
-    post-fits limits.notes tables me posts queue rank (write_kinds me posts.own posts.known seg offset rank rseg roffset size) may
-    (λ kinds theirs asks ht. write-fits limits.notes me (tables_of posts) posts.known tables seg offset rank rseg roffset size kinds theirs may ht asks) all
-done-fits limits tables me posts memory thread (Notify rseg rank note value queue) reply may many all finds =
-    post-fits limits.notes tables me posts queue rank (notify_kinds limits.notes me posts.own posts.known rseg rank note value) may
-    (λ kinds theirs asks ht. notify-fits limits.notes me (tables_of posts) posts.known tables rseg rank note value kinds theirs may ht asks) all
-done-fits limits tables me posts memory thread (WriteNotify seg offset rank rseg roffset size note value queue) reply may many all finds =
-    post-fits limits.notes tables me posts queue rank (write_notify_kinds limits.notes me posts.own posts.known seg offset rank rseg roffset size note value) may
-    (λ kinds theirs asks ht. write_notify-fits limits.notes me (tables_of posts) posts.known tables seg offset rank rseg roffset size note value kinds theirs may ht asks) all
-done-fits limits tables me posts memory thread (Wait queue) reply may many all finds =
-    fits-requeued limits.notes tables me posts (changed_at posts.queues queue (λ (q : Queue). record q { open_count = 0 })) may.knows
-    (fits-queue limits.notes tables me posts.queues queue (λ (q : Queue). record q { open_count = 0 }) (λ q. refl) all)
-done-fits limits tables me posts memory thread (Waitsome seg begin num) reply may many all finds = fits-itself limits.notes tables me posts may.knows all
-done-fits limits tables me posts memory thread (Reset seg note) reply may many all finds = fits-itself limits.notes tables me posts may.knows all
-done-fits limits tables me posts memory thread (FetchAdd seg offset rank value) reply may many all finds = fits-itself limits.notes tables me posts may.knows all
-done-fits limits tables me posts memory thread (CompareSwap seg offset rank comparator new) reply may many all finds = fits-itself limits.notes tables me posts may.knows all
-done-fits limits tables me posts memory thread End reply may many all finds = record {
+plain-fits limits tables me posts memory thread (Wait call) reply may many all finds =
+    fits-requeued limits.notes tables me posts (changed_at posts.queues call.queue (λ (q : Queue). record q { open_count = 0 })) may.knows
+    (fits-queue limits.notes tables me posts.queues call.queue (λ (q : Queue). record q { open_count = 0 }) (λ q. refl) all)
+plain-fits limits tables me posts memory thread End reply may many all finds = record {
   succeeds = succeeds-itself (tables_of posts);
   known = may.knows;
   entries = all;
   sources = λ queue q hq target lane hl place e he own range is posted lies. lies;
 }
+plain-fits limits tables me posts memory thread other reply may many all finds = fits-itself limits.notes tables me posts may.knows all
+
+done-fits : (limits : Limits) (tables : List Tables) (me : ℕ) (posts : Posts) (memory : Memory) (thread : ℕ) (call : Call) (reply : Reply) → MayPost tables me (tables_of posts) posts.known
+    → length posts.next_generations ≡ 32 → AllFit limits.notes tables me posts.queues → call_finds limits me posts memory call ≡ Ok (Some reply)
+    → KeepsFit limits.notes tables me posts (posts_done limits me posts thread call)
+done-fits limits tables me posts memory thread call reply may many all finds = go (row_of call).posting refl
+  where
+    go : (o : Option Posting) → (row_of call).posting ≡ o → KeepsFit limits.notes tables me posts (posts_done limits me posts thread call)
+    go None none = rw none (plain-fits limits tables me posts memory thread call reply may many all (rw none at finds))
+    go (Some to) post =
+        rw post (post-fits limits.notes tables me posts to.queue to.rank (call_asks limits me posts call) may
+        (λ kinds theirs asks ht. asks-fit limits me posts tables (tables_of posts) call to kinds theirs refl may post ht asks) all)
 
 pub counted-fits : (notes : ℕ) (tables : List Tables) (me : ℕ) (before after : Posts) → KeepsFit notes tables me before after → KeepsFit notes tables me before (counted after)
 counted-fits notes tables me before after keeps = record { succeeds = keeps.succeeds; known = keeps.known; entries = keeps.entries; sources = keeps.sources }
@@ -228,37 +231,45 @@ set-slots notes memory seg o fresh all segment n at =
     parts (inl is) = by-segment o refl is.1
     parts (inr was) = all segment n (rw was refl)
 
-done-tables : (limits : Limits) (me : ℕ) (posts : Posts) (memory : Memory) (thread : ℕ) (call : Call)
-    → KeepsTables limits.notes me (memory_rank limits me call) posts (posts_done limits me posts thread call) memory (memory_done limits posts memory call)
-done-tables limits me posts memory thread (Alloc seg size) =
-    let generation = next_generation posts.next_generations seg in
-    let new = new_segment limits.notes generation size in
-    let extent : ◌≡◌ {A = Extent} (extent_of new) (record { generation = generation; size = size }) = (let many = length-replicate {A = ℕ} size 0 in rw many refl) in
+plain-tables : (limits : Limits) (me : ℕ) (posts : Posts) (memory : Memory) (thread : ℕ) (call : Call)
+    → KeepsTables limits.notes me (memory_rank limits me call) posts (plain_done posts thread call) memory (memory_done limits posts memory call)
+plain-tables limits me posts memory thread (Alloc call) =
+    let generation = next_generation posts.next_generations call.seg in
+    let new = new_segment limits.notes generation call.size in
+    let extent : ◌≡◌ {A = Extent} (extent_of new) (record { generation = generation; size = call.size }) = (let many = length-replicate {A = ℕ} call.size 0 in rw many refl) in
     inr (
       refl,
       (λ agrees.
-          ap (λ (e : Extent). slice_set posts.own seg (Some e)) (sym extent) ∙ set-extents memory seg (Some new) posts.own agrees),
-      set-slots limits.notes memory seg (Some new) (λ s is. ap (λ (x : Segment). length x.slots) (let same : s ≡ new = cc in same) ∙ length-replicate limits.notes 0),
+          ap (λ (e : Extent). slice_set posts.own call.seg (Some e)) (sym extent) ∙ set-extents memory call.seg (Some new) posts.own agrees),
+      set-slots limits.notes memory call.seg (Some new) (λ s is. ap (λ (x : Segment). length x.slots) (let same : s ≡ new = cc in same) ∙ length-replicate limits.notes 0),
     )
-done-tables limits me posts memory thread (Register seg rank) = inl (refl, same-layout memory)
-done-tables limits me posts memory thread (Delete seg) =
-    inr (refl, (λ agrees. set-extents memory seg None posts.own agrees), set-slots limits.notes memory seg None (λ s is. absurd (let no : ⊥ = cc in no)))
-done-tables limits me posts memory thread (Store seg offset bytes) = inl (refl, bytes-layout memory seg offset bytes)
-done-tables limits me posts memory thread (Load seg offset size) = inl (refl, same-layout memory)
-done-tables limits me posts memory thread (Write seg offset rank rseg roffset size queue) =
-    inl (with_post-own posts queue rank (write_kinds me posts.own posts.known seg offset rank rseg roffset size), same-layout memory)
-done-tables limits me posts memory thread (Notify rseg rank note value queue) =
-    inl (with_post-own posts queue rank (notify_kinds limits.notes me posts.own posts.known rseg rank note value), same-layout memory)
-done-tables limits me posts memory thread (WriteNotify seg offset rank rseg roffset size note value queue) =
-    inl (with_post-own posts queue rank (write_notify_kinds limits.notes me posts.own posts.known seg offset rank rseg roffset size note value), same-layout memory)
-done-tables limits me posts memory thread (Wait queue) = inl (refl, same-layout memory)
-done-tables limits me posts memory thread (Waitsome seg begin num) = inl (refl, same-layout memory)
-done-tables limits me posts memory thread (Reset seg note) = inl (refl, slots-layout memory seg note 0)
-done-tables limits me posts memory thread (FetchAdd seg offset rank value) =
-    inl (refl, replaced-layout memory seg (with_sum (bytes_of memory seg) offset value) (with_range-length (bytes_of memory seg) offset (little_bytes 8 ((word_at (bytes_of memory seg) offset + value) % 2 ^ 64))))
-done-tables limits me posts memory thread (CompareSwap seg offset rank comparator new) =
-    inl (refl, replaced-layout memory seg (with_swap (bytes_of memory seg) offset comparator new) (with_swap-length (bytes_of memory seg) offset comparator new))
-done-tables limits me posts memory thread End = inl (refl, same-layout memory)
+plain-tables limits me posts memory thread (Delete call) =
+    inr (refl, (λ agrees. set-extents memory call.seg None posts.own agrees), set-slots limits.notes memory call.seg None (λ s is. absurd (let no : ⊥ = cc in no)))
+plain-tables limits me posts memory thread (Store call) = inl (refl, bytes-layout memory call.seg call.offset call.bytes)
+plain-tables limits me posts memory thread (Reset call) = inl (refl, slots-layout memory call.seg call.note 0)
+plain-tables limits me posts memory thread (FetchAdd call) =
+    inl (refl, replaced-layout memory call.seg (with_sum (bytes_of memory call.seg) call.offset call.value) (with_range-length (bytes_of memory call.seg) call.offset (little_bytes 8 ((word_at (bytes_of memory call.seg) call.offset + call.value) % 2 ^ 64))))
+plain-tables limits me posts memory thread (CompareSwap call) =
+    inl (refl, replaced-layout memory call.seg (with_swap (bytes_of memory call.seg) call.offset call.comparator call.new) (with_swap-length (bytes_of memory call.seg) call.offset call.comparator call.new))
+plain-tables limits me posts memory thread other = inl (refl, same-layout memory)
+
+-- a post leaves the memory
+pub post-leaves : (limits : Limits) (posts : Posts) (memory : Memory) (call : Call) (to : Posting) → (row_of call).posting ≡ Some to → memory_done limits posts memory call ≡ memory
+post-leaves limits posts memory (Alloc call) to is = absurd (let no : ⊥ = cc in no)
+post-leaves limits posts memory (Delete call) to is = absurd (let no : ⊥ = cc in no)
+post-leaves limits posts memory (Store call) to is = absurd (let no : ⊥ = cc in no)
+post-leaves limits posts memory (Reset call) to is = absurd (let no : ⊥ = cc in no)
+post-leaves limits posts memory (FetchAdd call) to is = absurd (let no : ⊥ = cc in no)
+post-leaves limits posts memory (CompareSwap call) to is = absurd (let no : ⊥ = cc in no)
+post-leaves limits posts memory other to is = refl
+
+done-tables : (limits : Limits) (me : ℕ) (posts : Posts) (memory : Memory) (thread : ℕ) (call : Call)
+    → KeepsTables limits.notes me (memory_rank limits me call) posts (posts_done limits me posts thread call) memory (memory_done limits posts memory call)
+done-tables limits me posts memory thread call = go (row_of call).posting refl
+  where
+    go : (o : Option Posting) → (row_of call).posting ≡ o → KeepsTables limits.notes me (memory_rank limits me call) posts (posts_done limits me posts thread call) memory (memory_done limits posts memory call)
+    go None none = rw none (plain-tables limits me posts memory thread call)
+    go (Some to) post = rw (post, post-leaves limits posts memory call to post) (inl (with_post-own posts to.queue to.rank (call_asks limits me posts call), same-layout memory))
 
 pub called-tables : (limits : Limits) (me : ℕ) (posts : Posts) (memory : Memory) (thread : ℕ) (call : Call) (reply : Reply)
     → KeepsTables limits.notes me (memory_rank limits me call) posts (posts_after limits me posts thread call reply) memory (memory_after limits posts memory call reply)
@@ -297,13 +308,13 @@ known-told tables known me mine seg here made knows rank table theirs hk ht segm
         in-table t kt (eqb-true me rank is) (extent-set t seg (extent_in mine.own seg) segment x (rw new at))
 
 -- what ranks know when one of them is told a segment
-pub told-knows : (tables : List Tables) (me : ℕ) (p : Posts) (call : Call) (reply : Reply) (all : List Posts) → slice_get tables me ≡ Some (tables_of p) → AreMade (tables_of p)
-    → ((r : ℕ) (x : Posts) → slice_get all r ≡ Some x → Knows tables x.known) → (r : ℕ) (x : Posts) → slice_get (told me p call reply all) r ≡ Some x → Knows tables x.known
-told-knows tables me p call reply all here made know r x h =
-    told-cases me p call reply
+pub told-knows : (tables : List Tables) (ranks me : ℕ) (p : Posts) (call : Call) (reply : Reply) (all : List Posts) → slice_get tables me ≡ Some (tables_of p) → AreMade (tables_of p)
+    → ((r : ℕ) (x : Posts) → slice_get all r ≡ Some x → Knows tables x.known) → (r : ℕ) (x : Posts) → slice_get (told ranks me p call reply all) r ≡ Some x → Knows tables x.known
+told-knows tables ranks me p call reply all here made know r x h =
+    told-cases ranks me p call reply
     (λ same. know r x (rw (same all) at h))
-    (λ seg rank is awake other same.
-    by-rank seg rank (rank == r) refl (slice_get all r) refl (sym (ap (λ (xs : List Posts). slice_get xs r) (same all) ∙ changed_at-get all rank r (with_known me seg (extent_in p.own seg))) ∙ h))
+    (λ x' is awake other same.
+    by-rank x'.seg x'.rank (x'.rank == r) refl (slice_get all r) refl (sym (ap (λ (xs : List Posts). slice_get xs r) (same all) ∙ changed_at-get all x'.rank r (with_known me x'.seg (extent_in p.own x'.seg))) ∙ h))
   where
     by-rank : (seg rank : ℕ) (b : Bool) → (rank == r) ≡ b → (o : Option Posts) → slice_get all r ≡ o
         → (if rank == r then option_map (with_known me seg (extent_in p.own seg)) (slice_get all r) else slice_get all r) ≡ Some x → Knows tables x.known

@@ -6,7 +6,7 @@ use Rattle.gaspi_types.specs.World.{World, is_caller}
 use Rattle.gaspi_types.specs.Replies.{is_idle}
 use Rattle.gaspi_types.specs.declared.shapes.CallerId.{CallerId}
 use Rattle.gaspi_types.specs.declared.calls.Call.{Call}
-use Rattle.gaspi_types.specs.declared.calls.Call.TheVariants.{Alloc, Register, Delete, Store, Load, Write, Notify, WriteNotify, Wait, Waitsome, Reset, FetchAdd, CompareSwap, End}
+use Rattle.gaspi_types.specs.declared.calls.Call.TheVariants.{End}
 use Rattle.gaspi_types.specs.declared.replies.Reply.{Reply}
 use Rattle.gaspi_types.specs.declared.replies.Reply.TheVariants as replies
 use Rattle.gaspi_types.specs.declared.replies.Refusal.TheVariants.{CallerEnded}
@@ -14,13 +14,15 @@ use Rattle.gaspi_types.specs.declared.replies.Ready.TheVariants as ready
 use Rattle.gaspi_types.specs.declared.events.Event.{Event}
 use Rattle.gaspi_types.specs.declared.events.Event.TheVariants.{Called, Take, Put}
 use Rattle.gaspi_model.specs.State.{opening, opening_posts, opening_thread, thread_at, is_running}
-use Rattle.gaspi_model.specs.Calls.{recorded_reply, posts_after, counted}
-use Rattle.gaspi_model.specs.Step.{step, after, reached, own_calls, is_active, is_end, ends_caller}
+use Rattle.gaspi_model.specs.Posting.{counted}
+use Rattle.gaspi_model.specs.Calls.{recorded_reply, posts_after}
+use Rattle.gaspi_types.specs.CallRows.{is_end}
+use Rattle.gaspi_model.specs.Step.{step, after, reached, own_calls, is_active, ends_caller}
 use Rattle.gaspi_model.specs.declared.states.Posts.{Posts}
 use Rattle.gaspi_model.specs.declared.states.State.{State}
 use Rattle.gaspi_model.specs.declared.states.ThreadState.{ThreadState}
 use Rattle.gaspi_model.specs.declared.states.ThreadState.TheVariants as threads
-use Rattle.gaspi_model.specs.Transfers.{Parts}
+use Rattle.gaspi_model.specs.Transfers.{Worked}
 use Rattle.gaspi_model.proofs.Chains.{both}
 use Rattle.gaspi_model.proofs.Made.{step-called}
 use Rattle.gaspi_model.proofs.Same.{same_reply-same}
@@ -54,8 +56,8 @@ end-inactive s t c reply h =
     let m = made.3 in
     let answered = same_reply-same _ _ m.is.answered in
     let there : slice_get t.posts c.rank ≡ Some made.2.posts =
-    ap (λ (x : State). slice_get x.posts c.rank) m.leaves ∙ told-mine c.rank made.0 End reply (slice_set s.posts c.rank made.2.posts) ∙ slice_get-set_same s.posts c.rank made.0 made.2.posts m.posts_there in
-    let posts : made.2.posts ≡ posts_after s.limits c.rank made.0 c.thread End reply = ap (λ (x : Parts). x.posts) m.is.leaves in
+    ap (λ (x : State). slice_get x.posts c.rank) m.leaves ∙ told-mine s.limits.ranks c.rank made.0 End reply (slice_set s.posts c.rank made.2.posts) ∙ slice_get-set_same s.posts c.rank made.0 made.2.posts m.posts_there in
+    let posts : made.2.posts ≡ posts_after s.limits c.rank made.0 c.thread End reply = ap (λ (x : Worked). x.posts) m.is.leaves in
     let none = end-after made.0 c.thread reply (is_running (thread_at made.0 c.thread)) refl answered in
     in-posts made.2.posts there (ap (λ (p : Posts). is_running (thread_at p c.thread)) posts ∙ none)
   where
@@ -111,19 +113,7 @@ after-active s t (e ∷ events) rank thread h is =
             let none = end-inactive s s1 c reply made in
             let here : is_active s1 rank thread ≡ false = subst (λ (n : ℕ). is_active s1 rank n ≡ false) is_t (subst (λ (n : ℕ). is_active s1 n c.thread ≡ false) is_r none) in
             cc
-        by-call (Alloc seg size) ending made is_r is_t = cc
-        by-call (Register seg to) ending made is_r is_t = cc
-        by-call (Delete seg) ending made is_r is_t = cc
-        by-call (Store seg offset bytes) ending made is_r is_t = cc
-        by-call (Load seg offset size) ending made is_r is_t = cc
-        by-call (Write seg offset to rseg roffset size queue) ending made is_r is_t = cc
-        by-call (Notify rseg to note value queue) ending made is_r is_t = cc
-        by-call (WriteNotify seg offset to rseg roffset size note value queue) ending made is_r is_t = cc
-        by-call (Wait queue) ending made is_r is_t = cc
-        by-call (Waitsome seg begin num) ending made is_r is_t = cc
-        by-call (Reset seg note) ending made is_r is_t = cc
-        by-call (FetchAdd seg offset to value) ending made is_r is_t = cc
-        by-call (CompareSwap seg offset to comparator new) ending made is_r is_t = cc
+        by-call other ending made is_r is_t = cc
     end s1 (Take origin queue target number outcome) made ends is1 = cc
     end s1 (Put origin queue target number outcome) made ends is1 = cc
 

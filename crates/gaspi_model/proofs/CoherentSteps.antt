@@ -12,8 +12,8 @@ use Rattle.gaspi_types.specs.declared.events.Outcome.{Outcome}
 use Rattle.gaspi_types.specs.declared.events.Outcome.TheVariants.{Applied, Failed}
 use Rattle.gaspi_types.specs.declared.events.Event.{Event}
 use Rattle.gaspi_types.specs.declared.events.Event.TheVariants.{Called, Take, Put}
-use Rattle.gaspi_model.specs.Calls.{changed_at, memory_rank, told}
-use Rattle.gaspi_model.specs.Transfers.{Found, Parts, with_phase, taken_bytes}
+use Rattle.gaspi_model.specs.Posting.{changed_at}
+use Rattle.gaspi_model.specs.Transfers.{Found, Worked, with_phase, taken_bytes}
 use Rattle.gaspi_model.specs.Step.{step}
 use Rattle.gaspi_model.specs.Coherence.{extents_of, Tables, tables_of, all_tables, HasSource, AreMade, AllFit, Knows, IsCoherent}
 use Rattle.gaspi_model.specs.Sound.{IsSound}
@@ -23,9 +23,10 @@ use Rattle.gaspi_model.specs.declared.states.Memory.{Memory}
 use Rattle.gaspi_model.specs.declared.states.State.{State}
 use Rattle.gaspi_model.proofs.Chains.{both}
 use Rattle.gaspi_model.proofs.Same.{same_reply-same}
-use Rattle.gaspi_model.proofs.Made.{IsPut, step-called, step-take, step-put}
+use Rattle.gaspi_model.proofs.Made.{IsPut}
+use Rattle.gaspi_model.proofs.Worked.{memory_rank, sound-called, sound-take, sound-put}
 use Rattle.gaspi_model.proofs.Tables.{slice_get-set, slice_get-set_same, slice_get-set_other, map-at, same-or-not}
-use Rattle.gaspi_model.proofs.Told.{told-from}
+use Rattle.gaspi_model.proofs.Told.{told, told-from}
 use Rattle.gaspi_model.proofs.Layouts.{HaveSameLayout, same-layout, put-layout}
 use Rattle.gaspi_model.proofs.Successors.{Succeeds, Follow, made-stays, knows-follows, all-fit-follows}
 use Rattle.gaspi_model.proofs.FittingEntries.{MayPost, fits-lane, lane-phase, lane-remove, taken-source}
@@ -81,16 +82,16 @@ posts-from notes table place old new at keeps all rank after here = go (slice_ge
     go (inr was) = (after, was, all rank after was)
 
 -- and one of them told a segment
-told-posts-from : (notes : ℕ) (table : List Posts) (place : ℕ) (old new : Posts) (call : Call) (reply : Reply) → slice_get table place ≡ Some old → AreMade (tables_of old)
+told-posts-from : (ranks notes : ℕ) (table : List Posts) (place : ℕ) (old new : Posts) (call : Call) (reply : Reply) → slice_get table place ≡ Some old → AreMade (tables_of old)
     → KeepsFit notes (all_tables table) place old new → ((rank : ℕ) (p : Posts) → slice_get table rank ≡ Some p → KeepsFit notes (all_tables table) rank p p)
-    → (rank : ℕ) (after : Posts) → slice_get (told place old call reply (slice_set table place new)) rank ≡ Some after
+    → (rank : ℕ) (after : Posts) → slice_get (told ranks place old call reply (slice_set table place new)) rank ≡ Some after
     → (before : Posts) × (slice_get table rank ≡ Some before) × KeepsFit notes (all_tables table) rank before after
-told-posts-from notes table place old new call reply at made keeps all rank after here =
+told-posts-from ranks notes table place old new call reply at made keeps all rank after here =
     let replaced = posts-from notes table place old new at keeps all in
-    let from = told-from place old call reply (slice_set table place new) rank after here in
+    let from = told-from ranks place old call reply (slice_set table place new) rank after here in
     let before = replaced rank from.0 from.2 in
     let known : Knows (all_tables table) after.known =
-    told-knows (all_tables table) place old call reply (slice_set table place new) (mine-there table place old at) made (λ r x h. (replaced r x h).2.known) rank after here in
+    told-knows (all_tables table) ranks place old call reply (slice_set table place new) (mine-there table place old at) made (λ r x h. (replaced r x h).2.known) rank after here in
     (before.0, before.1, told-fits before.0 from.0 from.1 from.3 before.2 known)
   where
     told-fits : (before x : Posts) (known : List (List (Option Extent))) → after ≡ record x { known = known } → KeepsFit notes (all_tables table) rank before x → Knows (all_tables table) after.known
@@ -138,9 +139,9 @@ changed-own all memories notes me worked posts posts' memory memory' agrees hp h
     agrees rank p m (sym (slice_get-set_other all me rank posts' apart) ∙ at_p)
     (sym (slice_get-set_other memories worked rank memory' (λ is. apart (sym both_change.0 ∙ is))) ∙ at_m))
 
-told-own : (all : List Posts) (memories : List Memory) (me : ℕ) (p : Posts) (call : Call) (reply : Reply) → OwnAgrees all memories → OwnAgrees (told me p call reply all) memories
-told-own all memories me p call reply agrees rank posts memory hp hm =
-    let from = told-from me p call reply all rank posts hp in
+told-own : (ranks : ℕ) (all : List Posts) (memories : List Memory) (me : ℕ) (p : Posts) (call : Call) (reply : Reply) → OwnAgrees all memories → OwnAgrees (told ranks me p call reply all) memories
+told-own ranks all memories me p call reply agrees rank posts memory hp hm =
+    let from = told-from ranks me p call reply all rank posts hp in
     ap (λ (x : Posts). x.own) from.3 ∙ agrees rank from.0 memory from.2 hm
 
 changed-slots : (memories : List Memory) (notes worked : ℕ) (memory' : Memory) → ((rank : ℕ) (m : Memory) → slice_get memories rank ≡ Some m → HasSlots notes m) → HasSlots notes memory'
@@ -160,7 +161,7 @@ tables-slots notes me worked posts posts' memory memory' (inr both_change) all =
 
 -- Puts.
 
-put-keeps : (notes : ℕ) (tables : List Tables) (posts : Posts) (memory : Memory) (origin queue target number : ℕ) (outcome : Outcome) (after : Parts) (at : Found)
+put-keeps : (notes : ℕ) (tables : List Tables) (posts : Posts) (memory : Memory) (origin queue target number : ℕ) (outcome : Outcome) (after : Worked) (at : Found)
     → IsPut posts memory queue target number outcome after at → Knows tables posts.known → AllFit notes tables origin posts.queues → KeepsFit notes tables origin posts after.posts
 put-keeps notes tables posts memory origin queue target number Applied after at h knows all =
     let lane = remove at.lane at.place in
@@ -177,7 +178,7 @@ put-keeps notes tables posts memory origin queue target number Failed after at h
     let keeps = fits-requeued notes tables origin posts (changed_at posts.queues queue change) knows fits in
     rw h.leaves (record { succeeds = keeps.succeeds; known = keeps.known; entries = keeps.entries; sources = keeps.sources })
 
-put-tables : (notes origin target queue number : ℕ) (posts : Posts) (memory : Memory) (outcome : Outcome) (after : Parts) (at : Found)
+put-tables : (notes origin target queue number : ℕ) (posts : Posts) (memory : Memory) (outcome : Outcome) (after : Worked) (at : Found)
     → IsPut posts memory queue target number outcome after at → KeepsTables notes origin target posts after.posts memory after.memory
 put-tables notes origin target queue number posts memory Applied after at h = rw h.leaves (inl (refl, put-layout memory at.entry))
 put-tables notes origin target queue number posts memory Failed after at h = rw h.leaves (inl (refl, same-layout memory))
@@ -185,7 +186,7 @@ put-tables notes origin target queue number posts memory Failed after at h = rw 
 pub steps-coherent : (s t : State) (e : Event) → IsSound s → step s e ≡ Ok t → IsCoherent t
 steps-coherent s t (Called c call reply) sound h =
     let coherent = sound.coherent in
-    let made = step-called s t c call reply h in
+    let made = sound-called s t c call reply sound h in
     let m = made.3 in
     let tables = all_tables s.posts in
     let worked = memory_rank s.limits c.rank call in
@@ -199,16 +200,16 @@ steps-coherent s t (Called c call reply) sound h =
     let kept : KeepsTables s.limits.notes c.rank worked made.0 made.2.posts made.1 made.2.memory = rw m.is.leaves (called-tables s.limits c.rank made.0 made.1 c.thread call reply) in
     let all = slice_set s.posts c.rank made.2.posts in
     let memories = slice_set s.memories worked made.2.memory in
-    rw m.leaves (keeps-coherent s (record s { posts = told c.rank made.0 call reply all; memories = memories }) coherent (record {
+    rw m.leaves (keeps-coherent s (record s { posts = told s.limits.ranks c.rank made.0 call reply all; memories = memories }) coherent (record {
       limits = refl;
-      posts = told-posts-from s.limits.notes s.posts c.rank made.0 made.2.posts call reply m.posts_there may.made keeps (keeps-itself s coherent);
-      own = told-own all memories c.rank made.0 call reply (changed-own s.posts s.memories s.limits.notes c.rank worked made.0 made.2.posts made.1 made.2.memory coherent.own m.posts_there m.memory_there kept);
+      posts = told-posts-from s.limits.ranks s.limits.notes s.posts c.rank made.0 made.2.posts call reply m.posts_there may.made keeps (keeps-itself s coherent);
+      own = told-own s.limits.ranks all memories c.rank made.0 call reply (changed-own s.posts s.memories s.limits.notes c.rank worked made.0 made.2.posts made.1 made.2.memory coherent.own m.posts_there m.memory_there kept);
       slots = changed-slots s.memories s.limits.notes worked made.2.memory coherent.slots
           (tables-slots s.limits.notes c.rank worked made.0 made.2.posts made.1 made.2.memory kept (coherent.slots worked made.1 m.memory_there));
     }))
 steps-coherent s t (Take origin queue target number outcome) sound h =
     let coherent = sound.coherent in
-    let made = step-take s t origin queue target number outcome h in
+    let made = sound-take s t origin queue target number outcome sound h in
     let m = made.4 in
     let at = made.3 in
     let tables = all_tables s.posts in
@@ -234,7 +235,7 @@ steps-coherent s t (Take origin queue target number outcome) sound h =
     }))
 steps-coherent s t (Put origin queue target number outcome) sound h =
     let coherent = sound.coherent in
-    let made = step-put s t origin queue target number outcome h in
+    let made = sound-put s t origin queue target number outcome sound h in
     let m = made.4 in
     let tables = all_tables s.posts in
     let keeps = put-keeps s.limits.notes tables made.0 made.1 origin queue target number outcome made.2 made.3 m.is (coherent.known origin made.0 m.posts_there) (coherent.entries origin made.0 m.posts_there) in

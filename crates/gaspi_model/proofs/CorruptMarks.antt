@@ -1,13 +1,14 @@
 -- A rank that is once corrupt for a rank stays so.
 use Rattle.std.proofs.Common.{◌≡◌, ℕ, Bool, true, false, List, [], ◌∷◌, ◌++◌, Option, None, Some, Result, Ok, Err, refl, sym, ◌∙◌, subst, if◌then◌else◌, inl, inr}
 use Rattle.std.specs.List.{slice_get, slice_set}
-use Rattle.gaspi_types.specs.Posts.{write_kinds, notify_kinds, write_notify_kinds}
 use Rattle.gaspi_types.specs.Replies.{is_idle}
 use Rattle.gaspi_types.specs.World.{World}
 use Rattle.gaspi_types.specs.declared.entries.Kind.{Kind}
 use Rattle.gaspi_types.specs.declared.shapes.Limits.{Limits}
 use Rattle.gaspi_types.specs.declared.calls.Call.{Call}
-use Rattle.gaspi_types.specs.declared.calls.Call.TheVariants.{Write, Notify, WriteNotify}
+use Rattle.gaspi_types.specs.declared.calls.Call.TheVariants.{End}
+use Rattle.gaspi_types.specs.CallRows.{row_of}
+use Rattle.gaspi_types.specs.declared.call_rows.Posting.{Posting}
 use Rattle.gaspi_types.specs.declared.replies.Refusal.{Refusal}
 use Rattle.gaspi_types.specs.declared.replies.Reply.{Reply}
 use Rattle.gaspi_types.specs.declared.events.Outcome.{Outcome}
@@ -15,8 +16,9 @@ use Rattle.gaspi_types.specs.declared.events.Outcome.TheVariants.{Applied, Faile
 use Rattle.gaspi_types.specs.declared.events.Event.{Event}
 use Rattle.gaspi_types.specs.declared.events.Event.TheVariants.{Called, Take, Put}
 use Rattle.gaspi_model.specs.State.{opening}
-use Rattle.gaspi_model.specs.Calls.{with_post, posts_done, counted, told}
-use Rattle.gaspi_model.specs.Transfers.{Found, Parts}
+use Rattle.gaspi_model.specs.Posting.{with_post, counted}
+use Rattle.gaspi_model.specs.Calls.{posts_done, plain_done, call_asks}
+use Rattle.gaspi_model.specs.Transfers.{Found, Worked}
 use Rattle.gaspi_model.specs.Step.{step, after, reached}
 use Rattle.gaspi_model.specs.Changes.{is_corrupt}
 use Rattle.gaspi_model.specs.declared.states.Posts.{Posts}
@@ -25,7 +27,7 @@ use Rattle.gaspi_model.specs.declared.states.State.{State}
 use Rattle.gaspi_model.specs.declared.states.Why.{Why}
 use Rattle.gaspi_model.proofs.Made.{IsPut, step-called, step-take, step-put}
 use Rattle.gaspi_model.proofs.Tables.{slice_get-set_same, slice_get-set_other, same-or-not}
-use Rattle.gaspi_model.proofs.Told.{IsTold, told-get}
+use Rattle.gaspi_model.proofs.Told.{IsTold, told, told-get}
 use Rattle.gaspi_model.proofs.Histories.{after-first, after-both}
 
 -- the posts of a rank for which another is corrupt
@@ -69,10 +71,10 @@ replaced-marks all me posts posts' rank target at keeps h =
     })
     (λ apart. record { posts = h.posts; there = slice_get-set_other all me rank posts' apart ∙ h.there; marked = h.marked })
 
-told-marks : (me : ℕ) (p : Posts) (call : Call) (reply : Reply) (all : List Posts) (rank target : ℕ) → IsMarked all rank target → IsMarked (told me p call reply all) rank target
-told-marks me p call reply all rank target h = go (told-get me p call reply all rank)
+told-marks : (ranks me : ℕ) (p : Posts) (call : Call) (reply : Reply) (all : List Posts) (rank target : ℕ) → IsMarked all rank target → IsMarked (told ranks me p call reply all) rank target
+told-marks ranks me p call reply all rank target h = go (told-get ranks me p call reply all rank)
   where
-    go : IsTold all (told me p call reply all) rank → IsMarked (told me p call reply all) rank target
+    go : IsTold all (told ranks me p call reply all) rank → IsMarked (told ranks me p call reply all) rank target
     go (inl same) = record { posts = h.posts; there = same ∙ h.there; marked = h.marked }
     go (inr (x, known, before, now)) =
         let same : x ≡ h.posts = (let some : ◌≡◌ {A = Option Posts} (Some x) (Some h.posts) = sym before ∙ h.there in cc) in
@@ -84,18 +86,22 @@ post-marks posts queue target (Err refusal) = refl
 
 -- no call changes the marks
 done-marks : (limits : Limits) (me : ℕ) (posts : Posts) (thread : ℕ) (call : Call) → (posts_done limits me posts thread call).corrupt ≡ posts.corrupt
-done-marks limits me posts thread (Write seg offset rank rseg roffset size queue) = post-marks posts queue rank (write_kinds me posts.own posts.known seg offset rank rseg roffset size)
-done-marks limits me posts thread (Notify rseg rank note value queue) = post-marks posts queue rank (notify_kinds limits.notes me posts.own posts.known rseg rank note value)
-done-marks limits me posts thread (WriteNotify seg offset rank rseg roffset size note value queue) =
-    post-marks posts queue rank (write_notify_kinds limits.notes me posts.own posts.known seg offset rank rseg roffset size note value)
-done-marks limits me posts thread other = refl
+done-marks limits me posts thread call = go (row_of call).posting refl
+  where
+    plain : (call : Call) → (plain_done posts thread call).corrupt ≡ posts.corrupt
+    plain End = refl
+    plain other = refl
+
+    go : (o : Option Posting) → (row_of call).posting ≡ o → (posts_done limits me posts thread call).corrupt ≡ posts.corrupt
+    go None none = rw none (plain call)
+    go (Some to) post = rw post (post-marks posts to.queue to.rank (call_asks limits me posts call))
 
 after-marks : (b : Bool) (posts done : Posts) → done.corrupt ≡ posts.corrupt → (counted (if b then posts else done)).corrupt ≡ posts.corrupt
 after-marks true posts done same = refl
 after-marks false posts done same = same
 
 -- a put sets a mark where it fails, and takes none
-put-marks : (posts : Posts) (memory : Memory) (queue target number : ℕ) (outcome : Outcome) (after : Parts) (at : Found) → IsPut posts memory queue target number outcome after at → KeepsMarks posts after.posts
+put-marks : (posts : Posts) (memory : Memory) (queue target number : ℕ) (outcome : Outcome) (after : Worked) (at : Found) → IsPut posts memory queue target number outcome after at → KeepsMarks posts after.posts
 put-marks posts memory queue target number Applied after at h k mark = rw h.leaves mark
 put-marks posts memory queue target number Failed after at h k mark =
     same-or-not target k
@@ -111,7 +117,7 @@ step-corrupt s t (Called c call reply) rank target h corrupt =
     let same : made.2.posts.corrupt ≡ made.0.corrupt =
     rw m.is.leaves (after-marks (is_idle reply) made.0 (posts_done s.limits c.rank made.0 c.thread call) (done-marks s.limits c.rank made.0 c.thread call)) in
     let all = slice_set s.posts c.rank made.2.posts in
-    let mark = told-marks c.rank made.0 call reply all rank target
+    let mark = told-marks s.limits.ranks c.rank made.0 call reply all rank target
     (replaced-marks s.posts c.rank made.0 made.2.posts rank target m.posts_there (same-marks made.0 made.2.posts same) (marked s rank target corrupt)) in
     is-corrupt t rank target (rw m.leaves mark)
 step-corrupt s t (Take origin queue target' number outcome) rank target h corrupt =

@@ -1,20 +1,21 @@
 -- What may come next is a step: a transfer that is listed, and a call with the reply that it has.
-use Rattle.std.proofs.Common.{◌≡◌, ℕ, zero, suc, ◌+◌, ◌*◌, ◌<◌, ◌≤◌, ℤ, Bool, true, false, List, [], ◌∷◌, Option, None, Some, Result, Ok, Err, refl, sym, ◌∙◌, subst, arith, if◌then◌else◌, is_none, IsOk, nat_eq, nat_lt}
+use Rattle.std.proofs.Common.{◌≡◌, ℕ, zero, suc, ◌+◌, ◌*◌, ◌<◌, ◌≤◌, ℤ, Bool, true, false, List, [], ◌∷◌, Option, None, Some, Result, Ok, Err, refl, sym, ap, ◌∙◌, subst, ◌==◌, arith, if◌then◌else◌, is_none, IsOk, nat_eq, nat_lt}
 use Rattle.std.specs.List.{slice_get, slice_set, enumerate_from}
 use Rattle.std.specs.Ordering.{int_eq}
 use Rattle.std.specs.Cmp.Lexicographic.{pointwise}
-use Rattle.std.proofs.lemmas.Bool.{le-leb, eq-eqb, ltb-true}
+use Rattle.std.proofs.lemmas.Bool.{le-leb, lt-ltb, eq-eqb, eqb-true}
 use Rattle.std.proofs.lemmas.Cmp.{int_eq_equiv}
 use Rattle.std.proofs.lemmas.Option.{slice_get_within}
 use Rattle.gaspi_types.specs.Checks.{◌>>=◌}
 use Rattle.gaspi_types.specs.Lanes.{may_take, may_put, place_of}
-use Rattle.gaspi_types.specs.Need.{need_of}
+use Rattle.gaspi_types.specs.CallRows.{row_of, is_end, entries_of, need_of}
 use Rattle.gaspi_types.specs.Replies.{refusal_number, refusal_fields, type_number, same_refusal, same_numbers, same_reply, is_done}
 use Rattle.gaspi_types.specs.declared.collectives.Numbers.{Numbers}
 use Rattle.gaspi_types.specs.declared.entries.Entry.{Entry}
+use Rattle.gaspi_types.specs.declared.entries.Kind.{Kind}
+use Rattle.gaspi_types.specs.declared.entries.Kind.TheVariants.{Write, Notify}
 use Rattle.gaspi_types.specs.declared.shapes.Limits.{Limits}
 use Rattle.gaspi_types.specs.declared.calls.Call.{Call}
-use Rattle.gaspi_types.specs.declared.calls.Call.TheVariants.{Alloc, Register, Delete, Store, Load, Write, Notify, WriteNotify, Wait, Waitsome, Reset, FetchAdd, CompareSwap, End}
 use Rattle.gaspi_types.specs.declared.replies.Refusal.{Refusal}
 use Rattle.gaspi_types.specs.declared.replies.Reply.{Reply}
 use Rattle.gaspi_types.specs.declared.replies.Reply.TheVariants as replies
@@ -25,9 +26,15 @@ use Rattle.gaspi_types.specs.declared.events.Transfer.{Transfer}
 use Rattle.gaspi_types.specs.declared.events.Event.{Event}
 use Rattle.gaspi_types.specs.declared.events.Event.TheVariants.{Called, Take, Put}
 use Rattle.gaspi_model.specs.State.{owed, thread_at, is_running}
-use Rattle.gaspi_model.specs.Calls.{answer, recorded_reply, charge, memory_named, memory_rank, told}
-use Rattle.gaspi_model.specs.Transfers.{find_entry, take, put, put_outcome, same_outcome, transfer_of, lane_transfers, queue_transfers, rank_transfers, transfers}
-use Rattle.gaspi_model.specs.Step.{step, called, is_there, answer_in, is_active, room_taken, transfer_event}
+use Rattle.gaspi_model.specs.Calls.{answer, recorded_reply, charge}
+use Rattle.gaspi_model.specs.Calls.{peer_after}
+use Rattle.gaspi_model.specs.Parts.{Parts, parts_of, with_parts, touched_of, worked_memory, with_worked_memory}
+use Rattle.gaspi_model.proofs.Made.{worked-at, memory_at, put_reach, entry-found}
+use Rattle.gaspi_types.specs.Touches.{reach_of}
+use Rattle.gaspi_types.specs.declared.touches.Reach.{Reach}
+use Rattle.std.specs.Option.{option_map}
+use Rattle.gaspi_model.specs.Transfers.{find_entry, entry_in, take, put, Worked, put_outcome, same_outcome, transfer_of, lane_transfers, queue_transfers, rank_transfers, transfers}
+use Rattle.gaspi_model.specs.Step.{step, called, is_there, call_memory, event_reach, answer_in, is_active, room_taken, transfer_event}
 use Rattle.gaspi_model.specs.Sound.{IsSound}
 use Rattle.gaspi_model.specs.declared.states.Queue.{Queue}
 use Rattle.gaspi_model.specs.declared.states.ThreadState.{ThreadState}
@@ -84,20 +91,11 @@ done-charge entries false = omega arith
 
 -- no call takes more room than it needs
 pub charge-need : (t : ThreadState) (call : Call) (reply : Reply) → is_running t ≡ true → charge t call reply ≤ need_of call false false
-charge-need t (Alloc seg size) reply running = omega arith
-charge-need t (Register seg rank) reply running = omega arith
-charge-need t (Delete seg) reply running = omega arith
-charge-need t (Store seg offset bytes) reply running = omega arith
-charge-need t (Load seg offset size) reply running = omega arith
-charge-need t (Write seg offset rank rseg roffset size queue) reply running = done-charge 1 (is_done reply)
-charge-need t (Notify rseg rank note value queue) reply running = done-charge 1 (is_done reply)
-charge-need t (WriteNotify seg offset rank rseg roffset size note value queue) reply running = done-charge 2 (is_done reply)
-charge-need t (Wait queue) reply running = omega arith
-charge-need t (Waitsome seg begin num) reply running = omega arith
-charge-need t (Reset seg note) reply running = omega arith
-charge-need t (FetchAdd seg offset rank value) reply running = omega arith
-charge-need t (CompareSwap seg offset rank comparator new) reply running = omega arith
-charge-need t End reply running = rw running (omega arith)
+charge-need t call reply running = go (is_end call) refl
+  where
+    go : (b : Bool) → is_end call ≡ b → charge t call reply ≤ need_of call false false
+    go true ends = rw (ends, running) (omega arith)
+    go false goes = rw goes (done-charge (entries_of call) (is_done reply))
 
 -- a call of a running thread with the reply that may be recorded, where there is room for it
 called-enabled : (limits : Limits) (me : ℕ) (posts : Posts) (memory : Memory) (thread : ℕ) (call : Call) → is_running (thread_at posts thread) ≡ true
@@ -130,46 +128,30 @@ ok-then : {A B E : Type 0} (r : Result A E) (f : A → B) → IsOk r → IsOk {E
 ok-then (Ok x) f h = refl
 ok-then (Err e) f h = absurd (let no : ⊥ = cc in no)
 
--- the memory that a call works on is that of a rank
-memory_rank-within : (limits : Limits) (me : ℕ) (call : Call) → me < limits.ranks → memory_rank limits me call < limits.ranks
-memory_rank-within limits me call within = go (memory_named call) refl
-  where
-    by-rank : (r : ℕ) → memory_named call ≡ Some r → (b : Bool) → nat_lt r limits.ranks ≡ b → memory_rank limits me call < limits.ranks
-    by-rank r is true less = rw (is, less) (ltb-true r limits.ranks less)
-    by-rank r is false past = rw (is, past) within
-
-    go : (o : Option ℕ) → memory_named call ≡ o → memory_rank limits me call < limits.ranks
-    go None is = rw is within
-    go (Some r) is = by-rank r is (nat_lt r limits.ranks) refl
-
-called-step : (s : State) (rank thread : ℕ) (call : Call) (posts : Posts) (memory : Memory) → slice_get s.posts rank ≡ Some posts → slice_get s.memories (memory_rank s.limits rank call) ≡ Some memory
-    → is_running (thread_at posts thread) ≡ true → posts.events + owed posts + need_of call false false ≤ s.limits.events
-    → IsOk (step s (Called (record { rank = rank; thread = thread }) call (recorded_reply (answer s.limits rank posts memory thread call))))
-called-step s rank thread call posts memory hp hm running room =
-    let reply = recorded_reply (answer s.limits rank posts memory thread call) in
-    rw (hp, hm) (ok-then (called s.limits rank posts memory thread call reply) (λ after. record s {
-      posts = told rank posts call reply (slice_set s.posts rank after.posts);
-      memories = slice_set s.memories (memory_rank s.limits rank call) after.memory;
-    })
-    (called-enabled s.limits rank posts memory thread call running room))
-
 -- a call of an active caller, with the reply that it has, is a step where there is room for it
+called-step : (s : State) (rank thread : ℕ) (call : Call) (posts : Posts) → slice_get s.posts rank ≡ Some posts
+    → is_running (thread_at posts thread) ≡ true → posts.events + owed posts + need_of call false false ≤ s.limits.events
+    → IsOk (step s (Called (record { rank = rank; thread = thread }) call (recorded_reply (answer s.limits rank posts (call_memory s rank posts call) thread call))))
+called-step s rank thread call posts hp running room =
+    let memory = call_memory s rank posts call in
+    let reply = recorded_reply (answer s.limits rank posts memory thread call) in
+    let reach = reach_of s.limits.ranks rank (row_of call).touch in
+    let parts = parts_of s posts (touched_of rank reach) in
+    let leave = λ (after : Worked). (let left : Parts = record (with_worked_memory reach parts after.memory) { posts = after.posts; peer_posts = option_map (peer_after rank posts call reply) parts.peer_posts } in left) in
+    let recorded = called-enabled s.limits rank posts memory thread call running room in
+    rw hp (ok-then (called s.limits rank posts memory thread call reply >>= λ after. Ok (leave after)) (with_parts s rank (touched_of rank reach))
+    (ok-then (called s.limits rank posts memory thread call reply) leave recorded))
+
 pub called-is_step : (s : State) (rank thread : ℕ) (call : Call) (ready : Ready) → IsSound s → is_active s rank thread ≡ true
     → room_taken s rank + need_of call false false ≤ s.limits.events → answer_in s rank thread call ≡ Some ready
     → IsOk (step s (Called (record { rank = rank; thread = thread }) call (recorded_reply ready)))
 called-is_step s rank thread call ready sound active room is =
     let p = active-posts s rank thread active in
-    let within : rank < s.limits.ranks = (let same = sound.ranks in let there = slice_get_within s.posts rank p.0 p.1 in omega arith) in
-    go p.0 p.1 p.2 (memory-there s (memory_rank s.limits rank call) sound (memory_rank-within s.limits rank call within))
-  where
-    go : (posts : Posts) → slice_get s.posts rank ≡ Some posts → is_running (thread_at posts thread) ≡ true → (memory : Memory) × (slice_get s.memories (memory_rank s.limits rank call) ≡ Some memory)
-        → IsOk (step s (Called (record { rank = rank; thread = thread }) call (recorded_reply ready)))
-    go posts hp running (memory, hm) =
-        let room' : posts.events + owed posts + need_of call false false ≤ s.limits.events = rw hp at room in
-        let answers : ◌≡◌ {A = Option Ready} (Some (answer s.limits rank posts memory thread call)) (Some ready) = rw (hp, hm) at is in
-        let same : answer s.limits rank posts memory thread call ≡ ready = cc in
-        subst (λ (r : Ready). IsOk (step s (Called (record { rank = rank; thread = thread }) call (recorded_reply r)))) same
-        (called-step s rank thread call posts memory hp hm running room')
+    let room' : p.0.events + owed p.0 + need_of call false false ≤ s.limits.events = rw p.1 at room in
+    let answers : ◌≡◌ {A = Option Ready} (Some (answer s.limits rank p.0 (call_memory s rank p.0 call) thread call)) (Some ready) = rw p.1 at is in
+    let same : answer s.limits rank p.0 (call_memory s rank p.0 call) thread call ≡ ready = cc in
+    subst (λ (r : Ready). IsOk (step s (Called (record { rank = rank; thread = thread }) call (recorded_reply r)))) same
+    (called-step s rank thread call p.0 p.1 p.2 room')
 
 -- Transfers.
 
@@ -245,40 +227,69 @@ found-entry : (posts : Posts) (t : Transfer) (q : Queue) (lane : List Entry) (pl
     → find_entry posts t.queue t.target t.number why ≡ Ok (record { queue = q; lane = lane; place = place; entry = e })
 found-entry posts t q lane place e why hq hl hp he = rw (hq, hl, hp, he) refl
 
+-- the memory to which a put puts
+put-memory : (s : State) (posts : Posts) (origin queue target number : ℕ) (outcome : Outcome) (e : Entry) (memory : Memory) → entry_in posts queue target number ≡ Some e
+    → slice_get s.memories target ≡ Some memory → target < s.limits.ranks
+    → worked_memory (event_reach s.limits posts (Put origin queue target number outcome)) (parts_of s posts (touched_of origin (event_reach s.limits posts (Put origin queue target number outcome)))) ≡ memory
+put-memory s posts origin queue target number outcome e memory found there ranked =
+    worked-at s posts origin (event_reach s.limits posts (Put origin queue target number outcome))
+    ∙ ap (λ (r : Reach). memory_at r origin s.memories) (by-kind e.kind refl) ∙ go (target == origin) refl
+  where
+    by-kind : (k : Kind) → e.kind ≡ k → event_reach s.limits posts (Put origin queue target number outcome) ≡ put_reach s.limits.ranks origin target
+    by-kind (Write own to) is = rw (found, is) refl
+    by-kind (Notify to value) is = rw (found, is) refl
+
+    go : (b : Bool) → (target == origin) ≡ b → memory_at (put_reach s.limits.ranks origin target) origin s.memories ≡ memory
+    go true is =
+        let here : slice_get s.memories origin ≡ Some memory = subst (λ (n : ℕ). slice_get s.memories n ≡ Some memory) (eqb-true target origin is) there in
+        rw (is, here) refl
+    go false is = rw (is, lt-ltb target s.limits.ranks ranked, there) refl
+
 pub transfer-is_step : (s : State) (t : Transfer) (k : ℕ) → IsSound s → slice_get (transfers s.limits s.posts) k ≡ Some t → IsOk (step s (transfer_event s t))
 transfer-is_step s t k sound at =
     let l = listed s.limits s.posts t k at in
     go l.0 l.1 l.2 l.3 l.4 l.5
   where
-    take-step : (posts : Posts) (q : Queue) (lane : List Entry) (place : ℕ) (e : Entry) (memory : Memory) → slice_get s.posts t.origin ≡ Some posts → slice_get s.memories t.origin ≡ Some memory
+    take-step : (posts : Posts) (q : Queue) (lane : List Entry) (place : ℕ) (e : Entry) → slice_get s.posts t.origin ≡ Some posts
         → find_entry posts t.queue t.target t.number whys.Take ≡ Ok (record { queue = q; lane = lane; place = place; entry = e })
         → is_none q.broken ≡ true → may_take s.limits.depth lane e ≡ true → IsOk (step s (Take t.origin t.queue t.target t.number Applied))
-    take-step posts q lane place e memory hp hm hf whole permitted = rw (hp, hm, hf, whole, permitted) refl
+    take-step posts q lane place e hp hf whole permitted = rw (hp, hf, whole, permitted) refl
 
     put-step : (posts : Posts) (q : Queue) (lane : List Entry) (place : ℕ) (e : Entry) (memory : Memory) → slice_get s.posts t.origin ≡ Some posts → slice_get s.memories t.target ≡ Some memory
+        → t.target < s.limits.ranks → entry_in posts t.queue t.target t.number ≡ Some e
         → find_entry posts t.queue t.target t.number whys.Put ≡ Ok (record { queue = q; lane = lane; place = place; entry = e })
         → is_none q.broken ≡ true → may_put lane e ≡ true → IsOk (step s (Put t.origin t.queue t.target t.number (put_outcome memory e.kind)))
-    put-step posts q lane place e memory hp hm hf whole permitted = rw (hp, hm, hf, whole, permitted, same_outcome-refl (put_outcome memory e.kind)) refl
+    put-step posts q lane place e memory hp hm ranked found hf whole permitted =
+        let outcome = put_outcome memory e.kind in
+        let reach = event_reach s.limits posts (Put t.origin t.queue t.target t.number outcome) in
+        let parts = parts_of s posts (touched_of t.origin reach) in
+        let is = put-memory s posts t.origin t.queue t.target t.number outcome e memory found hm ranked in
+        let leave = λ (after : Worked). (let left : Parts = record (with_worked_memory reach parts after.memory) { posts = after.posts } in left) in
+        let puts : IsOk (put posts memory t.queue t.target t.number outcome) = rw (hf, whole, permitted, same_outcome-refl outcome) refl in
+        let done : IsOk (put posts (worked_memory reach parts) t.queue t.target t.number outcome) = subst (λ (m : Memory). IsOk (put posts m t.queue t.target t.number outcome)) (sym is) puts in
+        rw hp (ok-then (put posts (worked_memory reach parts) t.queue t.target t.number outcome >>= λ after. Ok (leave after)) (with_parts s t.origin (touched_of t.origin reach))
+        (ok-then (put posts (worked_memory reach parts) t.queue t.target t.number outcome) leave done))
 
-    by-kind : (posts : Posts) (q : Queue) (lane : List Entry) (place : ℕ) (e : Entry) (own target : Memory) → slice_get s.posts t.origin ≡ Some posts
-        → slice_get s.memories t.origin ≡ Some own → slice_get s.memories t.target ≡ Some target
+    by-kind : (posts : Posts) (q : Queue) (lane : List Entry) (place : ℕ) (e : Entry) (target : Memory) → slice_get s.posts t.origin ≡ Some posts
+        → slice_get s.memories t.target ≡ Some target → t.target < s.limits.ranks → entry_in posts t.queue t.target t.number ≡ Some e
         → ((why : Why) → find_entry posts t.queue t.target t.number why ≡ Ok (record { queue = q; lane = lane; place = place; entry = e }))
         → is_none q.broken ≡ true → (b : Bool) → t.put ≡ b → (if b then may_put lane e else may_take s.limits.depth lane e) ≡ true → IsOk (step s (transfer_event s t))
-    by-kind posts q lane place e own target hp ho ht hf whole true is permitted =
+    by-kind posts q lane place e target hp ht ranked found hf whole true is permitted =
         let event : transfer_event s t ≡ Put t.origin t.queue t.target t.number (put_outcome target e.kind) = rw (is, hp, ht, hf whys.Put) refl in
-        subst (λ (x : Event). IsOk (step s x)) (sym event) (put-step posts q lane place e target hp ht (hf whys.Put) whole permitted)
-    by-kind posts q lane place e own target hp ho ht hf whole false is permitted =
-        rw is (take-step posts q lane place e own hp ho (hf whys.Take) whole permitted)
+        subst (λ (x : Event). IsOk (step s x)) (sym event) (put-step posts q lane place e target hp ht ranked found (hf whys.Put) whole permitted)
+    by-kind posts q lane place e target hp ht ranked found hf whole false is permitted =
+        rw is (take-step posts q lane place e hp (hf whys.Take) whole permitted)
 
     go : (posts : Posts) (q : Queue) (lane : List Entry) (place : ℕ) (e : Entry) → IsListed s.limits s.posts t posts q lane place e → IsOk (step s (transfer_event s t))
     go posts q lane place e l =
         let p = sound.posts t.origin posts l.posts_there in
-        let rank = slice_get_within s.posts t.origin posts l.posts_there in
         let target = slice_get_within q.lanes t.target lane l.lane_there in
         let lanes = p.lanes t.queue q l.queue_there in
-        let own = memory-there s t.origin sound (let same = sound.ranks in omega arith) in
-        let their = memory-there s t.target sound (omega arith) in
+        let ranked : t.target < s.limits.ranks = omega arith in
+        let their = memory-there s t.target sound ranked in
         let rising = p.rising t.queue q l.queue_there t.target lane l.lane_there in
         let at : place_of lane t.number ≡ Some place = subst (λ (n : ℕ). place_of lane n ≡ Some place) (sym l.number) (place_of-rising posts.next lane place e rising l.entry_there) in
-        by-kind posts q lane place e own.0 their.0 l.posts_there own.1 their.1
+        let found = entry-found posts t.queue t.target t.number (record { queue = q; lane = lane; place = place; entry = e })
+        (record { in_posts = l.queue_there; in_queue = l.lane_there; numbered = at; in_lane = l.entry_there }) in
+        by-kind posts q lane place e their.0 l.posts_there their.1 ranked found
         (λ why. found-entry posts t q lane place e why l.queue_there l.lane_there at l.entry_there) l.whole t.put refl l.permitted

@@ -15,9 +15,19 @@ use Rattle.gaspi_types.specs.declared.entries.Kind.{Kind}
 use Rattle.gaspi_types.specs.declared.entries.Kind.TheVariants as kinds_of
 use Rattle.gaspi_types.specs.declared.entries.Phase.{Phase}
 use Rattle.gaspi_types.specs.declared.entries.Phase.TheVariants as phases
+use Rattle.gaspi_types.specs.CallRows.{row_of}
+use Rattle.gaspi_types.specs.declared.call_rows.Posting.{Posting}
+use Rattle.gaspi_types.specs.declared.calls.Call.{Call}
+use Rattle.gaspi_types.specs.declared.calls.Call.TheVariants.{Write, Notify, WriteNotify}
+use Rattle.gaspi_types.specs.declared.calls.posts.Write as write
+use Rattle.gaspi_types.specs.declared.calls.posts.Notify as notify
+use Rattle.gaspi_types.specs.declared.calls.posts.WriteNotify as write_notify
+use Rattle.gaspi_types.specs.declared.shapes.Limits.{Limits}
 use Rattle.gaspi_types.specs.declared.replies.Refusal.{Refusal}
+use Rattle.gaspi_model.specs.Calls.{call_asks}
 use Rattle.gaspi_model.specs.State.{segment_at}
-use Rattle.gaspi_model.specs.Calls.{changed_at, with_entries, with_post, bytes_of, bytes_in}
+use Rattle.gaspi_model.specs.Memories.{bytes_of, bytes_in}
+use Rattle.gaspi_model.specs.Posting.{changed_at, with_entries, with_post}
 use Rattle.gaspi_model.specs.Transfers.{with_phase, taken_bytes}
 use Rattle.gaspi_model.specs.Coherence.{extent_of, extents_of, Tables, WasMade, AreMade, LiesInIfThere, HasSource, Fits, AllFit, Knows}
 use Rattle.gaspi_model.specs.declared.states.Queue.{Queue}
@@ -159,59 +169,82 @@ posted-fit notes mine theirs (kind ∷ kinds) number zero e fit at =
     rw (sym same) (fit.0 number)
 posted-fit notes mine theirs (kind ∷ kinds) number (suc place) e fit at = posted-fit notes mine theirs kinds (number + 1) place e fit.1 at
 
-pub write-fits : (notes me : ℕ) (own : Tables) (known : List (List (Option Extent))) (tables : List Tables) (seg offset rank rseg roffset size : ℕ) (kinds : List Kind) (theirs : Tables)
-    → MayPost tables me own known → slice_get tables rank ≡ Some theirs
-    → write_kinds me own.own known seg offset rank rseg roffset size ≡ Ok kinds → KindsFit notes own theirs kinds
-write-fits notes me own known tables seg offset rank rseg roffset size kinds theirs may ht h =
-    found_then (extent_in own.own seg) _ _ kinds h (λ mine hmine h1.
-    found_then (known_extent me own.own known rank rseg) _ _ kinds h1 (λ far hfar h2.
-    check_then (is_transfer_size size) _ _ kinds h2 (λ sized h3.
-    check_then (is_within offset size mine.size) _ _ kinds h3 (λ from h4.
-    check_then (is_within roffset size far.size) _ _ kinds h4 (λ to h5.
+write-fits : (notes me : ℕ) (own : Tables) (known : List (List (Option Extent))) (tables : List Tables) (call : write.Write) (kinds : List Kind) (theirs : Tables)
+    → MayPost tables me own known → slice_get tables call.rank ≡ Some theirs
+    → write_kinds me own.own known call ≡ Ok kinds → KindsFit notes own theirs kinds
+write-fits notes me own known tables call kinds theirs may ht h =
+    found_then (extent_in own.own call.seg) _ _ kinds h (λ mine hmine h1.
+    found_then (known_extent me own.own known call.rank call.rseg) _ _ kinds h1 (λ far hfar h2.
+    check_then (is_transfer_size call.size) _ _ kinds h2 (λ sized h3.
+    check_then (is_within call.offset call.size mine.size) _ _ kinds h3 (λ from h4.
+    check_then (is_within call.roffset call.size far.size) _ _ kinds h4 (λ to h5.
     let is = same_Ok _ _ h5 in
     rw (sym is) (
       (λ n. (
         refl,
-        known-cases me own.own known rank rseg far hfar (λ same at. (extent-at own.own rseg far at).0) (λ table at inside. (extent-at table rseg far inside).0),
-        known-made me own known tables rank rseg far theirs may hfar ht,
-        known-lies me own known tables rank rseg roffset size far theirs may hfar to ht,
+        known-cases me own.own known call.rank call.rseg far hfar (λ same at. (extent-at own.own call.rseg far at).0) (λ table at inside. (extent-at table call.rseg far inside).0),
+        known-made me own known tables call.rank call.rseg far theirs may hfar ht,
+        known-lies me own known tables call.rank call.rseg call.roffset call.size far theirs may hfar to ht,
         record { extent = mine; there = hmine; generation = refl; within = from },
       )),
       tt,
     ))))))
 
-pub notify-fits : (notes me : ℕ) (own : Tables) (known : List (List (Option Extent))) (tables : List Tables) (rseg rank note value : ℕ) (kinds : List Kind) (theirs : Tables)
-    → MayPost tables me own known → slice_get tables rank ≡ Some theirs
-    → notify_kinds notes me own.own known rseg rank note value ≡ Ok kinds → KindsFit notes own theirs kinds
-notify-fits notes me own known tables rseg rank note value kinds theirs may ht h =
-    found_then (known_extent me own.own known rank rseg) _ _ kinds h (λ far hfar h1.
-    check_then (nat_lt note notes) _ _ kinds h1 (λ noted h2.
-    check_then (not (value == 0)) _ _ kinds h2 (λ valued h3.
+notify-fits : (notes me : ℕ) (own : Tables) (known : List (List (Option Extent))) (tables : List Tables) (call : notify.Notify) (kinds : List Kind) (theirs : Tables)
+    → MayPost tables me own known → slice_get tables call.rank ≡ Some theirs
+    → notify_kinds notes me own.own known call ≡ Ok kinds → KindsFit notes own theirs kinds
+notify-fits notes me own known tables call kinds theirs may ht h =
+    found_then (known_extent me own.own known call.rank call.rseg) _ _ kinds h (λ far hfar h1.
+    check_then (nat_lt call.note notes) _ _ kinds h1 (λ noted h2.
+    check_then (not (call.value == 0)) _ _ kinds h2 (λ valued h3.
     let is = same_Ok _ _ h3 in
-    rw (sym is) ((λ n. (ltb-true note notes noted, known-made me own known tables rank rseg far theirs may hfar ht)), tt))))
+    rw (sym is) ((λ n. (ltb-true call.note notes noted, known-made me own known tables call.rank call.rseg far theirs may hfar ht)), tt))))
 
-pub write_notify-fits : (notes me : ℕ) (own : Tables) (known : List (List (Option Extent))) (tables : List Tables) (seg offset rank rseg roffset size note value : ℕ) (kinds : List Kind) (theirs : Tables)
-    → MayPost tables me own known → slice_get tables rank ≡ Some theirs
-    → write_notify_kinds notes me own.own known seg offset rank rseg roffset size note value ≡ Ok kinds → KindsFit notes own theirs kinds
-write_notify-fits notes me own known tables seg offset rank rseg roffset size note value kinds theirs may ht h =
-    found_then (extent_in own.own seg) _ _ kinds h (λ mine hmine h1.
-    found_then (known_extent me own.own known rank rseg) _ _ kinds h1 (λ far hfar h2.
-    check_then (is_transfer_size size) _ _ kinds h2 (λ sized h3.
-    check_then (is_within offset size mine.size) _ _ kinds h3 (λ from h4.
-    check_then (is_within roffset size far.size) _ _ kinds h4 (λ to h5.
-    check_then (nat_lt note notes) _ _ kinds h5 (λ noted h6.
-    check_then (not (value == 0)) _ _ kinds h6 (λ valued h7.
+write_notify-fits : (notes me : ℕ) (own : Tables) (known : List (List (Option Extent))) (tables : List Tables) (call : write_notify.WriteNotify) (kinds : List Kind) (theirs : Tables)
+    → MayPost tables me own known → slice_get tables call.rank ≡ Some theirs
+    → write_notify_kinds notes me own.own known call ≡ Ok kinds → KindsFit notes own theirs kinds
+write_notify-fits notes me own known tables call kinds theirs may ht h =
+    found_then (extent_in own.own call.seg) _ _ kinds h (λ mine hmine h1.
+    found_then (known_extent me own.own known call.rank call.rseg) _ _ kinds h1 (λ far hfar h2.
+    check_then (is_transfer_size call.size) _ _ kinds h2 (λ sized h3.
+    check_then (is_within call.offset call.size mine.size) _ _ kinds h3 (λ from h4.
+    check_then (is_within call.roffset call.size far.size) _ _ kinds h4 (λ to h5.
+    check_then (nat_lt call.note notes) _ _ kinds h5 (λ noted h6.
+    check_then (not (call.value == 0)) _ _ kinds h6 (λ valued h7.
     let is = same_Ok _ _ h7 in
     rw (sym is) (
       (λ n. (
         refl,
-        known-cases me own.own known rank rseg far hfar (λ same at. (extent-at own.own rseg far at).0) (λ table at inside. (extent-at table rseg far inside).0),
-        known-made me own known tables rank rseg far theirs may hfar ht,
-        known-lies me own known tables rank rseg roffset size far theirs may hfar to ht,
+        known-cases me own.own known call.rank call.rseg far hfar (λ same at. (extent-at own.own call.rseg far at).0) (λ table at inside. (extent-at table call.rseg far inside).0),
+        known-made me own known tables call.rank call.rseg far theirs may hfar ht,
+        known-lies me own known tables call.rank call.rseg call.roffset call.size far theirs may hfar to ht,
         record { extent = mine; there = hmine; generation = refl; within = from },
       )),
-      ((λ n. (ltb-true note notes noted, known-made me own known tables rank rseg far theirs may hfar ht)), tt),
+      ((λ n. (ltb-true call.note notes noted, known-made me own known tables call.rank call.rseg far theirs may hfar ht)), tt),
     ))))))))
+
+-- so do those that a call asks for
+pub asks-fit : (limits : Limits) (me : ℕ) (posts : Posts) (tables : List Tables) (own : Tables) (call : Call) (to : Posting) (kinds : List Kind) (theirs : Tables) → own.own ≡ posts.own
+    → MayPost tables me own posts.known → (row_of call).posting ≡ Some to → slice_get tables to.rank ≡ Some theirs → call_asks limits me posts call ≡ Ok kinds → KindsFit limits.notes own theirs kinds
+asks-fit limits me posts tables own (Write call) to kinds theirs same may is ht h =
+    let here : slice_get tables call.rank ≡ Some theirs = at-rank (record { entries = 1; rank = call.rank; queue = call.queue }) is in
+    write-fits limits.notes me own posts.known tables call kinds theirs may here (rw same h)
+  where
+    at-rank : (p : Posting) → ◌≡◌ {A = Option Posting} (Some p) (Some to) → slice_get tables p.rank ≡ Some theirs
+    at-rank p some = let one : p ≡ to = cc in rw one ht
+asks-fit limits me posts tables own (Notify call) to kinds theirs same may is ht h =
+    let here : slice_get tables call.rank ≡ Some theirs = at-rank (record { entries = 1; rank = call.rank; queue = call.queue }) is in
+    notify-fits limits.notes me own posts.known tables call kinds theirs may here (rw same h)
+  where
+    at-rank : (p : Posting) → ◌≡◌ {A = Option Posting} (Some p) (Some to) → slice_get tables p.rank ≡ Some theirs
+    at-rank p some = let one : p ≡ to = cc in rw one ht
+asks-fit limits me posts tables own (WriteNotify call) to kinds theirs same may is ht h =
+    let here : slice_get tables call.rank ≡ Some theirs = at-rank (record { entries = 2; rank = call.rank; queue = call.queue }) is in
+    write_notify-fits limits.notes me own posts.known tables call kinds theirs may here (rw same h)
+  where
+    at-rank : (p : Posting) → ◌≡◌ {A = Option Posting} (Some p) (Some to) → slice_get tables p.rank ≡ Some theirs
+    at-rank p some = let one : p ≡ to = cc in rw one ht
+asks-fit limits me posts tables own other to kinds theirs same may is ht h = absurd (let no : ⊥ = cc in no)
 
 -- a lane with the entries of a post added
 pub fits-post : (notes : ℕ) (tables : List Tables) (me : ℕ) (posts : Posts) (queue rank : ℕ) (own : Tables) (asked : Result (List Kind) Refusal)

@@ -9,13 +9,16 @@ use Rattle.gaspi_types.specs.declared.replies.Reply.{Reply}
 use Rattle.gaspi_types.specs.declared.events.Event.{Event}
 use Rattle.gaspi_types.specs.declared.events.Event.TheVariants.{Called}
 use Rattle.gaspi_model.specs.State.{opening}
-use Rattle.gaspi_model.specs.Calls.{counted, memory_rank}
+use Rattle.gaspi_model.specs.Posting.{counted}
 use Rattle.gaspi_model.specs.Step.{step, after, reached, is_legal}
 use Rattle.gaspi_model.specs.Sound.{IsSound}
 use Rattle.gaspi_model.specs.Changes.{IsOnlyCounted}
+use Rattle.gaspi_model.specs.declared.states.Posts.{Posts}
+use Rattle.gaspi_model.specs.declared.states.Memory.{Memory}
 use Rattle.gaspi_model.specs.declared.states.State.{State}
 use Rattle.gaspi_model.specs.declared.states.Why.{Why}
-use Rattle.gaspi_model.proofs.Made.{step-called}
+use Rattle.gaspi_model.proofs.Made.{memories_at, call_reach, memories-same, step-called}
+use Rattle.gaspi_model.proofs.Told.{told-idle}
 use Rattle.gaspi_model.proofs.SoundOpening.{opens}
 use Rattle.gaspi_model.proofs.SoundSteps.{steps}
 
@@ -66,12 +69,6 @@ after-sound s t (e ∷ events) sound h =
 pub reached-sound : (w : World) (history : List Event) (s : State) → IsWorld w → reached w history ≡ Ok s → IsSound s
 reached-sound w history s world h = after-sound (opening w) s history (opens w world) h
 
--- what stands at a place, set there, changes nothing
-pub set-there : {A : Type 0} (table : List A) (place : _) (x : A) → slice_get table place ≡ Some x → slice_set table place x ≡ table
-set-there [] place x at = refl
-set-there (y ∷ table) zero x at = let same : y ≡ x = cc in ap (λ (z : _). z ∷ table) (sym same)
-set-there (y ∷ table) (suc place) x at = ap (λ (rest : List _). y ∷ rest) (set-there table place x at)
-
 -- a refusal or a timeout changes nothing but the count of events
 pub only-counted : (s t : State) (c : CallerId) (call : Call) (reply : Reply) → is_idle reply ≡ true → step s (Called c call reply) ≡ Ok t → IsOnlyCounted s t c.rank
 only-counted s t c call reply idle h =
@@ -82,5 +79,8 @@ only-counted s t c call reply idle h =
     record {
       posts = made.0;
       there = m.posts_there;
-      after = m.leaves ∙ rw (idle, posts, memory, set-there s.memories (memory_rank s.limits c.rank call) made.1 m.memory_there) refl;
+      after = m.leaves ∙ ap (λ (x : List Posts). record s { posts = x; memories = memories_at (call_reach s.limits.ranks c.rank call) c.rank made.2.memory s.memories })
+          (told-idle s.limits.ranks c.rank made.0 call reply (slice_set s.posts c.rank made.2.posts) idle ∙ ap (slice_set s.posts c.rank) posts)
+          ∙ ap (λ (x : List Memory). record s { posts = slice_set s.posts c.rank (counted made.0); memories = x })
+          (ap (λ (m' : Memory). memories_at (call_reach s.limits.ranks c.rank call) c.rank m' s.memories) (memory ∙ m.worked) ∙ memories-same (call_reach s.limits.ranks c.rank call) c.rank s.memories);
     }

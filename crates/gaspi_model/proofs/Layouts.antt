@@ -12,7 +12,7 @@ use Rattle.gaspi_types.specs.declared.entries.Entry.{Entry}
 use Rattle.gaspi_types.specs.declared.entries.Kind.{Kind}
 use Rattle.gaspi_types.specs.declared.entries.Kind.TheVariants.{Write, Notify}
 use Rattle.gaspi_model.specs.State.{segment_at}
-use Rattle.gaspi_model.specs.Calls.{bytes_of, slots_of, bytes_in, slots_in, with_bytes, with_slots}
+use Rattle.gaspi_model.specs.Memories.{bytes_of, slots_of, bytes_in, slots_in, with_bytes, with_slots}
 use Rattle.gaspi_model.specs.Transfers.{memory_put, carried_bytes}
 use Rattle.gaspi_model.specs.Coherence.{extent_of, extents_of, slot_counts}
 use Rattle.gaspi_model.specs.declared.states.Segment.{Segment}

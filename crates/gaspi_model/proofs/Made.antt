@@ -1,9 +1,21 @@
 -- What a transfer that was made says, and what a call that was recorded says.
-use Rattle.std.proofs.Common.{◌≡◌, ℕ, ◌+◌, true, Some, Ok, sym, subst, is_none, nat_le}
+use Rattle.std.proofs.Common.{◌≡◌, ℕ, zero, suc, ◌+◌, true, false, List, [], ◌∷◌, Option, None, Some, Ok, refl, sym, ap, ◌∙◌, subst, is_none, length, nat_le}
 use Rattle.std.specs.List.{slice_get, slice_set}
 use Rattle.gaspi_types.specs.Lanes.{may_take, may_put, place_of}
 use Rattle.gaspi_types.specs.Replies.{same_reply}
 use Rattle.gaspi_types.specs.declared.entries.Phase.TheVariants as phases
+use Rattle.std.specs.Option.{option_map}
+use Rattle.std.proofs.lemmas.Bool.{eq-eqb}
+use Rattle.std.proofs.lemmas.List.{length-set}
+use Rattle.gaspi_types.specs.CallRows.{row_of}
+use Rattle.gaspi_types.specs.Touches.{reach_of, take_touch, put_touch}
+use Rattle.gaspi_types.specs.declared.entries.Entry.{Entry}
+use Rattle.gaspi_types.specs.declared.entries.Kind.{Kind}
+use Rattle.gaspi_types.specs.declared.entries.Kind.TheVariants.{Write, Notify}
+use Rattle.gaspi_types.specs.declared.touches.Touch.{Touch}
+use Rattle.gaspi_types.specs.declared.touches.Touch.TheVariants as touches
+use Rattle.gaspi_types.specs.declared.touches.Reach.{Reach}
+use Rattle.gaspi_types.specs.declared.touches.Reach.TheVariants.{Alone, OwnMemory, PeerMemory, PeerPosts}
 use Rattle.gaspi_types.specs.declared.shapes.Limits.{Limits}
 use Rattle.gaspi_types.specs.declared.shapes.CallerId.{CallerId}
 use Rattle.gaspi_types.specs.declared.calls.Call.{Call}
@@ -12,14 +24,19 @@ use Rattle.gaspi_types.specs.declared.events.Outcome.{Outcome}
 use Rattle.gaspi_types.specs.declared.events.Outcome.TheVariants.{Applied}
 use Rattle.gaspi_types.specs.declared.events.Event.TheVariants.{Called, Take, Put}
 use Rattle.gaspi_model.specs.State.{owed, thread_at}
-use Rattle.gaspi_model.specs.Calls.{counted, answer, recorded_reply, charge, posts_after, memory_after, memory_rank, told}
-use Rattle.gaspi_model.specs.Transfers.{Found, find_entry, with_lane, with_phase, take, put, put_with, taken_bytes, put_outcome, same_outcome, Parts}
-use Rattle.gaspi_model.specs.Step.{step, called, is_there}
+use Rattle.gaspi_model.specs.Posting.{changed_at, counted}
+use Rattle.gaspi_model.specs.Calls.{answer, recorded_reply, charge, posts_after, memory_after}
+use Rattle.gaspi_model.specs.Calls.{peer_after}
+use Rattle.gaspi_model.specs.Transfers.{Found, find_entry, with_lane, with_phase, take, put, put_with, taken_bytes, put_outcome, same_outcome, entry_in, Worked}
+use Rattle.gaspi_model.specs.Step.{step, called, is_there, on_parts, entry_touch}
+use Rattle.gaspi_model.specs.Parts.{memory_or_none, no_memory, part_at, with_part, parts_of, with_parts, touched_of, worked_memory, with_worked_memory}
 use Rattle.gaspi_model.specs.declared.states.Posts.{Posts}
 use Rattle.gaspi_model.specs.declared.states.Memory.{Memory}
 use Rattle.gaspi_model.specs.declared.states.State.{State}
 use Rattle.gaspi_model.specs.declared.states.Why.{Why}
 use Rattle.gaspi_model.specs.declared.states.Why.TheVariants as whys
+use Rattle.gaspi_model.proofs.Tables.{set-there, slice_get-set_other}
+use Rattle.gaspi_model.proofs.Told.{told, told_at, changed_peer, peer-touched}
 use Rattle.gaspi_model.proofs.Chains.{bind_then, check_then, found_then, same_Ok}
 
 -- where an entry was found
@@ -36,6 +53,9 @@ find_entry-ok posts queue target number why at h =
     found_then (place_of lane number) why _ at h2 (λ place hp h3.
     found_then (slice_get lane place) why _ at h3 (λ e he h4.
     subst (λ (f : Found). IsFound posts queue target number f) (same_Ok _ _ h4) (record { in_posts = hq; in_queue = hl; numbered = hp; in_lane = he })))))
+
+pub found-again : (posts : Posts) (queue target number : ℕ) (at : Found) (why : Why) → IsFound posts queue target number at → find_entry posts queue target number why ≡ Ok at
+found-again posts queue target number at why is = rw (is.in_posts, is.in_queue, is.numbered, is.in_lane) refl
 
 -- a take that was made
 pub record IsTake (limits : Limits) (posts : Posts) (memory : Memory) (queue target number : ℕ) (outcome : Outcome) (after : Posts) (at : Found) : Type 0 where
@@ -55,14 +75,14 @@ take-ok limits posts memory queue target number outcome after h =
     (at, record { is = find_entry-ok posts queue target number whys.Take at hf; whole = whole; permitted = permitted; applied = applied; leaves = sym (same_Ok _ _ h4) })))))
 
 -- a put that was made
-pub record IsPut (posts : Posts) (memory : Memory) (queue target number : ℕ) (outcome : Outcome) (after : Parts) (at : Found) : Type 0 where
+pub record IsPut (posts : Posts) (memory : Memory) (queue target number : ℕ) (outcome : Outcome) (after : Worked) (at : Found) : Type 0 where
   pub is : IsFound posts queue target number at
   pub whole : is_none at.queue.broken ≡ true
   pub permitted : may_put at.lane at.entry ≡ true
   pub fits : same_outcome outcome (put_outcome memory at.entry.kind) ≡ true
   pub leaves : after ≡ put_with posts memory queue target at outcome
 
-pub put-ok : (posts : Posts) (memory : Memory) (queue target number : ℕ) (outcome : Outcome) (after : Parts)
+pub put-ok : (posts : Posts) (memory : Memory) (queue target number : ℕ) (outcome : Outcome) (after : Worked)
     → put posts memory queue target number outcome ≡ Ok after → (at : Found) × IsPut posts memory queue target number outcome after at
 put-ok posts memory queue target number outcome after h =
     bind_then (find_entry posts queue target number whys.Put) _ after h (λ at hf h1.
@@ -72,13 +92,13 @@ put-ok posts memory queue target number outcome after h =
     (at, record { is = find_entry-ok posts queue target number whys.Put at hf; whole = whole; permitted = permitted; fits = fits; leaves = sym (same_Ok _ _ h4) })))))
 
 -- a call that was recorded
-pub record IsCalled (limits : Limits) (me : ℕ) (posts : Posts) (memory : Memory) (thread : ℕ) (call : Call) (reply : Reply) (after : Parts) : Type 0 where
+pub record IsCalled (limits : Limits) (me : ℕ) (posts : Posts) (memory : Memory) (thread : ℕ) (call : Call) (reply : Reply) (after : Worked) : Type 0 where
   pub there : is_there (thread_at posts thread) ≡ true
   pub answered : same_reply reply (recorded_reply (answer limits me posts memory thread call)) ≡ true
   pub room : nat_le (posts.events + owed posts + charge (thread_at posts thread) call reply) limits.events ≡ true
   pub leaves : after ≡ record { posts = posts_after limits me posts thread call reply; memory = memory_after limits posts memory call reply }
 
-pub called-ok : (limits : Limits) (me : ℕ) (posts : Posts) (memory : Memory) (thread : ℕ) (call : Call) (reply : Reply) (after : Parts)
+pub called-ok : (limits : Limits) (me : ℕ) (posts : Posts) (memory : Memory) (thread : ℕ) (call : Call) (reply : Reply) (after : Worked)
     → called limits me posts memory thread call reply ≡ Ok after → IsCalled limits me posts memory thread call reply after
 called-ok limits me posts memory thread call reply after h =
     check_then (is_there (thread_at posts thread)) whys.Caller _ after h (λ there h1.
@@ -86,50 +106,236 @@ called-ok limits me posts memory thread call reply after h =
     check_then (nat_le (posts.events + owed posts + charge (thread_at posts thread) call reply) limits.events) whys.Limit _ after h2 (λ room h3.
     record { there = there; answered = answered; room = room; leaves = sym (same_Ok _ _ h3) })))
 
+-- The memory that an event of that reach works on, in the memories of all ranks, and those with it replaced.
+abbrev pub memory_at : Reach → ℕ → List Memory → Memory
+memory_at Alone me all = no_memory
+memory_at OwnMemory me all = memory_or_none (slice_get all me)
+memory_at (PeerMemory rank) me all = memory_or_none (slice_get all rank)
+memory_at (PeerPosts rank) me all = no_memory
+
+abbrev pub memories_at : Reach → ℕ → Memory → List Memory → List Memory
+memories_at Alone me memory all = all
+memories_at OwnMemory me memory all = slice_set all me memory
+memories_at (PeerMemory rank) me memory all = slice_set all rank memory
+memories_at (PeerPosts rank) me memory all = all
+
+pub worked-at : (s : State) (posts : Posts) (me : ℕ) (reach : Reach) → worked_memory reach (parts_of s posts (touched_of me reach)) ≡ memory_at reach me s.memories
+worked-at s posts me Alone = refl
+worked-at s posts me OwnMemory = refl
+worked-at s posts me (PeerMemory rank) = refl
+worked-at s posts me (PeerPosts rank) = refl
+
+-- what stands there, or nothing, set there changes nothing
+same-set : (all : List Memory) (place : ℕ) → slice_set all place (memory_or_none (slice_get all place)) ≡ all
+same-set all place = go (slice_get all place) refl
+  where
+    none-set : (xs : List Memory) (k : ℕ) (x : Memory) → slice_get xs k ≡ None → slice_set xs k x ≡ xs
+    none-set [] k x at = refl
+    none-set (y ∷ xs) zero x at = absurd (let no : ⊥ = cc in no)
+    none-set (y ∷ xs) (suc k) x at = ap (λ (rest : List Memory). y ∷ rest) (none-set xs k x at)
+
+    go : (o : Option Memory) → slice_get all place ≡ o → slice_set all place (memory_or_none (slice_get all place)) ≡ all
+    go None at = none-set all place _ at
+    go (Some x) at = rw at (set-there all place x at)
+
+pub memories-same : (reach : Reach) (me : ℕ) (all : List Memory) → memories_at reach me (memory_at reach me all) all ≡ all
+memories-same Alone me all = refl
+memories-same OwnMemory me all = same-set all me
+memories-same (PeerMemory rank) me all = same-set all rank
+memories-same (PeerPosts rank) me all = refl
+
+pub memories-length : (reach : Reach) (me : ℕ) (memory : Memory) (all : List Memory) → length (memories_at reach me memory all) ≡ length all
+memories-length Alone me memory all = refl
+memories-length OwnMemory me memory all = length-set all me memory
+memories-length (PeerMemory rank) me memory all = length-set all rank memory
+memories-length (PeerPosts rank) me memory all = refl
+
+-- The state after a step on the parts of a reach: the owner's posts are replaced, those of a peer changed, and the memory
+-- that is worked on is replaced.
+lifted-after : (s : State) (me : ℕ) (reach : Reach) (before after : Posts) (memory : Memory) (change : Posts → Posts) → ((rank : ℕ) → reach ≡ PeerPosts rank → me ≡ rank → ⊥)
+    → with_parts s me (touched_of me reach) (record (with_worked_memory reach (parts_of s before (touched_of me reach)) memory) {
+      posts = after;
+      peer_posts = option_map change (parts_of s before (touched_of me reach)).peer_posts;
+    })
+    ≡ record s { posts = changed_peer reach (slice_set s.posts me after) change; memories = memories_at reach me memory s.memories }
+lifted-after s me Alone before after memory change apart = refl
+lifted-after s me OwnMemory before after memory change apart = refl
+lifted-after s me (PeerMemory rank) before after memory change apart = refl
+lifted-after s me (PeerPosts rank) before after memory change apart = ap (λ (x : List Posts). record s { posts = x }) (go (slice_get s.posts rank) refl)
+  where
+    other : slice_get (slice_set s.posts me after) rank ≡ slice_get s.posts rank
+    other = slice_get-set_other s.posts me rank after (apart rank refl)
+
+    go : (o : Option Posts) → slice_get s.posts rank ≡ o
+        → with_part (slice_set s.posts me after) (Some rank) (option_map change (slice_get s.posts rank)) ≡ changed_at (slice_set s.posts me after) rank change
+    go None at = rw (other, at) refl
+    go (Some x) at = rw (other, at) refl
+
+-- the reach of a call
+abbrev pub call_reach : ℕ → ℕ → Call → Reach
+call_reach ranks me call = reach_of ranks me (row_of call).touch
+
+-- a peer that the owner is, is none
+pub peer-apart : (ranks me : ℕ) (touch : Touch) (rank : ℕ) → reach_of ranks me touch ≡ PeerPosts rank → me ≡ rank → ⊥
+peer-apart ranks me touch rank is same =
+    let other = (peer-touched ranks me rank touch is).1 in
+    let mine = eq-eqb rank me (sym same) in
+    let no : ⊥ = cc in no
+
 -- the step of each kind of event
-pub record IsCalledStep (s t : State) (c : CallerId) (call : Call) (reply : Reply) (posts : Posts) (memory : Memory) (after : Parts) : Type 0 where
+pub record IsCalledStep (s t : State) (c : CallerId) (call : Call) (reply : Reply) (posts : Posts) (memory : Memory) (after : Worked) : Type 0 where
   pub posts_there : slice_get s.posts c.rank ≡ Some posts
-  pub memory_there : slice_get s.memories (memory_rank s.limits c.rank call) ≡ Some memory
+  pub worked : memory ≡ memory_at (call_reach s.limits.ranks c.rank call) c.rank s.memories
   pub is : IsCalled s.limits c.rank posts memory c.thread call reply after
   pub leaves : t ≡ record s {
-    posts = told c.rank posts call reply (slice_set s.posts c.rank after.posts);
-    memories = slice_set s.memories (memory_rank s.limits c.rank call) after.memory;
+    posts = told s.limits.ranks c.rank posts call reply (slice_set s.posts c.rank after.posts);
+    memories = memories_at (call_reach s.limits.ranks c.rank call) c.rank after.memory s.memories;
   }
 
 pub step-called : (s t : State) (c : CallerId) (call : Call) (reply : Reply) → step s (Called c call reply) ≡ Ok t
-    → (posts : Posts) × (memory : Memory) × (after : Parts) × IsCalledStep s t c call reply posts memory after
+    → (posts : Posts) × (memory : Memory) × (after : Worked) × IsCalledStep s t c call reply posts memory after
 step-called s t c call reply h =
     found_then (slice_get s.posts c.rank) whys.Caller _ t h (λ posts hp h1.
-    found_then (slice_get s.memories (memory_rank s.limits c.rank call)) whys.Caller _ t h1 (λ memory hm h2.
-    bind_then (called s.limits c.rank posts memory c.thread call reply) _ t h2 (λ after ha h3.
-    (posts, memory, after, record { posts_there = hp; memory_there = hm; is = called-ok _ _ _ _ _ _ _ _ ha; leaves = sym (same_Ok _ _ h3) }))))
+    bind_then (on_parts s.limits reach (Called c call reply) (parts_of s posts (touched_of c.rank reach))) _ t h1 (λ parts hl h2.
+    bind_then (called s.limits c.rank posts (worked_memory reach (parts_of s posts (touched_of c.rank reach))) c.thread call reply) _ parts hl (λ after ha h3.
+    let worked = worked-at s posts c.rank reach in
+    let ends = lifted-after s c.rank reach posts after.posts after.memory (peer_after c.rank posts call reply) (peer-apart s.limits.ranks c.rank (row_of call).touch) in
+    let told_is = told-changed posts (slice_set s.posts c.rank after.posts) in
+    let state : t ≡ with_parts s c.rank (touched_of c.rank reach) parts = sym (same_Ok _ _ h2) in (
+      posts,
+      memory_at reach c.rank s.memories,
+      after,
+      record {
+        posts_there = hp;
+        worked = refl;
+        is = called-ok _ _ _ _ _ _ _ _ (subst (λ (m : Memory). called s.limits c.rank posts m c.thread call reply ≡ Ok after) worked ha);
+        leaves = state ∙ ap (with_parts s c.rank (touched_of c.rank reach)) (sym (same_Ok _ _ h3)) ∙ ends
+            ∙ ap (λ (x : List Posts). record s { posts = x; memories = memories_at reach c.rank after.memory s.memories }) told_is;
+      },
+    ))))
+  where
+    reach : Reach
+    reach = call_reach s.limits.ranks c.rank call
 
+    told-changed : (posts : Posts) (all : List Posts) → changed_peer reach all (peer_after c.rank posts call reply) ≡ told s.limits.ranks c.rank posts call reply all
+    told-changed posts all = go reach
+      where
+        go : (r : Reach) → changed_peer r all (peer_after c.rank posts call reply) ≡ told_at r c.rank posts call reply all
+        go Alone = refl
+        go OwnMemory = refl
+        go (PeerMemory rank) = refl
+        go (PeerPosts rank) = refl
+
+-- the memory of its origin, from which an entry takes
 pub record IsTakeStep (s t : State) (origin queue target number : ℕ) (outcome : Outcome) (posts : Posts) (memory : Memory) (after : Posts) (at : Found) : Type 0 where
   pub posts_there : slice_get s.posts origin ≡ Some posts
-  pub memory_there : slice_get s.memories origin ≡ Some memory
+  pub worked : memory ≡ memory_or_none (slice_get s.memories origin)
   pub is : IsTake s.limits posts memory queue target number outcome after at
   pub leaves : t ≡ record s { posts = slice_set s.posts origin after }
+
+-- the reach of a put of an entry to a target
+abbrev pub put_reach : ℕ → ℕ → ℕ → Reach
+put_reach ranks origin target = reach_of ranks origin (touches.MemoryOf target)
+
+pub record IsPutStep (s t : State) (origin queue target number : ℕ) (outcome : Outcome) (posts : Posts) (memory : Memory) (after : Worked) (at : Found) : Type 0 where
+  pub posts_there : slice_get s.posts origin ≡ Some posts
+  pub worked : memory ≡ memory_at (put_reach s.limits.ranks origin target) origin s.memories
+  pub is : IsPut posts memory queue target number outcome after at
+  pub leaves : t ≡ record s { posts = slice_set s.posts origin after.posts; memories = memories_at (put_reach s.limits.ranks origin target) origin after.memory s.memories }
+
+-- the entry that was found is the one by which the reach is told
+pub entry-found : (posts : Posts) (queue target number : ℕ) (at : Found) → IsFound posts queue target number at → entry_in posts queue target number ≡ Some at.entry
+entry-found posts queue target number at is = rw (is.in_posts, is.in_queue, is.numbered, is.in_lane) refl
+
+part-same : (table : List Memory) (touched : Option ℕ) → with_part table touched (part_at table touched) ≡ table
+part-same table None = refl
+part-same table (Some place) = go (slice_get table place) refl
+  where
+    go : (o : Option Memory) → slice_get table place ≡ o → with_part table (Some place) (slice_get table place) ≡ table
+    go None at = rw at refl
+    go (Some x) at = rw at (set-there table place x at)
 
 pub step-take : (s t : State) (origin queue target number : ℕ) (outcome : Outcome) → step s (Take origin queue target number outcome) ≡ Ok t
     → (posts : Posts) × (memory : Memory) × (after : Posts) × (at : Found) × IsTakeStep s t origin queue target number outcome posts memory after at
 step-take s t origin queue target number outcome h =
     found_then (slice_get s.posts origin) whys.Take _ t h (λ posts hp h1.
-    found_then (slice_get s.memories origin) whys.Take _ t h1 (λ memory hm h2.
-    bind_then (take s.limits posts memory queue target number outcome) _ t h2 (λ after ha h3.
-    let taken = take-ok s.limits posts memory queue target number outcome after ha in
-    (posts, memory, after, taken.0, record { posts_there = hp; memory_there = hm; is = taken.1; leaves = sym (same_Ok _ _ h3) }))))
+    bind_then (on_parts s.limits (reach posts) (Take origin queue target number outcome) (parts_of s posts (touched_of origin (reach posts)))) _ t h1 (λ parts hl h2.
+    bind_then (take s.limits posts (worked_memory (reach posts) (parts_of s posts (touched_of origin (reach posts)))) queue target number outcome) _ parts hl (λ after ha h3.
+    let taken = take-ok s.limits posts _ queue target number outcome after ha in
+    let found = entry-found posts queue target number taken.0 taken.1.is in
+    let state : t ≡ with_parts s origin (touched_of origin (reach posts)) parts = sym (same_Ok _ _ h2) in (
+      posts,
+      memory_or_none (slice_get s.memories origin),
+      after,
+      taken.0,
+      record {
+        posts_there = hp;
+        worked = refl;
+        is = record {
+          is = taken.1.is;
+          whole = taken.1.whole;
+          permitted = taken.1.permitted;
+          applied = taken.1.applied;
+          leaves = taken.1.leaves ∙ ap (λ (bytes : List ℕ). counted (with_lane posts queue target (with_phase taken.0.lane taken.0.place taken.0.entry (phases.Carried bytes))))
+              (takes posts taken.0.entry.kind taken.0.entry found refl);
+        };
+        leaves = state ∙ ap (with_parts s origin (touched_of origin (reach posts))) (sym (same_Ok _ _ h3)) ∙ leaves posts after taken.0.entry.kind taken.0.entry found refl;
+      },
+    ))))
+  where
+    reach : Posts → Reach
+    reach posts = reach_of s.limits.ranks origin (entry_touch take_touch (entry_in posts queue target number))
 
-pub record IsPutStep (s t : State) (origin queue target number : ℕ) (outcome : Outcome) (posts : Posts) (memory : Memory) (after : Parts) (at : Found) : Type 0 where
-  pub posts_there : slice_get s.posts origin ≡ Some posts
-  pub memory_there : slice_get s.memories target ≡ Some memory
-  pub is : IsPut posts memory queue target number outcome after at
-  pub leaves : t ≡ record s { posts = slice_set s.posts origin after.posts; memories = slice_set s.memories target after.memory }
+    takes : (posts : Posts) (kind : Kind) (e : Entry) → entry_in posts queue target number ≡ Some e → e.kind ≡ kind
+        → taken_bytes (worked_memory (reach posts) (parts_of s posts (touched_of origin (reach posts)))) e.kind ≡ taken_bytes (memory_or_none (slice_get s.memories origin)) e.kind
+    takes posts (Write own to) e found is = rw (found, is) refl
+    takes posts (Notify to value) e found is = rw (found, is) refl
+
+    leaves : (posts after : Posts) (kind : Kind) (e : Entry) → entry_in posts queue target number ≡ Some e → e.kind ≡ kind
+        → with_parts s origin (touched_of origin (reach posts)) (record (parts_of s posts (touched_of origin (reach posts))) { posts = after }) ≡ record s { posts = slice_set s.posts origin after }
+    leaves posts after (Write own to) e found is =
+        rw (found, is) (ap (λ (x : List Memory). record s { posts = slice_set s.posts origin after; memories = x }) (part-same s.memories (Some origin)))
+    leaves posts after (Notify to value) e found is = rw (found, is) refl
 
 pub step-put : (s t : State) (origin queue target number : ℕ) (outcome : Outcome) → step s (Put origin queue target number outcome) ≡ Ok t
-    → (posts : Posts) × (memory : Memory) × (after : Parts) × (at : Found) × IsPutStep s t origin queue target number outcome posts memory after at
+    → (posts : Posts) × (memory : Memory) × (after : Worked) × (at : Found) × IsPutStep s t origin queue target number outcome posts memory after at
 step-put s t origin queue target number outcome h =
     found_then (slice_get s.posts origin) whys.Put _ t h (λ posts hp h1.
-    found_then (slice_get s.memories target) whys.Put _ t h1 (λ memory hm h2.
-    bind_then (put posts memory queue target number outcome) _ t h2 (λ after ha h3.
-    let made = put-ok posts memory queue target number outcome after ha in
-    (posts, memory, after, made.0, record { posts_there = hp; memory_there = hm; is = made.1; leaves = sym (same_Ok _ _ h3) }))))
+    bind_then (on_parts s.limits (reach posts) (Put origin queue target number outcome) (parts_of s posts (touched_of origin (reach posts)))) _ t h1 (λ parts hl h2.
+    bind_then (put posts (worked_memory (reach posts) (parts_of s posts (touched_of origin (reach posts)))) queue target number outcome) _ parts hl (λ after ha h3.
+    let made = put-ok posts _ queue target number outcome after ha in
+    let found = entry-found posts queue target number made.0 made.1.is in
+    let reaches = reach-is posts made.0.entry.kind made.0.entry found refl in
+    let state : t ≡ with_parts s origin (touched_of origin (reach posts)) parts = sym (same_Ok _ _ h2) in (
+      posts,
+      memory_at (put_reach s.limits.ranks origin target) origin s.memories,
+      after,
+      made.0,
+      record {
+        posts_there = hp;
+        worked = refl;
+        is = subst (λ (m : Memory). IsPut posts m queue target number outcome after made.0)
+            (worked-at s posts origin (reach posts) ∙ ap (λ (r : Reach). memory_at r origin s.memories) reaches) made.1;
+        leaves = state ∙ ap (with_parts s origin (touched_of origin (reach posts))) (sym (same_Ok _ _ h3))
+            ∙ leaves posts after (reach posts) (λ rank is. put-alone rank (sym reaches ∙ is))
+            ∙ ap (λ (r : Reach). record s { posts = slice_set s.posts origin after.posts; memories = memories_at r origin after.memory s.memories }) reaches;
+      },
+    ))))
+  where
+    reach : Posts → Reach
+    reach posts = reach_of s.limits.ranks origin (entry_touch (put_touch target) (entry_in posts queue target number))
+
+    reach-is : (posts : Posts) (kind : Kind) (e : Entry) → entry_in posts queue target number ≡ Some e → e.kind ≡ kind → reach posts ≡ put_reach s.limits.ranks origin target
+    reach-is posts (Write own to) e found is = rw (found, is) refl
+    reach-is posts (Notify to value) e found is = rw (found, is) refl
+
+    put-alone : (rank : ℕ) → put_reach s.limits.ranks origin target ≡ PeerPosts rank → ⊥
+    put-alone rank is = (let touched = (peer-touched s.limits.ranks origin rank (touches.MemoryOf target) is).0 in let no : ⊥ = cc in no)
+
+    leaves : (posts : Posts) (after : Worked) (r : Reach) → ((rank : ℕ) → r ≡ PeerPosts rank → ⊥)
+        → with_parts s origin (touched_of origin r) (record (with_worked_memory r (parts_of s posts (touched_of origin r)) after.memory) { posts = after.posts })
+        ≡ record s { posts = slice_set s.posts origin after.posts; memories = memories_at r origin after.memory s.memories }
+    leaves posts after Alone none = refl
+    leaves posts after OwnMemory none = refl
+    leaves posts after (PeerMemory rank) none = refl
+    leaves posts after (PeerPosts rank) none = absurd (none rank refl)

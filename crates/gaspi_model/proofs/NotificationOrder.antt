@@ -3,7 +3,6 @@ use Rattle.std.proofs.Common.{◌≡◌, ℕ, zero, suc, ◌+◌, ◌<◌, arith
 use Rattle.std.specs.List.{slice_get, slice_set, prefix_len}
 use Rattle.std.proofs.lemmas.Bool.{eqb-true, lt-ltb}
 use Rattle.gaspi_types.specs.Lanes.{is_write, is_write_kind, has_earlier_write, may_put, may_put_kind, is_carried, place_of, posted_entries}
-use Rattle.gaspi_types.specs.Posts.{write_kinds, notify_kinds, write_notify_kinds}
 use Rattle.gaspi_types.specs.Replies.{is_idle}
 use Rattle.gaspi_types.specs.declared.entries.Entry.{Entry}
 use Rattle.gaspi_types.specs.declared.entries.Kind.{Kind}
@@ -12,13 +11,16 @@ use Rattle.gaspi_types.specs.declared.entries.Phase.{Phase}
 use Rattle.gaspi_types.specs.declared.entries.Phase.TheVariants as phases
 use Rattle.gaspi_types.specs.declared.shapes.Limits.{Limits}
 use Rattle.gaspi_types.specs.declared.calls.Call.{Call}
-use Rattle.gaspi_types.specs.declared.calls.Call.TheVariants.{Alloc, Register, Delete, Store, Load, Write, Notify, WriteNotify, Wait, Waitsome, Reset, FetchAdd, CompareSwap, End}
+use Rattle.gaspi_types.specs.declared.calls.Call.TheVariants.{Wait}
+use Rattle.gaspi_types.specs.CallRows.{row_of}
+use Rattle.gaspi_types.specs.declared.call_rows.Posting.{Posting}
 use Rattle.gaspi_types.specs.declared.replies.Reply.{Reply}
 use Rattle.gaspi_types.specs.declared.replies.Refusal.{Refusal}
 use Rattle.gaspi_types.specs.declared.events.Outcome.TheVariants.{Applied, Failed}
 use Rattle.gaspi_types.specs.declared.events.Event.{Event}
 use Rattle.gaspi_types.specs.declared.events.Event.TheVariants.{Called, Take, Put}
-use Rattle.gaspi_model.specs.Calls.{changed_at, with_entries, with_post, posts_done, counted, told}
+use Rattle.gaspi_model.specs.Posting.{changed_at, with_entries, with_post, counted}
+use Rattle.gaspi_model.specs.Calls.{posts_done, plain_done, call_asks}
 use Rattle.gaspi_model.specs.Transfers.{Found, find_entry, with_phase, taken_bytes}
 use Rattle.gaspi_model.specs.State.{opening}
 use Rattle.gaspi_model.specs.Step.{step, after, reached, is_legal}
@@ -32,11 +34,10 @@ use Rattle.gaspi_model.specs.declared.states.State.{State}
 use Rattle.gaspi_model.specs.declared.states.Why.{Why}
 use Rattle.gaspi_model.specs.declared.states.Why.TheVariants as whys
 use Rattle.gaspi_model.proofs.Chains.{both}
-use Rattle.gaspi_model.proofs.Made.{IsFound, find_entry-ok, step-called, step-take, step-put}
+use Rattle.gaspi_model.proofs.Made.{IsFound, find_entry-ok, found-again, step-called, step-take, step-put}
 use Rattle.gaspi_model.proofs.Tables.{slice_get-set_same, slice_get-set_other, same-or-not}
-use Rattle.gaspi_model.proofs.Told.{IsTold, told-get}
+use Rattle.gaspi_model.proofs.Told.{IsTold, told, told-get}
 use Rattle.gaspi_model.proofs.Histories.{after-first, after-both, leads}
-use Rattle.gaspi_model.proofs.LocalSteps.{found-again}
 
 one-more : (n : ℕ) → 1 + n ≡ suc n
 one-more n = omega arith
@@ -172,25 +173,17 @@ post-keeps posts posted rank queue target m (Ok kinds) h =
 
 done-keeps : (limits : Limits) (me : ℕ) (posts : Posts) (thread : ℕ) (call : Call) (queue target m : ℕ) → InQueues posts.queues queue target m
     → InQueues (posts_done limits me posts thread call).queues queue target m
-done-keeps limits me posts thread (Alloc seg size) queue target m h = h
-done-keeps limits me posts thread (Register seg rank) queue target m h = h
-done-keeps limits me posts thread (Delete seg) queue target m h = h
-done-keeps limits me posts thread (Store seg offset bytes) queue target m h = h
-done-keeps limits me posts thread (Load seg offset size) queue target m h = h
-done-keeps limits me posts thread (Write seg offset rank rseg roffset size posted) queue target m h =
-    post-keeps posts posted rank queue target m (write_kinds me posts.own posts.known seg offset rank rseg roffset size) h
-done-keeps limits me posts thread (Notify rseg rank note value posted) queue target m h =
-    post-keeps posts posted rank queue target m (notify_kinds limits.notes me posts.own posts.known rseg rank note value) h
-done-keeps limits me posts thread (WriteNotify seg offset rank rseg roffset size note value posted) queue target m h =
-    post-keeps posts posted rank queue target m (write_notify_kinds limits.notes me posts.own posts.known seg offset rank rseg roffset size note value) h
-done-keeps limits me posts thread (Wait waited) queue target m h =
-    queues-changed posts.queues waited (λ (q : Queue). record q { open_count = 0 }) queue target m
-    (λ q at same i. record { lane = i.lane; lane_there = i.lane_there; has = i.has }) h
-done-keeps limits me posts thread (Waitsome seg begin num) queue target m h = h
-done-keeps limits me posts thread (Reset seg note) queue target m h = h
-done-keeps limits me posts thread (FetchAdd seg offset rank value) queue target m h = h
-done-keeps limits me posts thread (CompareSwap seg offset rank comparator new) queue target m h = h
-done-keeps limits me posts thread End queue target m h = h
+done-keeps limits me posts thread call queue target m h = go (row_of call).posting refl
+  where
+    plain : (call : Call) → InQueues (plain_done posts thread call).queues queue target m
+    plain (Wait call) =
+        queues-changed posts.queues call.queue (λ (q : Queue). record q { open_count = 0 }) queue target m
+        (λ q at same i. record { lane = i.lane; lane_there = i.lane_there; has = i.has }) h
+    plain other = h
+
+    go : (o : Option Posting) → (row_of call).posting ≡ o → InQueues (posts_done limits me posts thread call).queues queue target m
+    go None none = rw none (plain call)
+    go (Some to) post = rw post (post-keeps posts to.queue to.rank queue target m (call_asks limits me posts call) h)
 
 idle-keeps : (idle : Bool) (before done : Posts) (queue target m : ℕ) → InQueues before.queues queue target m → InQueues done.queues queue target m
     → InQueues (counted (if idle then before else done)).queues queue target m
@@ -218,11 +211,11 @@ posts-replaced s rank posts posts' origin queue target m at t is keeps h = same-
     (λ apart. record { posts = h.posts; posts_there = rw is (slice_get-set_other s.posts rank origin posts' apart ∙ h.posts_there); in_queues = h.in_queues })
 
 -- a segment told to a rank leaves what stands in lanes
-told-stands : (t : State) (me : ℕ) (p : Posts) (call : Call) (reply : Reply) (all : List Posts) (origin queue target m : ℕ) → t.posts ≡ told me p call reply all → {limits : Limits} {memories : List Memory}
+told-stands : (t : State) (ranks me : ℕ) (p : Posts) (call : Call) (reply : Reply) (all : List Posts) (origin queue target m : ℕ) → t.posts ≡ told ranks me p call reply all → {limits : Limits} {memories : List Memory}
     → Stands (record { limits = limits; posts = all; memories = memories }) origin queue target m → Stands t origin queue target m
-told-stands t me p call reply all origin queue target m is h = go (told-get me p call reply all origin)
+told-stands t ranks me p call reply all origin queue target m is h = go (told-get ranks me p call reply all origin)
   where
-    go : IsTold all (told me p call reply all) origin → Stands t origin queue target m
+    go : IsTold all (told ranks me p call reply all) origin → Stands t origin queue target m
     go (inl same) = record { posts = h.posts; posts_there = rw is (same ∙ h.posts_there); in_queues = h.in_queues }
     go (inr (x, known, before, now)) =
         let same : x ≡ h.posts = (let some : ◌≡◌ {A = Option Posts} (Some x) (Some h.posts) = sym before ∙ h.posts_there in cc) in
@@ -264,7 +257,7 @@ step-keeps s t (Called c call reply) origin queue target m h stands =
     let made = step-called s t c call reply h in
     let f = made.3 in
     let all = slice_set s.posts c.rank made.2.posts in
-    inr (told-stands t c.rank made.0 call reply all origin queue target m (ap (λ (x : State). x.posts) f.leaves)
+    inr (told-stands t s.limits.ranks c.rank made.0 call reply all origin queue target m (ap (λ (x : State). x.posts) f.leaves)
     (posts-replaced s c.rank made.0 made.2.posts origin queue target m f.posts_there (record s { posts = all }) refl
     (λ same i. rw f.is.leaves (idle-keeps (is_idle reply) made.0 (posts_done s.limits c.rank made.0 c.thread call) queue target m i (done-keeps s.limits c.rank made.0 c.thread call queue target m i))) stands))
 step-keeps s t (Take origin' queue' target' number outcome) origin queue target m h stands =

@@ -17,14 +17,19 @@ use Rattle.gaspi_types.specs.declared.entries.Phase.TheVariants as phases
 use Rattle.gaspi_types.specs.declared.shapes.CallerId.{CallerId}
 use Rattle.gaspi_types.specs.declared.calls.Call.{Call}
 use Rattle.gaspi_types.specs.declared.calls.Call.TheVariants as calls
+use Rattle.gaspi_types.specs.declared.calls.posts.Write as write
+use Rattle.gaspi_types.specs.declared.calls.posts.Notify as notify
+use Rattle.gaspi_types.specs.declared.calls.posts.WriteNotify as write_notify
 use Rattle.gaspi_types.specs.declared.shapes.Limits.{Limits}
 use Rattle.gaspi_types.specs.declared.replies.Refusal.{Refusal}
 use Rattle.gaspi_types.specs.declared.replies.Reply.TheVariants as replies
 use Rattle.gaspi_types.specs.declared.events.Event.{Event}
 use Rattle.gaspi_types.specs.declared.events.Event.TheVariants.{Called}
 use Rattle.gaspi_model.specs.State.{opening}
-use Rattle.gaspi_model.specs.Calls.{with_entries, with_post, counted, call_finds, asked_finds, posts_done}
-use Rattle.gaspi_model.specs.Transfers.{Parts, find_entry}
+use Rattle.gaspi_model.specs.Posting.{with_entries, with_post, counted}
+use Rattle.gaspi_model.specs.PostCalls.{asked_finds}
+use Rattle.gaspi_model.specs.Calls.{call_finds, posts_done}
+use Rattle.gaspi_model.specs.Transfers.{Worked, find_entry}
 use Rattle.gaspi_model.specs.Step.{step, reached, is_legal}
 use Rattle.gaspi_model.specs.Shards.{standing}
 use Rattle.gaspi_model.specs.Sound.{IsSound}
@@ -41,7 +46,7 @@ use Rattle.gaspi_model.proofs.Same.{same_reply-same}
 use Rattle.gaspi_model.proofs.Tables.{slice_get-set_same, past-none, behind-of-joined}
 use Rattle.gaspi_model.proofs.Rising.{place_of-rising}
 use Rattle.gaspi_model.proofs.Accounts.{post-ok}
-use Rattle.gaspi_model.proofs.CallQueues.{found-reply}
+use Rattle.gaspi_model.proofs.FoundReplies.{found-reply}
 use Rattle.gaspi_model.proofs.Told.{told-mine}
 use Rattle.gaspi_model.proofs.Histories.{reached-sound, after-both, after-first, leads}
 use Rattle.gaspi_model.proofs.SoundSteps.{steps}
@@ -53,17 +58,17 @@ record IsOneWrite (kinds : List Kind) : Type 0 where
   target : ByteRange
   is : kinds ≡ Write own target ∷ []
 
-write-is : (me : ℕ) (own : List (Option Extent)) (known : List (List (Option Extent))) (seg offset rank rseg roffset size : ℕ) (kinds : List Kind)
-    → write_kinds me own known seg offset rank rseg roffset size ≡ Ok kinds → IsOneWrite kinds
-write-is me own known seg offset rank rseg roffset size kinds h =
-    found_then (extent_in own seg) _ _ kinds h (λ mine hm h1.
-    found_then (known_extent me own known rank rseg) _ _ kinds h1 (λ theirs ht h2.
-    check_then (is_transfer_size size) _ _ kinds h2 (λ sized h3.
-    check_then (is_within offset size mine.size) _ _ kinds h3 (λ from h4.
-    check_then (is_within roffset size theirs.size) _ _ kinds h4 (λ to h5.
+write-is : (me : ℕ) (own : List (Option Extent)) (known : List (List (Option Extent))) (call : write.Write) (kinds : List Kind)
+    → write_kinds me own known call ≡ Ok kinds → IsOneWrite kinds
+write-is me own known call kinds h =
+    found_then (extent_in own call.seg) _ _ kinds h (λ mine hm h1.
+    found_then (known_extent me own known call.rank call.rseg) _ _ kinds h1 (λ theirs ht h2.
+    check_then (is_transfer_size call.size) _ _ kinds h2 (λ sized h3.
+    check_then (is_within call.offset call.size mine.size) _ _ kinds h3 (λ from h4.
+    check_then (is_within call.roffset call.size theirs.size) _ _ kinds h4 (λ to h5.
     record {
-      own = record { segment = seg; generation = mine.generation; offset = offset; size = size };
-      target = record { segment = rseg; generation = theirs.generation; offset = roffset; size = size };
+      own = record { segment = call.seg; generation = mine.generation; offset = call.offset; size = call.size };
+      target = record { segment = call.rseg; generation = theirs.generation; offset = call.roffset; size = call.size };
       is = sym (same_Ok _ _ h5);
     })))))
 
@@ -72,13 +77,13 @@ record IsOneNotification (kinds : List Kind) : Type 0 where
   value : ℕ
   is : kinds ≡ Notify slot value ∷ []
 
-notify-is : (notes me : ℕ) (own : List (Option Extent)) (known : List (List (Option Extent))) (rseg rank note value : ℕ) (kinds : List Kind)
-    → notify_kinds notes me own known rseg rank note value ≡ Ok kinds → IsOneNotification kinds
-notify-is notes me own known rseg rank note value kinds h =
-    found_then (known_extent me own known rank rseg) _ _ kinds h (λ theirs ht h1.
-    check_then (nat_lt note notes) _ _ kinds h1 (λ noted h2.
-    check_then (not (value == 0)) _ _ kinds h2 (λ valued h3.
-    record { slot = record { segment = rseg; generation = theirs.generation; note = note }; value = value; is = sym (same_Ok _ _ h3) })))
+notify-is : (notes me : ℕ) (own : List (Option Extent)) (known : List (List (Option Extent))) (call : notify.Notify) (kinds : List Kind)
+    → notify_kinds notes me own known call ≡ Ok kinds → IsOneNotification kinds
+notify-is notes me own known call kinds h =
+    found_then (known_extent me own known call.rank call.rseg) _ _ kinds h (λ theirs ht h1.
+    check_then (nat_lt call.note notes) _ _ kinds h1 (λ noted h2.
+    check_then (not (call.value == 0)) _ _ kinds h2 (λ valued h3.
+    record { slot = record { segment = call.rseg; generation = theirs.generation; note = call.note }; value = call.value; is = sym (same_Ok _ _ h3) })))
 
 record IsWriteWithNotification (kinds : List Kind) : Type 0 where
   own : ByteRange
@@ -87,21 +92,21 @@ record IsWriteWithNotification (kinds : List Kind) : Type 0 where
   value : ℕ
   is : kinds ≡ Write own target ∷ Notify slot value ∷ []
 
-kinds-are : (notes me : ℕ) (own : List (Option Extent)) (known : List (List (Option Extent))) (seg offset rank rseg roffset size note value : ℕ) (kinds : List Kind)
-    → write_notify_kinds notes me own known seg offset rank rseg roffset size note value ≡ Ok kinds → IsWriteWithNotification kinds
-kinds-are notes me own known seg offset rank rseg roffset size note value kinds h =
-    found_then (extent_in own seg) _ _ kinds h (λ mine hm h1.
-    found_then (known_extent me own known rank rseg) _ _ kinds h1 (λ theirs ht h2.
-    check_then (is_transfer_size size) _ _ kinds h2 (λ sized h3.
-    check_then (is_within offset size mine.size) _ _ kinds h3 (λ from h4.
-    check_then (is_within roffset size theirs.size) _ _ kinds h4 (λ to h5.
-    check_then (nat_lt note notes) _ _ kinds h5 (λ noted h6.
-    check_then (not (value == 0)) _ _ kinds h6 (λ valued h7.
+kinds-are : (notes me : ℕ) (own : List (Option Extent)) (known : List (List (Option Extent))) (call : write_notify.WriteNotify) (kinds : List Kind)
+    → write_notify_kinds notes me own known call ≡ Ok kinds → IsWriteWithNotification kinds
+kinds-are notes me own known call kinds h =
+    found_then (extent_in own call.seg) _ _ kinds h (λ mine hm h1.
+    found_then (known_extent me own known call.rank call.rseg) _ _ kinds h1 (λ theirs ht h2.
+    check_then (is_transfer_size call.size) _ _ kinds h2 (λ sized h3.
+    check_then (is_within call.offset call.size mine.size) _ _ kinds h3 (λ from h4.
+    check_then (is_within call.roffset call.size theirs.size) _ _ kinds h4 (λ to h5.
+    check_then (nat_lt call.note notes) _ _ kinds h5 (λ noted h6.
+    check_then (not (call.value == 0)) _ _ kinds h6 (λ valued h7.
     record {
-      own = record { segment = seg; generation = mine.generation; offset = offset; size = size };
-      target = record { segment = rseg; generation = theirs.generation; offset = roffset; size = size };
-      slot = record { segment = rseg; generation = theirs.generation; note = note };
-      value = value;
+      own = record { segment = call.seg; generation = mine.generation; offset = call.offset; size = call.size };
+      target = record { segment = call.rseg; generation = theirs.generation; offset = call.roffset; size = call.size };
+      slot = record { segment = call.rseg; generation = theirs.generation; note = call.note };
+      value = call.value;
       is = sym (same_Ok _ _ h7);
     })))))))
 
@@ -137,10 +142,10 @@ post-leaves s t c call rank queue posts asked sound hp so h =
     let posted = post-ok s.limits posts rank queue asked (Some replies.Done) finds' in
     let p = posted.2 in
     let later : made.2.posts ≡ counted (with_post posts queue rank (Ok posted.1)) =
-    ap (λ (x : Parts). x.posts) m.is.leaves ∙ ap (λ (x : Posts). counted (posts_done s.limits c.rank x c.thread call)) same ∙ ap counted so.leaves
+    ap (λ (x : Worked). x.posts) m.is.leaves ∙ ap (λ (x : Posts). counted (posts_done s.limits c.rank x c.thread call)) same ∙ ap counted so.leaves
     ∙ ap (λ (a : Result (List Kind) Refusal). counted (with_post posts queue rank a)) p.asks in
     let there : slice_get t.posts c.rank ≡ Some made.2.posts = ap (λ (x : State). slice_get x.posts c.rank) m.leaves
-    ∙ told-mine c.rank made.0 call replies.Done (slice_set s.posts c.rank made.2.posts) ∙ slice_get-set_same s.posts c.rank made.0 made.2.posts m.posts_there in
+    ∙ told-mine s.limits.ranks c.rank made.0 call replies.Done (slice_set s.posts c.rank made.2.posts) ∙ slice_get-set_same s.posts c.rank made.0 made.2.posts m.posts_there in
     let lanes = (sound.posts c.rank posts hp).lanes queue posted.0 p.in_posts in
     record {
       kinds = posted.1;
@@ -189,37 +194,34 @@ after-post w history c call rank queue s posts asked world h hp so legal =
       leaves = post-leaves s last.0 c call rank queue posts asked (reached-sound w history s world h) hp so step_s;
     }
 
-pub posted-write : (w : World) (history : List Event) (c : CallerId) (seg offset rank rseg roffset size queue : ℕ) (s : State) (posts : Posts) → IsWorld w → reached w history ≡ Ok s
-    → slice_get s.posts c.rank ≡ Some posts → is_legal w (history ++ Called c (calls.Write seg offset rank rseg roffset size queue) replies.Done ∷ []) ≡ true
-    → IsWriteStanding w (history ++ Called c (calls.Write seg offset rank rseg roffset size queue) replies.Done ∷ []) c.rank queue rank posts.next
-posted-write w history c seg offset rank rseg roffset size queue s posts world h hp legal =
-    let call = calls.Write seg offset rank rseg roffset size queue in
-    let a = after-post w history c call rank queue s posts (write_kinds c.rank posts.own posts.known seg offset rank rseg roffset size) world h hp (record { finds = λ memory. refl; leaves = refl }) legal in
-    let k = write-is c.rank posts.own posts.known seg offset rank rseg roffset size a.leaves.kinds a.leaves.asks in
-    let write : Entry = record { number = posts.next; kind = Write k.own k.target; phase = phases.Posted } in
-    record { state = a.state; entry = write; leads = a.leads_to; stands = a.leaves.stand 0 write (ap (λ (ks : List Kind). slice_get (posted_entries posts.next ks) 0) k.is); writes = refl }
+pub posted-write : (w : World) (history : List Event) (c : CallerId) (call : write.Write) (s : State) (posts : Posts) → IsWorld w → reached w history ≡ Ok s
+    → slice_get s.posts c.rank ≡ Some posts → is_legal w (history ++ Called c (calls.Write call) replies.Done ∷ []) ≡ true
+    → IsWriteStanding w (history ++ Called c (calls.Write call) replies.Done ∷ []) c.rank call.queue call.rank posts.next
+posted-write w history c call s posts world h hp legal =
+    let a = after-post w history c (calls.Write call) call.rank call.queue s posts (write_kinds c.rank posts.own posts.known call) world h hp (record { finds = λ memory. refl; leaves = refl }) legal in
+    let k = write-is c.rank posts.own posts.known call a.leaves.kinds a.leaves.asks in
+    let posted : Entry = record { number = posts.next; kind = Write k.own k.target; phase = phases.Posted } in
+    record { state = a.state; entry = posted; leads = a.leads_to; stands = a.leaves.stand 0 posted (ap (λ (ks : List Kind). slice_get (posted_entries posts.next ks) 0) k.is); writes = refl }
 
-pub posted-notify : (w : World) (history : List Event) (c : CallerId) (rseg rank note value queue : ℕ) (s : State) (posts : Posts) → IsWorld w → reached w history ≡ Ok s
-    → slice_get s.posts c.rank ≡ Some posts → is_legal w (history ++ Called c (calls.Notify rseg rank note value queue) replies.Done ∷ []) ≡ true
-    → IsNotificationStanding w (history ++ Called c (calls.Notify rseg rank note value queue) replies.Done ∷ []) c.rank queue rank posts.next
-posted-notify w history c rseg rank note value queue s posts world h hp legal =
-    let call = calls.Notify rseg rank note value queue in
-    let a = after-post w history c call rank queue s posts (notify_kinds s.limits.notes c.rank posts.own posts.known rseg rank note value) world h hp (record { finds = λ memory. refl; leaves = refl }) legal in
-    let k = notify-is s.limits.notes c.rank posts.own posts.known rseg rank note value a.leaves.kinds a.leaves.asks in
+pub posted-notify : (w : World) (history : List Event) (c : CallerId) (call : notify.Notify) (s : State) (posts : Posts) → IsWorld w → reached w history ≡ Ok s
+    → slice_get s.posts c.rank ≡ Some posts → is_legal w (history ++ Called c (calls.Notify call) replies.Done ∷ []) ≡ true
+    → IsNotificationStanding w (history ++ Called c (calls.Notify call) replies.Done ∷ []) c.rank call.queue call.rank posts.next
+posted-notify w history c call s posts world h hp legal =
+    let a = after-post w history c (calls.Notify call) call.rank call.queue s posts (notify_kinds s.limits.notes c.rank posts.own posts.known call) world h hp (record { finds = λ memory. refl; leaves = refl }) legal in
+    let k = notify-is s.limits.notes c.rank posts.own posts.known call a.leaves.kinds a.leaves.asks in
     let notification : Entry = record { number = posts.next; kind = Notify k.slot k.value; phase = phases.Posted } in
     record { state = a.state; entry = notification; leads = a.leads_to; stands = a.leaves.stand 0 notification (ap (λ (ks : List Kind). slice_get (posted_entries posts.next ks) 0) k.is); notifies = refl }
 
-pub posted-write_notify : (w : World) (history : List Event) (c : CallerId) (seg offset rank rseg roffset size note value queue : ℕ) (s : State) (posts : Posts) → IsWorld w → reached w history ≡ Ok s
-    → slice_get s.posts c.rank ≡ Some posts → is_legal w (history ++ Called c (calls.WriteNotify seg offset rank rseg roffset size note value queue) replies.Done ∷ []) ≡ true
-    → IsWriteStanding w (history ++ Called c (calls.WriteNotify seg offset rank rseg roffset size note value queue) replies.Done ∷ []) c.rank queue rank posts.next
-    × IsNotificationStanding w (history ++ Called c (calls.WriteNotify seg offset rank rseg roffset size note value queue) replies.Done ∷ []) c.rank queue rank (posts.next + 1)
-posted-write_notify w history c seg offset rank rseg roffset size note value queue s posts world h hp legal =
-    let call = calls.WriteNotify seg offset rank rseg roffset size note value queue in
-    let a = after-post w history c call rank queue s posts (write_notify_kinds s.limits.notes c.rank posts.own posts.known seg offset rank rseg roffset size note value) world h hp
+pub posted-write_notify : (w : World) (history : List Event) (c : CallerId) (call : write_notify.WriteNotify) (s : State) (posts : Posts) → IsWorld w → reached w history ≡ Ok s
+    → slice_get s.posts c.rank ≡ Some posts → is_legal w (history ++ Called c (calls.WriteNotify call) replies.Done ∷ []) ≡ true
+    → IsWriteStanding w (history ++ Called c (calls.WriteNotify call) replies.Done ∷ []) c.rank call.queue call.rank posts.next
+    × IsNotificationStanding w (history ++ Called c (calls.WriteNotify call) replies.Done ∷ []) c.rank call.queue call.rank (posts.next + 1)
+posted-write_notify w history c call s posts world h hp legal =
+    let a = after-post w history c (calls.WriteNotify call) call.rank call.queue s posts (write_notify_kinds s.limits.notes c.rank posts.own posts.known call) world h hp
     (record { finds = λ memory. refl; leaves = refl }) legal in
-    let k = kinds-are s.limits.notes c.rank posts.own posts.known seg offset rank rseg roffset size note value a.leaves.kinds a.leaves.asks in
-    let write : Entry = record { number = posts.next; kind = Write k.own k.target; phase = phases.Posted } in
+    let k = kinds-are s.limits.notes c.rank posts.own posts.known call a.leaves.kinds a.leaves.asks in
+    let posted : Entry = record { number = posts.next; kind = Write k.own k.target; phase = phases.Posted } in
     let notification : Entry = record { number = posts.next + 1; kind = Notify k.slot k.value; phase = phases.Posted } in (
-      record { state = a.state; entry = write; leads = a.leads_to; stands = a.leaves.stand 0 write (ap (λ (ks : List Kind). slice_get (posted_entries posts.next ks) 0) k.is); writes = refl },
+      record { state = a.state; entry = posted; leads = a.leads_to; stands = a.leaves.stand 0 posted (ap (λ (ks : List Kind). slice_get (posted_entries posts.next ks) 0) k.is); writes = refl },
       record { state = a.state; entry = notification; leads = a.leads_to; stands = a.leaves.stand 1 notification (ap (λ (ks : List Kind). slice_get (posted_entries posts.next ks) 1) k.is); notifies = refl },
     )

@@ -18,8 +18,8 @@ use Rattle.gaspi_types.specs.declared.entries.Phase.TheVariants as phases
 use Rattle.gaspi_types.specs.declared.events.Outcome.TheVariants.{Applied}
 use Rattle.gaspi_types.specs.declared.events.Event.TheVariants.{Put}
 use Rattle.gaspi_model.specs.State.{entry_at, segment_at}
-use Rattle.gaspi_model.specs.Calls.{is_generation, bytes_of, slots_of, bytes_in, slots_in}
-use Rattle.gaspi_model.specs.Transfers.{Found, Parts, target_segment, target_generation, put_outcome, same_outcome, carried_bytes, memory_put}
+use Rattle.gaspi_model.specs.Memories.{is_generation, bytes_of, slots_of, bytes_in, slots_in}
+use Rattle.gaspi_model.specs.Transfers.{Found, Worked, target_segment, target_generation, put_outcome, same_outcome, carried_bytes, memory_put}
 use Rattle.gaspi_model.specs.Step.{step}
 use Rattle.gaspi_model.specs.Coherence.{extent_of, extents_of, slot_counts, Tables, tables_of, HasSource, Fits}
 use Rattle.gaspi_model.specs.Sound.{IsSound}
@@ -29,7 +29,7 @@ use Rattle.gaspi_model.specs.declared.states.Segment.{Segment}
 use Rattle.gaspi_model.specs.declared.states.Memory.{Memory}
 use Rattle.gaspi_model.specs.declared.states.State.{State}
 use Rattle.gaspi_model.proofs.Chains.{both}
-use Rattle.gaspi_model.proofs.Made.{IsPutStep, step-put}
+use Rattle.gaspi_model.proofs.Worked.{IsPutThere, sound-put}
 use Rattle.gaspi_model.proofs.Tables.{slice_get-set_same, slice_get-set_other, past-none, joined, front-of-joined, behind-of-joined, front-of-taken, rest-of-dropped}
 use Rattle.gaspi_model.proofs.Layouts.{with_range-length}
 use Rattle.gaspi_model.proofs.FittingEntries.{extent-there}
@@ -156,12 +156,12 @@ puts-into notes memory number (Notify target value) phase mine theirs old there 
 
 pub put-done : (s t : State) (origin queue target number : ℕ) → IsSound s → step s (Put origin queue target number Applied) ≡ Ok t → IsPutDone s t origin queue target number
 put-done s t origin queue target number sound h =
-    let made = step-put s t origin queue target number Applied h in
+    let made = sound-put s t origin queue target number Applied sound h in
     let m = made.4 in
     let at = made.3 in
     with-target made.0 made.1 made.2 at m (slice_get s.posts target) refl
   where
-    with-posts : (posts : Posts) (memory : Memory) (after : Parts) (at : Found) → IsPutStep s t origin queue target number Applied posts memory after at
+    with-posts : (posts : Posts) (memory : Memory) (after : Worked) (at : Found) → IsPutThere s t origin queue target number Applied posts memory after at
         → (theirs : Posts) → slice_get s.posts target ≡ Some theirs → IsPutDone s t origin queue target number
     with-posts posts memory after at m theirs ht =
         let coherent = sound.coherent in
@@ -199,7 +199,7 @@ put-done s t origin queue target number sound h =
           limits = ap (λ (x : State). x.limits) m.leaves;
         }
 
-    with-target : (posts : Posts) (memory : Memory) (after : Parts) (at : Found) → IsPutStep s t origin queue target number Applied posts memory after at
+    with-target : (posts : Posts) (memory : Memory) (after : Worked) (at : Found) → IsPutThere s t origin queue target number Applied posts memory after at
         → (o : Option Posts) → slice_get s.posts target ≡ o → IsPutDone s t origin queue target number
     with-target posts memory after at m (Some theirs) ht = with-posts posts memory after at m theirs ht
     with-target posts memory after at m None ht =

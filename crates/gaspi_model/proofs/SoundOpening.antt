@@ -1,5 +1,5 @@
 -- The opening state is sound.
-use Rattle.std.proofs.Common.{◌≡◌, ℕ, ◌+◌, ◌≤◌, Bool, true, false, ◌&&◌, ◌||◌, ◌==◌, List, [], ◌∷◌, Option, None, Some, refl, sym, ◌∙◌, subst, arith, cond, if◌then◌else◌, map}
+use Rattle.std.proofs.Common.{◌≡◌, ℕ, ◌+◌, ◌≤◌, Bool, true, false, ◌&&◌, ◌||◌, ◌==◌, List, [], ◌∷◌, Option, None, Some, refl, sym, ap, length, ◌∙◌, subst, arith, cond, if◌then◌else◌, map}
 use Rattle.std.specs.List.{slice_get, count_by, list_any, range_with_len}
 use Rattle.std.specs.Option.{option_map}
 use Rattle.std.proofs.lemmas.Bool.Decides.{nat_tests}
@@ -11,11 +11,12 @@ use Rattle.std.proofs.lemmas.Option.{slice_get-map}
 use Rattle.gaspi_types.specs.World.{World, IsWorld, is_caller}
 use Rattle.gaspi_types.specs.Lanes.{lane_owed}
 use Rattle.gaspi_types.specs.declared.shapes.CallerId.{CallerId}
-use Rattle.gaspi_model.specs.State.{opening, opening_memory, opening_posts, opening_queue, opening_thread, declared_size, generations_used, entries_owed, queue_owed, is_running}
+use Rattle.gaspi_model.specs.State.{opening, opening_memory, opening_posts, opening_queue, opening_extents, opening_thread, declared_size, generations_used, entries_owed, queue_owed, is_running}
 use Rattle.gaspi_model.proofs.Tables.{slice_get-replicate, map-at}
 use Rattle.gaspi_model.proofs.CoherentOpening.{opens-coherent}
 use Rattle.gaspi_model.specs.Sound.{lane_failed, IsSoundQueue, IsSoundPosts, IsSound}
 use Rattle.gaspi_types.specs.declared.entries.Entry.{Entry}
+use Rattle.gaspi_types.specs.declared.entries.Extent.{Extent}
 use Rattle.gaspi_model.specs.declared.states.Queue.{Queue}
 use Rattle.gaspi_model.specs.declared.states.ThreadState.TheVariants.{Absent, Running}
 
@@ -98,8 +99,22 @@ one-used : (declared : Option ℕ) → generations_used declared ≤ 1
 one-used None = omega arith
 one-used (Some size) = omega arith
 
+-- the segment of a size that is declared
+abbrev declared_extent : ℕ → Extent
+declared_extent size = record { generation = 0; size = size }
+
 opening-sound : (w : World) (rank : ℕ) → IsWorld w → IsSoundPosts w.limits (opening_posts w rank)
 opening-sound w rank world = record {
+  tables = record {
+    queues = length-replicate w.limits.queues (opening_queue w.limits.ranks);
+    corrupt = length-replicate w.limits.ranks false;
+    own = length-map-range_with_len (λ (segment : ℕ). option_map declared_extent (declared_size w rank segment)) 0 32;
+    known = length-map-range_with_len (opening_extents w) 0 w.limits.ranks;
+    known_segments = λ k table at.
+        let from = map-at (opening_extents w) (range_with_len 0 w.limits.ranks) k table at in
+        ap length from.2 ∙ length-map-range_with_len (λ (segment : ℕ). option_map declared_extent (declared_size w from.0 segment)) 0 32;
+    threads = length-map-range_with_len (opening_thread w rank) 0 4;
+  };
   lanes = λ queue q at. rw (slice_get-replicate w.limits.queues (opening_queue w.limits.ranks) q queue at) (length-replicate w.limits.ranks []);
   room =
       (let none = entries-none w rank in

@@ -5,13 +5,14 @@ use Rattle.std.proofs.lemmas.Bool.{leb-true}
 use Rattle.std.proofs.lemmas.List.{length-set}
 use Rattle.gaspi_types.specs.Lanes.{posted_entries, is_posted, is_carried}
 use Rattle.gaspi_types.specs.Replies.{is_idle}
-use Rattle.gaspi_types.specs.Posts.{write_kinds, notify_kinds, write_notify_kinds}
 use Rattle.gaspi_types.specs.declared.entries.Entry.{Entry}
 use Rattle.gaspi_types.specs.declared.entries.Kind.{Kind}
 use Rattle.gaspi_types.specs.declared.entries.Phase.TheVariants as phases
 use Rattle.gaspi_types.specs.declared.shapes.Limits.{Limits}
 use Rattle.gaspi_types.specs.declared.calls.Call.{Call}
-use Rattle.gaspi_types.specs.declared.calls.Call.TheVariants.{Alloc, Register, Delete, Store, Load, Write, Notify, WriteNotify, Wait, Waitsome, Reset, FetchAdd, CompareSwap, End}
+use Rattle.gaspi_types.specs.declared.calls.Call.TheVariants.{Alloc, Delete, Wait, End}
+use Rattle.gaspi_types.specs.CallRows.{row_of, entries_of}
+use Rattle.gaspi_types.specs.declared.call_rows.Posting.{Posting}
 use Rattle.gaspi_types.specs.declared.replies.Reply.{Reply}
 use Rattle.gaspi_types.specs.declared.replies.Refusal.{Refusal}
 use Rattle.gaspi_types.specs.declared.events.Outcome.{Outcome}
@@ -21,22 +22,25 @@ use Rattle.gaspi_types.specs.declared.events.Event.TheVariants.{Called, Take, Pu
 use Rattle.gaspi_model.specs.State.{owed}
 use Rattle.gaspi_types.specs.SegmentTables.{next_generation, with_generation}
 use Rattle.gaspi_types.specs.declared.entries.Extent.{Extent}
-use Rattle.gaspi_model.specs.Calls.{changed_at, with_entries, with_post, posts_done, counted, memory_rank, told}
-use Rattle.gaspi_model.specs.Transfers.{Found, with_lane, with_phase, put_with, taken_bytes, Parts}
+use Rattle.gaspi_model.specs.Posting.{changed_at, with_entries, with_post, counted}
+use Rattle.gaspi_model.specs.Calls.{posts_done, plain_done, call_asks}
+use Rattle.gaspi_model.specs.Transfers.{Found, with_lane, with_phase, put_with, taken_bytes, Worked}
 use Rattle.gaspi_model.specs.Step.{step}
 use Rattle.gaspi_model.specs.Coherence.{IsCoherent}
-use Rattle.gaspi_model.specs.Sound.{failures, IsSoundPosts, IsSound, AreRising, events_left}
+use Rattle.gaspi_model.specs.Sound.{failures, HasTables, IsSoundPosts, IsSound, AreRising, events_left}
 use Rattle.gaspi_model.proofs.Rising.{AreRising-more, AreRising-phase, AreRising-remove, AreRising-post}
 use Rattle.gaspi_model.specs.declared.states.Queue.{Queue}
 use Rattle.gaspi_model.specs.declared.states.Posts.{Posts}
 use Rattle.gaspi_model.specs.declared.states.Memory.{Memory}
 use Rattle.gaspi_model.specs.declared.states.State.{State}
 use Rattle.gaspi_model.proofs.Tables.{sum_by-changed, slice_get-set, length-changed_at}
-use Rattle.gaspi_model.proofs.Told.{told-length, told-from, told-sum}
+use Rattle.gaspi_model.proofs.Worked.{memory_rank, sound-called, sound-take, sound-put}
+use Rattle.gaspi_model.proofs.Told.{told, told-length, told-from, told-sum}
+use Rattle.gaspi_model.proofs.TableLengths.{after-tables, take-tables, put-tables, told-tables}
 use Rattle.gaspi_model.proofs.Successors.{generation-within}
 use Rattle.gaspi_model.proofs.Same.{same_reply-same}
 use Rattle.gaspi_model.proofs.Made.{IsFound, IsTake, IsPut, IsCalled, step-called, step-take, step-put}
-use Rattle.gaspi_model.proofs.Accounts.{take-owed, put-owed, kinds-write, kinds-notify, kinds-two}
+use Rattle.gaspi_model.proofs.Accounts.{take-owed, put-owed, asks-counted, few-posted}
 use Rattle.gaspi_model.proofs.CallAccounts.{HasLanes, with_post-events, call-grows}
 use Rattle.gaspi_model.proofs.Chains.{both}
 use Rattle.gaspi_model.proofs.OpenCounts.{posted-unfailed, carried-unfailed, queue-phase, queue-remove, carried-more, carried-failed}
@@ -165,49 +169,47 @@ post-keeps ranks posts queue target asked counts all rise few = record {
   rising = rise-post posts queue target asked rise;
 }
 
-done-keeps : (ranks : ℕ) (limits : Limits) (me : ℕ) (posts : Posts) (thread : ℕ) (call : Call) → HasLanes ranks posts → RiseBelow posts.next posts.queues → HasFewGenerations (posts.events + 1) posts
-    → Keeps ranks posts (posts_done limits me posts thread call)
-done-keeps ranks limits me posts thread (Alloc seg size) all rise few = record {
+plain-keeps : (ranks : ℕ) (posts : Posts) (thread : ℕ) (call : Call) → HasLanes ranks posts → RiseBelow posts.next posts.queues → HasFewGenerations (posts.events + 1) posts
+    → Keeps ranks posts (plain_done posts thread call)
+plain-keeps ranks posts thread (Alloc call) all rise few = record {
   lanes = all;
   events = refl;
   numbers = omega arith;
-  numbered = length-set posts.next_generations seg (next_generation posts.next_generations seg + 1);
-  generations = generations-alloc posts seg few;
+  numbered = length-set posts.next_generations call.seg (next_generation posts.next_generations call.seg + 1);
+  generations = generations-alloc posts call.seg few;
   rising = rise;
 }
-done-keeps ranks limits me posts thread (Register seg rank) all rise few = same-keeps ranks posts all rise few
-done-keeps ranks limits me posts thread (Delete seg) all rise few = record { lanes = all; events = refl; numbers = omega arith; numbered = refl; generations = generations-more posts few; rising = rise }
-done-keeps ranks limits me posts thread (Store seg offset bytes) all rise few = same-keeps ranks posts all rise few
-done-keeps ranks limits me posts thread (Load seg offset size) all rise few = same-keeps ranks posts all rise few
-done-keeps ranks limits me posts thread (Write seg offset rank rseg roffset size queue) all rise few =
-    post-keeps ranks posts queue rank (write_kinds me posts.own posts.known seg offset rank rseg roffset size)
-    (λ kinds asks. let one = kinds-write me posts.own posts.known seg offset rank rseg roffset size kinds asks in omega arith) all rise few
-done-keeps ranks limits me posts thread (Notify rseg rank note value queue) all rise few =
-    post-keeps ranks posts queue rank (notify_kinds limits.notes me posts.own posts.known rseg rank note value)
-    (λ kinds asks. let one = kinds-notify limits.notes me posts.own posts.known rseg rank note value kinds asks in omega arith) all rise few
-done-keeps ranks limits me posts thread (WriteNotify seg offset rank rseg roffset size note value queue) all rise few =
-    post-keeps ranks posts queue rank (write_notify_kinds limits.notes me posts.own posts.known seg offset rank rseg roffset size note value)
-    (λ kinds asks. let two = kinds-two limits.notes me posts.own posts.known seg offset rank rseg roffset size note value kinds asks in omega arith) all rise few
-done-keeps ranks limits me posts thread (Wait queue) all rise few = record {
-  lanes = lanes-changed ranks posts.queues queue (λ (q : Queue). record q { open_count = 0 }) (λ q. refl) all;
+plain-keeps ranks posts thread (Delete call) all rise few = record { lanes = all; events = refl; numbers = omega arith; numbered = refl; generations = generations-more posts few; rising = rise }
+plain-keeps ranks posts thread (Wait call) all rise few = record {
+  lanes = lanes-changed ranks posts.queues call.queue (λ (q : Queue). record q { open_count = 0 }) (λ q. refl) all;
   events = refl;
   numbers = omega arith;
   numbered = refl;
   generations = generations-more posts few;
-  rising = rise-changed posts.next posts.queues queue (λ (q : Queue). record q { open_count = 0 }) (λ q at. rise queue q at) rise;
+  rising = rise-changed posts.next posts.queues call.queue (λ (q : Queue). record q { open_count = 0 }) (λ q at. rise call.queue q at) rise;
 }
-done-keeps ranks limits me posts thread (Waitsome seg begin num) all rise few = same-keeps ranks posts all rise few
-done-keeps ranks limits me posts thread (Reset seg note) all rise few = same-keeps ranks posts all rise few
-done-keeps ranks limits me posts thread (FetchAdd seg offset rank value) all rise few = same-keeps ranks posts all rise few
-done-keeps ranks limits me posts thread (CompareSwap seg offset rank comparator new) all rise few = same-keeps ranks posts all rise few
-done-keeps ranks limits me posts thread End all rise few = record { lanes = all; events = refl; numbers = omega arith; numbered = refl; generations = generations-more posts few; rising = rise }
+plain-keeps ranks posts thread End all rise few = record { lanes = all; events = refl; numbers = omega arith; numbered = refl; generations = generations-more posts few; rising = rise }
+plain-keeps ranks posts thread other all rise few = same-keeps ranks posts all rise few
+
+done-keeps : (ranks : ℕ) (limits : Limits) (me : ℕ) (posts : Posts) (thread : ℕ) (call : Call) → HasLanes ranks posts → RiseBelow posts.next posts.queues → HasFewGenerations (posts.events + 1) posts
+    → Keeps ranks posts (posts_done limits me posts thread call)
+done-keeps ranks limits me posts thread call all rise few = go (row_of call).posting refl
+  where
+    few-asked : (to : Posting) → (row_of call).posting ≡ Some to → to.entries ≤ 2
+    few-asked to post = let most = few-posted call in let same : entries_of call ≡ to.entries = rw post refl in omega arith
+
+    go : (o : Option Posting) → (row_of call).posting ≡ o → Keeps ranks posts (posts_done limits me posts thread call)
+    go None none = rw none (plain-keeps ranks posts thread call all rise few)
+    go (Some to) post =
+        rw post (post-keeps ranks posts to.queue to.rank (call_asks limits me posts call)
+        (λ kinds asks. let many = asks-counted limits me posts call to kinds post asks in let most = few-asked to post in omega arith) all rise few)
 
 -- the posts after a call, idle or not
 after-keeps : (ranks : ℕ) (b : Bool) (before done : Posts) → HasLanes ranks before → RiseBelow before.next before.queues → HasFewGenerations (before.events + 1) before → Keeps ranks before done → Keeps ranks before (if b then before else done)
 after-keeps ranks true before done all rise few keeps = same-keeps ranks before all rise few
 after-keeps ranks false before done all rise few keeps = keeps
 
-called-sound : (limits : Limits) (me : ℕ) (posts : Posts) (memory : Memory) (thread : ℕ) (call : Call) (reply : Reply) (after : Parts)
+called-sound : (limits : Limits) (me : ℕ) (posts : Posts) (memory : Memory) (thread : ℕ) (call : Call) (reply : Reply) (after : Worked)
     → IsSoundPosts limits posts → IsCalled limits me posts memory thread call reply after → IsSoundPosts limits after.posts
 called-sound limits me posts memory thread call reply after sound h =
     let keeps = after-keeps limits.ranks (is_idle reply) posts (posts_done limits me posts thread call) sound.lanes sound.rising sound.generations
@@ -216,6 +218,7 @@ called-sound limits me posts memory thread call reply after sound h =
     let room = leb-true _ _ h.room in
     let numbers = sound.numbers in
     rw h.leaves (record {
+      tables = after-tables limits me (is_idle reply) posts thread call sound.tables;
       lanes = keeps.lanes;
       room = omega arith;
       numbers = (let events = keeps.events in let next = keeps.numbers in omega arith);
@@ -245,6 +248,7 @@ take-sound limits posts memory queue target number outcome after at sound h =
     let rises = sound.rising queue at.queue h.is.in_posts target at.lane h.is.in_queue in
     let lane = with_phase at.lane at.place at.entry (phases.Carried (taken_bytes memory at.entry.kind)) in
     let made : IsSoundPosts limits (counted (with_lane posts queue target lane)) = record {
+      tables = subst (HasTables limits) h.leaves (take-tables limits posts memory queue target number outcome after at h sound.tables);
       lanes = lanes-with_lane limits.ranks posts queue target lane sound.lanes;
       room = (let same = ap (λ (p : Posts). p.events + owed p) h.leaves in omega arith);
       numbers = omega arith;
@@ -265,7 +269,7 @@ whole-unmarked : (broken : Option ℕ) → is_none broken ≡ true → failures 
 whole-unmarked None h = refl
 whole-unmarked (Some target) h = absurd (let no : ⊥ = cc in no)
 
-put-sound : (limits : Limits) (posts : Posts) (memory : Memory) (queue target number : ℕ) (outcome : Outcome) (after : Parts) (at : Found)
+put-sound : (limits : Limits) (posts : Posts) (memory : Memory) (queue target number : ℕ) (outcome : Outcome) (after : Worked) (at : Found)
     → IsSoundPosts limits posts → IsPut posts memory queue target number outcome after at → IsSoundPosts limits after.posts
 put-sound limits posts memory queue target number Applied after at sound h =
     let owes = put-owed posts memory queue target number Applied after at h in
@@ -274,8 +278,9 @@ put-sound limits posts memory queue target number Applied after at sound h =
     let rises = sound.rising queue at.queue h.is.in_posts target at.lane h.is.in_queue in
     let lane = remove at.lane at.place in
     let made : IsSoundPosts limits (counted (with_lane posts queue target lane)) = record {
+      tables = subst (λ (w : Worked). HasTables limits w.posts) h.leaves (put-tables limits posts memory queue target number Applied after at h sound.tables);
       lanes = lanes-with_lane limits.ranks posts queue target lane sound.lanes;
-      room = (let same = ap (λ (p : Parts). p.posts.events + owed p.posts) h.leaves in omega arith);
+      room = (let same = ap (λ (p : Worked). p.posts.events + owed p.posts) h.leaves in omega arith);
       numbers = omega arith;
       numbered = sound.numbered;
       generations = λ segment n at. (let few = sound.generations segment n at in omega arith);
@@ -295,8 +300,9 @@ put-sound limits posts memory queue target number Failed after at sound h =
     let lane = with_phase at.lane at.place at.entry phases.Failed in
     let change = λ (q : Queue). record q { broken = Some target; lanes = slice_set q.lanes target lane } in
     let made : IsSoundPosts limits (put_with posts memory queue target at Failed).posts = record {
+      tables = subst (λ (w : Worked). HasTables limits w.posts) h.leaves (put-tables limits posts memory queue target number Failed after at h sound.tables);
       lanes = lanes-changed limits.ranks posts.queues queue change (λ q. length-set q.lanes target lane) sound.lanes;
-      room = (let same = ap (λ (p : Parts). p.posts.events + owed p.posts) h.leaves in omega arith);
+      room = (let same = ap (λ (p : Worked). p.posts.events + owed p.posts) h.leaves in omega arith);
       numbers = omega arith;
       numbered = sound.numbered;
       generations = λ segment n at. (let few = sound.generations segment n at in omega arith);
@@ -323,14 +329,16 @@ posts-sound limits table rank after sound all r p h = parts (slice_get-set table
     parts (inr there) = all r p there
 
 -- posts that are told a segment
-told-sound : (limits : Limits) (me : ℕ) (p : Posts) (call : Call) (reply : Reply) (all : List Posts) → ((r : ℕ) (x : Posts) → slice_get all r ≡ Some x → IsSoundPosts limits x)
-    → (r : ℕ) (x : Posts) → slice_get (told me p call reply all) r ≡ Some x → IsSoundPosts limits x
-told-sound limits me p call reply all sound r x h =
-    let from = told-from me p call reply all r x h in
-    rw from.3 (known-sound from.0 from.1 (sound r from.0 from.2))
+told-sound : (limits : Limits) (ranks me : ℕ) (p : Posts) (call : Call) (reply : Reply) (all : List Posts) → ((r : ℕ) (x : Posts) → slice_get all r ≡ Some x → IsSoundPosts limits x)
+    → (r : ℕ) (x : Posts) → slice_get (told ranks me p call reply all) r ≡ Some x → IsSoundPosts limits x
+told-sound limits ranks me p call reply all sound r x h =
+    let from = told-from ranks me p call reply all r x h in
+    let tables = told-tables limits ranks me p call reply all (λ k y at. (sound k y at).tables) r x h in
+    rw from.3 (known-sound from.0 from.1 (subst (HasTables limits) from.3 tables) (sound r from.0 from.2))
   where
-    known-sound : (before : Posts) (known : List (List (Option Extent))) → IsSoundPosts limits before → IsSoundPosts limits (record before { known = known })
-    known-sound before known is = record {
+    known-sound : (before : Posts) (known : List (List (Option Extent))) → HasTables limits (record before { known = known }) → IsSoundPosts limits before → IsSoundPosts limits (record before { known = known })
+    known-sound before known tables is = record {
+      tables = tables;
       lanes = is.lanes;
       room = is.room;
       numbers = is.numbers;
@@ -342,19 +350,19 @@ told-sound limits me p call reply all sound r x h =
 
 pub steps : (s t : State) (e : Event) → IsSound s → step s e ≡ Ok t → IsSound t
 steps s t (Called c call reply) sound h =
-    let made = step-called s t c call reply h in
+    let made = sound-called s t c call reply sound h in
     let m = made.3 in
     let after = called-sound s.limits c.rank made.0 made.1 c.thread call reply made.2 (sound.posts c.rank made.0 m.posts_there) m.is in
     let coherent = steps-coherent s t (Called c call reply) sound h in
     rw m.leaves (record {
       limits = sound.limits;
-      ranks = told-length c.rank made.0 call reply (slice_set s.posts c.rank made.2.posts) ∙ length-set s.posts c.rank made.2.posts ∙ sound.ranks;
+      ranks = told-length s.limits.ranks c.rank made.0 call reply (slice_set s.posts c.rank made.2.posts) ∙ length-set s.posts c.rank made.2.posts ∙ sound.ranks;
       memories = length-set s.memories (memory_rank s.limits c.rank call) made.2.memory ∙ sound.memories;
-      posts = told-sound s.limits c.rank made.0 call reply (slice_set s.posts c.rank made.2.posts) (posts-sound s.limits s.posts c.rank made.2.posts after sound.posts);
+      posts = told-sound s.limits s.limits.ranks c.rank made.0 call reply (slice_set s.posts c.rank made.2.posts) (posts-sound s.limits s.posts c.rank made.2.posts after sound.posts);
       coherent = subst IsCoherent m.leaves coherent;
     })
 steps s t (Take origin queue target number outcome) sound h =
-    let made = step-take s t origin queue target number outcome h in
+    let made = sound-take s t origin queue target number outcome sound h in
     let m = made.4 in
     let after = take-sound s.limits made.0 made.1 queue target number outcome made.2 made.3 (sound.posts origin made.0 m.posts_there) m.is in
     let coherent = steps-coherent s t (Take origin queue target number outcome) sound h in
@@ -366,7 +374,7 @@ steps s t (Take origin queue target number outcome) sound h =
       coherent = subst IsCoherent m.leaves coherent;
     })
 steps s t (Put origin queue target number outcome) sound h =
-    let made = step-put s t origin queue target number outcome h in
+    let made = sound-put s t origin queue target number outcome sound h in
     let m = made.4 in
     let after = put-sound s.limits made.0 made.1 queue target number outcome made.2 made.3 (sound.posts origin made.0 m.posts_there) m.is in
     let coherent = steps-coherent s t (Put origin queue target number outcome) sound h in
@@ -380,14 +388,14 @@ steps s t (Put origin queue target number outcome) sound h =
 
 -- each event adds one to the events of its owner
 
-called-events : (limits : Limits) (me : ℕ) (posts : Posts) (memory : Memory) (thread : ℕ) (call : Call) (reply : Reply) (after : Parts)
+called-events : (limits : Limits) (me : ℕ) (posts : Posts) (memory : Memory) (thread : ℕ) (call : Call) (reply : Reply) (after : Worked)
     → IsSoundPosts limits posts → IsCalled limits me posts memory thread call reply after → after.posts.events ≡ posts.events + 1
 called-events limits me posts memory thread call reply after sound h =
     let keeps = after-keeps limits.ranks (is_idle reply) posts (posts_done limits me posts thread call) sound.lanes sound.rising sound.generations
     (done-keeps limits.ranks limits me posts thread call sound.lanes sound.rising sound.generations) in
     rw h.leaves (ap (λ (n : ℕ). n + 1) keeps.events)
 
-put-events : (posts : Posts) (memory : Memory) (queue target number : ℕ) (outcome : Outcome) (after : Parts) (at : Found)
+put-events : (posts : Posts) (memory : Memory) (queue target number : ℕ) (outcome : Outcome) (after : Worked) (at : Found)
     → IsPut posts memory queue target number outcome after at → after.posts.events ≡ posts.events + 1
 put-events posts memory queue target number Applied after at h = rw h.leaves refl
 put-events posts memory queue target number Failed after at h = rw h.leaves refl
@@ -400,23 +408,23 @@ left-set limits table rank posts after at more within =
 
 pub counts : (s t : State) (e : Event) → IsSound s → step s e ≡ Ok t → events_left t + 1 ≡ events_left s
 counts s t (Called c call reply) sound h =
-    let made = step-called s t c call reply h in
+    let made = sound-called s t c call reply sound h in
     let m = made.3 in
     let before = sound.posts c.rank made.0 m.posts_there in
     let after = called-sound s.limits c.rank made.0 made.1 c.thread call reply made.2 before m.is in
     let more = called-events s.limits c.rank made.0 made.1 c.thread call reply made.2 before m.is in
     let left = left-set s.limits s.posts c.rank made.0 made.2.posts m.posts_there more (let room = after.room in omega arith) in
-    let told_left = told-sum (λ (p : Posts). s.limits.events - p.events) (λ x known. refl) c.rank made.0 call reply (slice_set s.posts c.rank made.2.posts) in
+    let told_left = told-sum (λ (p : Posts). s.limits.events - p.events) (λ x known. refl) s.limits.ranks c.rank made.0 call reply (slice_set s.posts c.rank made.2.posts) in
     rw m.leaves (ap (λ (n : ℕ). n + 1) told_left ∙ left)
 counts s t (Take origin queue target number outcome) sound h =
-    let made = step-take s t origin queue target number outcome h in
+    let made = sound-take s t origin queue target number outcome sound h in
     let m = made.4 in
     let before = sound.posts origin made.0 m.posts_there in
     let after = take-sound s.limits made.0 made.1 queue target number outcome made.2 made.3 before m.is in
     let more : made.2.events ≡ made.0.events + 1 = rw m.is.leaves refl in
     rw m.leaves (left-set s.limits s.posts origin made.0 made.2 m.posts_there more (let room = after.room in omega arith))
 counts s t (Put origin queue target number outcome) sound h =
-    let made = step-put s t origin queue target number outcome h in
+    let made = sound-put s t origin queue target number outcome sound h in
     let m = made.4 in
     let before = sound.posts origin made.0 m.posts_there in
     let after = put-sound s.limits made.0 made.1 queue target number outcome made.2 made.3 before m.is in

@@ -7,7 +7,7 @@ use Rattle.std.proofs.lemmas.Bool.{eq-eqb, eqb-true}
 use Rattle.std.proofs.lemmas.List.Sums.{sum_by-set}
 use Rattle.std.proofs.lemmas.Option.{slice_get-map, slice_get_within, get_or_from_slice_get}
 use Rattle.gaspi_model.specs.State.{entry_at}
-use Rattle.gaspi_model.specs.Calls.{changed_at}
+use Rattle.gaspi_model.specs.Posting.{changed_at}
 
 -- what stands in a table after a change: at the place what was set, elsewhere what was there
 pub slice_get-set : {A : Type 0} (xs : List A) (i j : ℕ) (y z : A) → slice_get (slice_set xs i y) j ≡ Some z → ((j ≡ i) × (z ≡ y)) ⊎ (slice_get xs j ≡ Some z)
@@ -62,6 +62,12 @@ slice_get-set_other (x ∷ xs) zero (suc j) y apart = refl
 slice_get-set_other (x ∷ xs) (suc i) zero y apart = refl
 slice_get-set_other (x ∷ xs) (suc i) (suc j) y apart = slice_get-set_other xs i j y (λ e. apart (ap (λ (n : ℕ). suc n) e))
 
+-- what stands at a place, set there, changes nothing
+pub set-there : {A : Type 0} (table : List A) (place : _) (x : A) → slice_get table place ≡ Some x → slice_set table place x ≡ table
+set-there [] place x at = refl
+set-there (y ∷ table) zero x at = let same : y ≡ x = cc in ap (λ (z : _). z ∷ table) (sym same)
+set-there (y ∷ table) (suc place) x at = ap (λ (rest : List _). y ∷ rest) (set-there table place x at)
+
 -- a number is another or not
 pub same-or-not : {P : Type 0} (a b : ℕ) → (a ≡ b → P) → ((a ≡ b → ⊥) → P) → P
 same-or-not {P} a b same apart = go (a == b) refl
@@ -75,6 +81,11 @@ pub past-none : {A : Type 0} (xs : List A) (i : ℕ) → i < length xs → slice
 past-none [] i less at = omega arith
 past-none (x ∷ xs) zero less at = cc
 past-none (x ∷ xs) (suc i) less at = past-none xs i (omega arith) at
+
+pub there-within : {A : Type 0} (xs : List A) (i : ℕ) → i < length xs → (x : A) × (slice_get xs i ≡ Some x)
+there-within [] i less = absurd (let no : ⊥ = omega arith in no)
+there-within (x ∷ xs) zero less = (x, refl)
+there-within (x ∷ xs) (suc i) less = there-within xs i (omega arith)
 
 -- past its end nothing stands
 pub none-past : {A : Type 0} (xs : List A) (i : ℕ) → slice_get xs i ≡ None → length xs ≤ i

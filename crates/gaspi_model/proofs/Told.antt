@@ -1,6 +1,6 @@
 -- The posts of all ranks after a call that tells a segment to one of them: what that one knows has changed, and nothing
 -- else.
-use Rattle.std.proofs.Common.{◌≡◌, ℕ, Bool, true, false, ◌==◌, List, length, Option, None, Some, refl, sym, ap, ◌∙◌, subst, arith, if◌then◌else◌, ◌⊎◌, inl, inr}
+use Rattle.std.proofs.Common.{◌≡◌, ℕ, Bool, true, false, ◌==◌, nat_lt, List, length, Option, None, Some, refl, sym, ap, ◌∙◌, subst, arith, if◌then◌else◌, ◌⊎◌, inl, inr}
 use Rattle.std.specs.List.{slice_get, slice_set, sum_by}
 use Rattle.std.specs.Option.{option_map}
 use Rattle.std.proofs.lemmas.Bool.{eqb-true, eqb-false}
@@ -9,10 +9,19 @@ use Rattle.gaspi_types.specs.Replies.{is_idle}
 use Rattle.gaspi_types.specs.declared.entries.Extent.{Extent}
 use Rattle.gaspi_types.specs.declared.calls.Call.{Call}
 use Rattle.gaspi_types.specs.declared.calls.Call.TheVariants.{Register}
+use Rattle.gaspi_types.specs.declared.calls.segments.Register as register
+use Rattle.gaspi_types.specs.declared.touches.Touch.{Touch}
+use Rattle.gaspi_types.specs.declared.touches.Touch.TheVariants as touches
+use Rattle.gaspi_types.specs.declared.touches.Reach.{Reach}
+use Rattle.gaspi_types.specs.declared.touches.Reach.TheVariants.{Alone, OwnMemory, PeerMemory, PeerPosts}
+use Rattle.gaspi_types.specs.CallRows.{row_of}
+use Rattle.gaspi_types.specs.Touches.{reach_of}
+use Rattle.gaspi_model.specs.Calls.{peer_after}
 use Rattle.gaspi_types.specs.declared.replies.Reply.{Reply}
-use Rattle.gaspi_model.specs.Calls.{changed_at, with_known, told}
+use Rattle.gaspi_model.specs.Posting.{changed_at}
+use Rattle.gaspi_model.specs.SegmentCalls.{with_known}
 use Rattle.gaspi_model.specs.declared.states.Posts.{Posts}
-use Rattle.gaspi_model.proofs.Tables.{slice_get-set_same, slice_get-set_other, sum_by-changed, length-changed_at}
+use Rattle.gaspi_model.proofs.Tables.{set-there, slice_get-set_same, slice_get-set_other, sum_by-changed, length-changed_at}
 
 -- what stands in a table with one item changed
 pub changed_at-get : {A : Type 0} (xs : List A) (i k : ℕ) (change : A → A) → slice_get (changed_at xs i change) k ≡ (if i == k then option_map change (slice_get xs k) else slice_get xs k)
@@ -30,23 +39,100 @@ changed_at-get {A} xs i k change = go (slice_get xs i) refl (i == k) refl
         rw (at, is, before) now
     go (Some x) at false is = rw (at, is) (slice_get-set_other xs i k (change x) (λ e. eqb-false i k is e))
 
--- a call tells a segment to another rank, or leaves the posts of all ranks as they are
-pub told-cases : {P : Type 0} (me : ℕ) (p : Posts) (call : Call) (reply : Reply) → (((all : List Posts) → told me p call reply all ≡ all) → P)
-    → ((seg rank : ℕ) → call ≡ Register seg rank → is_idle reply ≡ false → (rank == me) ≡ false
-    → ((all : List Posts) → told me p call reply all ≡ changed_at all rank (with_known me seg (extent_in p.own seg))) → P) → P
-told-cases {P} me p call reply same register = go (is_idle reply) refl
+-- nothing is changed by a change that changes nothing
+changed_at-same : {A : Type 0} (xs : List A) (i : ℕ) (change : A → A) → ((x : A) → change x ≡ x) → changed_at xs i change ≡ xs
+changed_at-same {A} xs i change same = go (slice_get xs i) refl
   where
-    named : (seg rank : ℕ) → call ≡ Register seg rank → is_idle reply ≡ false → (b : Bool) → (rank == me) ≡ b → P
-    named seg rank is awake true mine = same (λ all. rw (is, awake, mine) refl)
-    named seg rank is awake false other = register seg rank is awake other (λ all. rw (is, awake, other) refl)
+    go : (o : Option A) → slice_get xs i ≡ o → changed_at xs i change ≡ xs
+    go None at = rw at refl
+    go (Some x) at = rw (at, same x) (set-there xs i x at)
 
-    by-call : (c : Call) → call ≡ c → is_idle reply ≡ false → P
-    by-call (Register seg rank) is awake = named seg rank is awake (rank == me) refl
-    by-call other is awake = same (λ all. rw (is, awake) refl)
+-- changes that do the same to each item
+changed_at-alike : {A : Type 0} (xs : List A) (i : ℕ) (f g : A → A) → ((x : A) → f x ≡ g x) → changed_at xs i f ≡ changed_at xs i g
+changed_at-alike {A} xs i f g alike = go (slice_get xs i) refl
+  where
+    go : (o : Option A) → slice_get xs i ≡ o → changed_at xs i f ≡ changed_at xs i g
+    go None at = rw at refl
+    go (Some x) at = rw (at, alike x) refl
 
-    go : (b : Bool) → is_idle reply ≡ b → P
-    go true idle = same (λ all. rw idle refl)
-    go false awake = by-call call refl awake
+-- the posts of all ranks with those of a peer that is reached changed
+abbrev pub changed_peer : Reach → List Posts → (Posts → Posts) → List Posts
+changed_peer Alone all change = all
+changed_peer OwnMemory all change = all
+changed_peer (PeerMemory rank) all change = all
+changed_peer (PeerPosts rank) all change = changed_at all rank change
+
+-- the posts of all ranks after a call of that reach: of a peer that it reaches what it leaves there
+abbrev pub told_at : Reach → ℕ → Posts → Call → Reply → List Posts → List Posts
+told_at Alone me p call reply all = all
+told_at OwnMemory me p call reply all = all
+told_at (PeerMemory rank) me p call reply all = all
+told_at (PeerPosts rank) me p call reply all = changed_at all rank (peer_after me p call reply)
+
+abbrev pub told : ℕ → ℕ → Posts → Call → Reply → List Posts → List Posts
+told ranks me p call reply all = told_at (reach_of ranks me (row_of call).touch) me p call reply all
+
+-- a reach of a peer's posts comes from a touch of the posts of another rank
+pub peer-touched : (ranks me rank : ℕ) (touch : Touch) → reach_of ranks me touch ≡ PeerPosts rank → (touch ≡ touches.PostsOf rank) × ((rank == me) ≡ false) × (nat_lt rank ranks ≡ true)
+peer-touched ranks me rank touches.Nothing h = absurd (let no : ⊥ = cc in no)
+peer-touched ranks me rank touches.OwnMemory h = absurd (let no : ⊥ = cc in no)
+peer-touched ranks me rank (touches.MemoryOf r) h = absurd (mine (r == me) (nat_lt r ranks) h)
+  where
+    mine : (b c : Bool) → (if b then OwnMemory else (if c then PeerMemory r else Alone)) ≡ PeerPosts rank → ⊥
+    mine true c h = cc
+    mine false true h = cc
+    mine false false h = cc
+peer-touched ranks me rank (touches.PostsOf r) h = go (r == me) refl (nat_lt r ranks) refl
+  where
+    go : (b : Bool) → (r == me) ≡ b → (c : Bool) → nat_lt r ranks ≡ c → (touches.PostsOf r ≡ touches.PostsOf rank) × ((rank == me) ≡ false) × (nat_lt rank ranks ≡ true)
+    go true is c less = absurd (let none : Alone ≡ PeerPosts rank = rw is at h in let no : ⊥ = cc in no)
+    go false is false less = absurd (let none : Alone ≡ PeerPosts rank = rw (is, less) at h in let no : ⊥ = cc in no)
+    go false is true less =
+        let some : PeerPosts r ≡ PeerPosts rank = rw (is, less) at h in
+        let same : r ≡ rank = cc in
+        (ap touches.PostsOf same, subst (λ (n : ℕ). (n == me) ≡ false) same is, subst (λ (n : ℕ). nat_lt n ranks ≡ true) same less)
+
+-- a call that touches a rank's posts makes a segment known to it
+pub touching-registers : (call : Call) (rank : ℕ) → (row_of call).touch ≡ touches.PostsOf rank → (x : register.Register) × (call ≡ Register x) × (x.rank ≡ rank)
+touching-registers (Register x) rank h = (x, refl, (let same : x.rank ≡ rank = cc in same))
+touching-registers other rank h = absurd (let no : ⊥ = cc in no)
+
+-- a call tells a segment to another rank, or leaves the posts of all ranks as they are
+pub told-cases : {P : Type 0} (ranks me : ℕ) (p : Posts) (call : Call) (reply : Reply) → (((all : List Posts) → told ranks me p call reply all ≡ all) → P)
+    → ((x : register.Register) → call ≡ Register x → is_idle reply ≡ false → (x.rank == me) ≡ false
+    → ((all : List Posts) → told ranks me p call reply all ≡ changed_at all x.rank (with_known me x.seg (extent_in p.own x.seg))) → P) → P
+told-cases {P} ranks me p call reply same tells = by-reach (reach_of ranks me (row_of call).touch) refl
+  where
+    told-known : (x : register.Register) → call ≡ Register x → (rank : ℕ) → x.rank ≡ rank → is_idle reply ≡ false → (all : List Posts)
+        → changed_at all rank (peer_after me p call reply) ≡ changed_at all x.rank (with_known me x.seg (extent_in p.own x.seg))
+    told-known x is rank named awake all =
+        changed_at-alike all rank (peer_after me p call reply) (with_known me x.seg (extent_in p.own x.seg)) (λ q. rw (is, awake) refl)
+        ∙ ap (λ (n : ℕ). changed_at all n (with_known me x.seg (extent_in p.own x.seg))) (sym named)
+
+    named : (rank : ℕ) → reach_of ranks me (row_of call).touch ≡ PeerPosts rank → (x : register.Register) → call ≡ Register x → x.rank ≡ rank → (rank == me) ≡ false
+        → (b : Bool) → is_idle reply ≡ b → P
+    named rank reach x is at other true idle = same (λ all. rw reach (changed_at-same all rank (peer_after me p call reply) (λ q. rw idle refl)))
+    named rank reach x is at other false awake =
+        tells x is awake (subst (λ (n : ℕ). (n == me) ≡ false) (sym at) other) (λ all. rw reach (told-known x is rank at awake all))
+
+    by-reach : (r : Reach) → reach_of ranks me (row_of call).touch ≡ r → P
+    by-reach Alone is = same (λ all. rw is refl)
+    by-reach OwnMemory is = same (λ all. rw is refl)
+    by-reach (PeerMemory rank) is = same (λ all. rw is refl)
+    by-reach (PeerPosts rank) is =
+        let touched = peer-touched ranks me rank (row_of call).touch is in
+        let registers = touching-registers call rank touched.0 in
+        named rank is registers.0 registers.1 registers.2 touched.1 (is_idle reply) refl
+
+-- a call that did nothing tells nothing
+pub told-idle : (ranks me : ℕ) (p : Posts) (call : Call) (reply : Reply) (all : List Posts) → is_idle reply ≡ true → told ranks me p call reply all ≡ all
+told-idle ranks me p call reply all idle = go (reach_of ranks me (row_of call).touch)
+  where
+    go : (r : Reach) → told_at r me p call reply all ≡ all
+    go Alone = refl
+    go OwnMemory = refl
+    go (PeerMemory rank) = refl
+    go (PeerPosts rank) = changed_at-same all rank (peer_after me p call reply) (λ q. rw idle refl)
 
 -- the posts of a rank are the same, but for what it knows
 abbrev pub IsTold : List Posts → List Posts → ℕ → Type 0
@@ -54,49 +140,49 @@ IsTold before after rank =
     (slice_get after rank ≡ slice_get before rank)
     ⊎ ((p : Posts) × (known : List (List (Option Extent))) × (slice_get before rank ≡ Some p) × (slice_get after rank ≡ Some (record p { known = known })))
 
-pub told-get : (me : ℕ) (p : Posts) (call : Call) (reply : Reply) (all : List Posts) (rank : ℕ) → IsTold all (told me p call reply all) rank
-told-get me p call reply all rank =
-    told-cases me p call reply
+pub told-get : (ranks me : ℕ) (p : Posts) (call : Call) (reply : Reply) (all : List Posts) (rank : ℕ) → IsTold all (told ranks me p call reply all) rank
+told-get ranks me p call reply all rank =
+    told-cases ranks me p call reply
     (λ same. inl (rw (same all) refl))
-    (λ seg r is awake other same. named seg r (λ k. ap (λ (xs : List Posts). slice_get xs k) (same all) ∙ changed_at-get all r k (with_known me seg (extent_in p.own seg))) (r == rank) refl (slice_get all rank) refl)
+    (λ x is awake other same. named x.seg x.rank (λ k. ap (λ (xs : List Posts). slice_get xs k) (same all) ∙ changed_at-get all x.rank k (with_known me x.seg (extent_in p.own x.seg))) (x.rank == rank) refl (slice_get all rank) refl)
   where
-    named : (seg r : ℕ) → ((k : ℕ) → slice_get (told me p call reply all) k ≡ (if r == k then option_map (with_known me seg (extent_in p.own seg)) (slice_get all k) else slice_get all k))
-        → (b : Bool) → (r == rank) ≡ b → (o : Option Posts) → slice_get all rank ≡ o → IsTold all (told me p call reply all) rank
+    named : (seg r : ℕ) → ((k : ℕ) → slice_get (told ranks me p call reply all) k ≡ (if r == k then option_map (with_known me seg (extent_in p.own seg)) (slice_get all k) else slice_get all k))
+        → (b : Bool) → (r == rank) ≡ b → (o : Option Posts) → slice_get all rank ≡ o → IsTold all (told ranks me p call reply all) rank
     named seg r same false is o at = inl (same rank ∙ rw is refl)
     named seg r same true is None at = inl (same rank ∙ rw (is, at) refl)
     named seg r same true is (Some x) at = inr (x, (with_known me seg (extent_in p.own seg) x).known, at, same rank ∙ rw (is, at) refl)
 
 -- the posts of a rank afterwards come from those before
-pub told-from : (me : ℕ) (p : Posts) (call : Call) (reply : Reply) (all : List Posts) (rank : ℕ) (after : Posts) → slice_get (told me p call reply all) rank ≡ Some after
+pub told-from : (ranks me : ℕ) (p : Posts) (call : Call) (reply : Reply) (all : List Posts) (rank : ℕ) (after : Posts) → slice_get (told ranks me p call reply all) rank ≡ Some after
     → (before : Posts) × (known : List (List (Option Extent))) × (slice_get all rank ≡ Some before) × (after ≡ record before { known = known })
-told-from me p call reply all rank after h = go (told-get me p call reply all rank)
+told-from ranks me p call reply all rank after h = go (told-get ranks me p call reply all rank)
   where
-    go : IsTold all (told me p call reply all) rank → (before : Posts) × (known : List (List (Option Extent))) × (slice_get all rank ≡ Some before) × (after ≡ record before { known = known })
+    go : IsTold all (told ranks me p call reply all) rank → (before : Posts) × (known : List (List (Option Extent))) × (slice_get all rank ≡ Some before) × (after ≡ record before { known = known })
     go (inl same) = (after, after.known, sym same ∙ h, refl)
     go (inr (x, known, before, now)) =
         let some : ◌≡◌ {A = Option Posts} (Some after) (Some (record x { known = known })) = sym h ∙ now in
         (x, known, before, (let is : after ≡ record x { known = known } = cc in is))
 
 -- the caller's own posts are those before
-pub told-mine : (me : ℕ) (p : Posts) (call : Call) (reply : Reply) (all : List Posts) → slice_get (told me p call reply all) me ≡ slice_get all me
-told-mine me p call reply all =
-    told-cases me p call reply
+pub told-mine : (ranks me : ℕ) (p : Posts) (call : Call) (reply : Reply) (all : List Posts) → slice_get (told ranks me p call reply all) me ≡ slice_get all me
+told-mine ranks me p call reply all =
+    told-cases ranks me p call reply
     (λ same. rw (same all) refl)
-    (λ seg r is awake other same. ap (λ (xs : List Posts). slice_get xs me) (same all) ∙ changed_at-get all r me (with_known me seg (extent_in p.own seg)) ∙ rw other refl)
+    (λ x is awake other same. ap (λ (xs : List Posts). slice_get xs me) (same all) ∙ changed_at-get all x.rank me (with_known me x.seg (extent_in p.own x.seg)) ∙ rw other refl)
 
-pub told-length : (me : ℕ) (p : Posts) (call : Call) (reply : Reply) (all : List Posts) → length (told me p call reply all) ≡ length all
-told-length me p call reply all =
-    told-cases me p call reply
+pub told-length : (ranks me : ℕ) (p : Posts) (call : Call) (reply : Reply) (all : List Posts) → length (told ranks me p call reply all) ≡ length all
+told-length ranks me p call reply all =
+    told-cases ranks me p call reply
     (λ same. ap length (same all))
-    (λ seg r is awake other same. ap length (same all) ∙ length-changed_at all r (with_known me seg (extent_in p.own seg)))
+    (λ x is awake other same. ap length (same all) ∙ length-changed_at all x.rank (with_known me x.seg (extent_in p.own x.seg)))
 
 -- a sum over the posts of what does not depend on what they know
-pub told-sum : (f : Posts → ℕ) → ((x : Posts) (known : List (List (Option Extent))) → f (record x { known = known }) ≡ f x) → (me : ℕ) (p : Posts) (call : Call) (reply : Reply) (all : List Posts)
-    → sum_by f (told me p call reply all) ≡ sum_by f all
-told-sum f blind me p call reply all =
-    told-cases me p call reply
+pub told-sum : (f : Posts → ℕ) → ((x : Posts) (known : List (List (Option Extent))) → f (record x { known = known }) ≡ f x) → (ranks me : ℕ) (p : Posts) (call : Call) (reply : Reply) (all : List Posts)
+    → sum_by f (told ranks me p call reply all) ≡ sum_by f all
+told-sum f blind ranks me p call reply all =
+    told-cases ranks me p call reply
     (λ same. ap (sum_by f) (same all))
-    (λ seg r is awake other same. ap (sum_by f) (same all) ∙ named seg r (slice_get all r) refl)
+    (λ x is awake other same. ap (sum_by f) (same all) ∙ named x.seg x.rank (slice_get all x.rank) refl)
   where
     named : (seg r : ℕ) (o : Option Posts) → slice_get all r ≡ o → sum_by f (changed_at all r (with_known me seg (extent_in p.own seg))) ≡ sum_by f all
     named seg r None at = rw at refl
@@ -105,25 +191,3 @@ told-sum f blind me p call reply all =
         let sum = sum_by-changed f all r x new at in
         let same : f new ≡ f x = blind x new.known in
         rw at (omega arith)
-
--- where two tables agree at a rank, so they do afterwards
-pub told-agree : (me : ℕ) (p : Posts) (call : Call) (reply : Reply) (all all' : List Posts) (rank : ℕ) → slice_get all rank ≡ slice_get all' rank
-    → slice_get (told me p call reply all) rank ≡ slice_get (told me p call reply all') rank
-told-agree me p call reply all all' rank agree =
-    told-cases me p call reply
-    (λ same. rw (same all, same all') agree)
-    (λ seg r is awake other same.
-    rw (same all, same all', changed_at-get all r rank (with_known me seg (extent_in p.own seg)), changed_at-get all' r rank (with_known me seg (extent_in p.own seg)), agree) refl)
-
--- a rank that is not named keeps its posts
-pub told-elsewhere : (me : ℕ) (p : Posts) (call : Call) (reply : Reply) (all : List Posts) (rank : ℕ) → ((seg r : ℕ) → call ≡ Register seg r → is_idle reply ≡ false → r ≡ rank → ⊥)
-    → slice_get (told me p call reply all) rank ≡ slice_get all rank
-told-elsewhere me p call reply all rank apart =
-    told-cases me p call reply
-    (λ same. rw (same all) refl)
-    (λ seg r is awake other same.
-    ap (λ (xs : List Posts). slice_get xs rank) (same all) ∙ changed_at-get all r rank (with_known me seg (extent_in p.own seg)) ∙ by-rank seg r (r == rank) refl (apart seg r is awake))
-  where
-    by-rank : (seg r : ℕ) (b : Bool) → (r == rank) ≡ b → (r ≡ rank → ⊥) → (if r == rank then option_map (with_known me seg (extent_in p.own seg)) (slice_get all rank) else slice_get all rank) ≡ slice_get all rank
-    by-rank seg r true is apart = absurd (apart (eqb-true r rank is))
-    by-rank seg r false is apart = rw is refl

@@ -14,11 +14,22 @@ use Rattle.gaspi_types.specs.declared.shapes.Limits.{Limits}
 use Rattle.gaspi_types.specs.declared.shapes.CallerId.{CallerId}
 use Rattle.gaspi_types.specs.declared.calls.Call.{Call}
 use Rattle.gaspi_types.specs.declared.calls.Call.TheVariants.{Store, FetchAdd, CompareSwap}
+use Rattle.gaspi_types.specs.declared.calls.memory.Store as store
+use Rattle.gaspi_types.specs.declared.calls.atomics.FetchAdd as fetch_add
+use Rattle.gaspi_types.specs.declared.calls.atomics.CompareSwap as compare_swap
+use Rattle.gaspi_types.specs.CallRows.{row_of}
+use Rattle.gaspi_types.specs.Touches.{reach_of}
+use Rattle.gaspi_types.specs.declared.touches.Touch.{Touch}
+use Rattle.gaspi_types.specs.declared.touches.Touch.TheVariants as touches
+use Rattle.gaspi_types.specs.declared.touches.Reach.TheVariants.{Alone, OwnMemory, PeerMemory, PeerPosts}
 use Rattle.gaspi_types.specs.declared.replies.Reply.{Reply}
 use Rattle.gaspi_types.specs.declared.replies.Reply.TheVariants as replies
 use Rattle.gaspi_types.specs.declared.events.Event.TheVariants.{Called}
 use Rattle.gaspi_model.specs.State.{segment_at}
-use Rattle.gaspi_model.specs.Calls.{is_generation, bytes_of, bytes_in, with_bytes, counted, told, memory_rank, store_finds, word_finds}
+use Rattle.gaspi_model.specs.Memories.{is_generation, bytes_of, bytes_in, with_bytes}
+use Rattle.gaspi_model.specs.Posting.{counted}
+use Rattle.gaspi_model.specs.MemoryCalls.{store_finds}
+use Rattle.gaspi_model.specs.AtomicCalls.{word_finds}
 use Rattle.gaspi_model.specs.Step.{step}
 use Rattle.gaspi_model.specs.Coherence.{extent_of, tables_of}
 use Rattle.gaspi_model.specs.Sound.{IsSound}
@@ -29,18 +40,19 @@ use Rattle.gaspi_model.specs.declared.states.Memory.{Memory}
 use Rattle.gaspi_model.specs.declared.states.State.{State}
 use Rattle.gaspi_model.proofs.Chains.{bind_then, check_then, found_then, same_Ok}
 use Rattle.gaspi_model.proofs.Same.{same_reply-same}
-use Rattle.gaspi_model.proofs.Made.{IsCalledStep, step-called}
-use Rattle.gaspi_model.proofs.Tables.{past-none, joined}
+use Rattle.gaspi_model.proofs.Made.{memories_at, memories-same, call_reach, step-called}
+use Rattle.gaspi_model.proofs.Worked.{IsCalledThere, memory_place, memory_rank, sound-called}
+use Rattle.gaspi_model.proofs.Told.{told, told_at}
+use Rattle.gaspi_model.proofs.Tables.{past-none, joined, set-there}
 use Rattle.gaspi_model.proofs.Successors.{extent-at}
 use Rattle.gaspi_model.proofs.FittingEntries.{known-cases, segment-behind, extent-there}
 use Rattle.gaspi_model.proofs.CoherentSteps.{mine-there}
-use Rattle.gaspi_model.proofs.CallQueues.{found-reply}
-use Rattle.gaspi_model.proofs.Histories.{set-there}
+use Rattle.gaspi_model.proofs.FoundReplies.{found-reply}
 use Rattle.gaspi_model.proofs.PutDone.{stored, there-in-generation, changed-there, changed-elsewhere}
 
 -- a call that replaces a range of a segment's bytes
 written : (s t : State) (c : CallerId) (call : Call) (reply : Reply) (rank seg offset : ℕ) (new : List ℕ) (posts : Posts) (memory memory' : Memory) (old : Segment)
-    → IsCalledStep s t c call reply posts memory (record { posts = counted posts; memory = memory' }) → memory_rank s.limits c.rank call ≡ rank → ((all : List Posts) → told c.rank posts call reply all ≡ all)
+    → IsCalledThere s t c call reply posts memory (record { posts = counted posts; memory = memory' }) → memory_rank s.limits c.rank call ≡ rank → ((all : List Posts) → told s.limits.ranks c.rank posts call reply all ≡ all)
     → memory' ≡ with_bytes memory seg (with_range (bytes_of memory seg) offset new) → segment_at memory seg ≡ Some old → offset + length new ≤ length old.bytes → IsWritten s t c.rank rank seg offset new
 written s t c call reply rank seg offset new posts memory memory' old m worked same leaves there within =
     let change = λ (x : Segment). record x { bytes = with_range (bytes_of memory seg) offset new } in
@@ -74,27 +86,26 @@ record IsOwnRange (own : List (Option Extent)) (seg offset size : ℕ) : Type 0 
   there : extent_in own seg ≡ Some mine
   within : is_within offset size mine.size ≡ true
 
-store-found : (posts : Posts) (seg offset : ℕ) (bytes : List ℕ) (reply : Reply) → store_finds posts seg offset bytes ≡ Ok (Some reply) → IsOwnRange posts.own seg offset (length bytes)
-store-found posts seg offset bytes reply h =
-    bind_then (own_range_checks posts.own seg offset (length bytes)) _ (Some reply) h (λ fits hc h1.
-    found_then (extent_in posts.own seg) _ _ fits hc (λ mine hm h2.
-    check_then (is_transfer_size (length bytes)) _ _ fits h2 (λ sized h3.
-    record { mine = mine; there = hm; within = passed (is_within offset (length bytes) mine.size) _ fits h3 })))
+store-found : (posts : Posts) (call : store.Store) (reply : Reply) → store_finds posts call ≡ Ok (Some reply) → IsOwnRange posts.own call.seg call.offset (length call.bytes)
+store-found posts call reply h =
+    bind_then (own_range_checks posts.own call.seg call.offset (length call.bytes)) _ (Some reply) h (λ fits hc h1.
+    found_then (extent_in posts.own call.seg) _ _ fits hc (λ mine hm h2.
+    check_then (is_transfer_size (length call.bytes)) _ _ fits h2 (λ sized h3.
+    record { mine = mine; there = hm; within = passed (is_within call.offset (length call.bytes) mine.size) _ fits h3 })))
 
-pub store-written : (s t : State) (c : CallerId) (seg offset : ℕ) (bytes : List ℕ) → IsSound s → step s (Called c (Store seg offset bytes) replies.Done) ≡ Ok t → IsWritten s t c.rank c.rank seg offset bytes
-store-written s t c seg offset bytes sound h =
-    let call = Store seg offset bytes in
-    let made = step-called s t c call replies.Done h in
+pub store-written : (s t : State) (c : CallerId) (call : store.Store) → IsSound s → step s (Called c (Store call) replies.Done) ≡ Ok t → IsWritten s t c.rank c.rank call.seg call.offset call.bytes
+store-written s t c call sound h =
+    let made = sound-called s t c (Store call) replies.Done sound h in
     let m = made.3 in
     let posts = made.0 in
     let memory = made.1 in
-    let finds = found-reply s.limits c.rank posts memory c.thread call replies.Done (same_reply-same _ _ m.is.answered) refl in
-    let found = store-found posts seg offset bytes replies.Done finds in
+    let finds = found-reply s.limits c.rank posts memory c.thread (Store call) replies.Done (same_reply-same _ _ m.is.answered) refl in
+    let found = store-found posts call replies.Done finds in
     let agrees = sound.coherent.own c.rank posts memory m.posts_there m.memory_there in
-    let behind = segment-behind memory seg found.mine (subst (λ (own : List (Option Extent)). extent_in own seg ≡ Some found.mine) agrees found.there) in
+    let behind = segment-behind memory call.seg found.mine (subst (λ (own : List (Option Extent)). extent_in own call.seg ≡ Some found.mine) agrees found.there) in
     let size : found.mine.size ≡ length behind.0.bytes = ap (λ (x : Extent). x.size) (sym behind.2) in
-    let less = leb-true (offset + length bytes) found.mine.size found.within in
-    written s t c call replies.Done c.rank seg offset bytes posts memory (with_bytes memory seg (with_range (bytes_of memory seg) offset bytes)) behind.0
+    let less = leb-true (call.offset + length call.bytes) found.mine.size found.within in
+    written s t c (Store call) replies.Done c.rank call.seg call.offset call.bytes posts memory (with_bytes memory call.seg (with_range (bytes_of memory call.seg) call.offset call.bytes)) behind.0
     (rw (← m.is.leaves) m) refl (λ all. refl) refl behind.1 (omega arith)
 
 -- an atomic that is done
@@ -120,8 +131,21 @@ word-found limits me posts memory seg offset rank old h =
     same-value n h = cc
 
 -- the memory that it works on is that of the rank that it names
-worked-there : (limits : Limits) (rank me : ℕ) → nat_lt rank limits.ranks ≡ true → (if nat_lt rank limits.ranks then rank else me) ≡ rank
-worked-there limits rank me less = rw less refl
+worked-there : (ranks rank me : ℕ) → nat_lt rank ranks ≡ true → memory_place (reach_of ranks me (touches.MemoryOf rank)) me ≡ rank
+worked-there ranks rank me less = go (rank == me) refl
+  where
+    go : (b : Bool) → (rank == me) ≡ b → memory_place (reach_of ranks me (touches.MemoryOf rank)) me ≡ rank
+    go true is = rw is (sym (eqb-true rank me is))
+    go false is = rw (is, less) refl
+
+-- and it tells nothing
+tells-none : (ranks rank me : ℕ) (p : Posts) (call : Call) (reply : Reply) (all : List Posts) → told_at (reach_of ranks me (touches.MemoryOf rank)) me p call reply all ≡ all
+tells-none ranks rank me p call reply all = go (rank == me) (nat_lt rank ranks)
+  where
+    go : (b c : Bool) → told_at (if b then OwnMemory else (if c then PeerMemory rank else Alone)) me p call reply all ≡ all
+    go true c = refl
+    go false true = refl
+    go false false = refl
 
 -- the size with which the caller knows the segment is its own
 word-size : (s : State) (me : ℕ) (posts : Posts) (memory : Memory) (seg rank : ℕ) (theirs : Extent) (old : Segment) → IsSound s → slice_get s.posts me ≡ Some posts → slice_get s.memories rank ≡ Some memory
@@ -144,11 +168,15 @@ word-size s me posts memory seg rank theirs old sound hp hm within known there g
 
 -- an atomic that replaces its word
 word-written : (s t : State) (c : CallerId) (call : Call) (seg offset rank old new : ℕ) (posts : Posts) (memory memory' : Memory) → IsSound s
-    → IsCalledStep s t c call (replies.Value old) posts memory (record { posts = counted posts; memory = memory' }) → memory_rank s.limits c.rank call ≡ (if nat_lt rank s.limits.ranks then rank else c.rank)
-    → ((all : List Posts) → told c.rank posts call (replies.Value old) all ≡ all) → IsWordFound s.limits c.rank posts memory seg offset rank old
+    → IsCalledThere s t c call (replies.Value old) posts memory (record { posts = counted posts; memory = memory' }) → (row_of call).touch ≡ touches.MemoryOf rank
+    → IsWordFound s.limits c.rank posts memory seg offset rank old
     → memory' ≡ with_bytes memory seg (with_range (bytes_of memory seg) offset (little_bytes 8 new)) → IsWritten s t c.rank rank seg offset (little_bytes 8 new)
-word-written s t c call seg offset rank old new posts memory memory' sound m works same found leaves =
-    let worked = works ∙ worked-there s.limits rank c.rank found.ranked in
+word-written s t c call seg offset rank old new posts memory memory' sound m touches_rank found leaves =
+    let worked : memory_rank s.limits c.rank call ≡ rank =
+    ap (λ (touch : Touch). memory_place (reach_of s.limits.ranks c.rank touch) c.rank) touches_rank ∙ worked-there s.limits.ranks rank c.rank found.ranked in
+    let same : (all : List Posts) → told s.limits.ranks c.rank posts call (replies.Value old) all ≡ all = (λ all.
+    ap (λ (touch : Touch). told_at (reach_of s.limits.ranks c.rank touch) c.rank posts call (replies.Value old) all) touches_rank
+    ∙ tells-none s.limits.ranks rank c.rank posts call (replies.Value old) all) in
     let less = ltb-true rank s.limits.ranks found.ranked in
     let there = there-in-generation memory seg found.theirs.generation found.there in
     let memory_there = ap (slice_get s.memories) (sym worked) ∙ m.memory_there in
@@ -157,56 +185,62 @@ word-written s t c call seg offset rank old new posts memory memory' sound m wor
     let eight = length-bytes_low_first 0 8 new in
     written s t c call (replies.Value old) rank seg offset (little_bytes 8 new) posts memory memory' there.0 m worked same leaves there.1 (omega arith)
 
-pub sum-written : (s t : State) (c : CallerId) (seg offset rank value old : ℕ) → IsSound s → step s (Called c (FetchAdd seg offset rank value) (replies.Value old)) ≡ Ok t
-    → IsWritten s t c.rank rank seg offset (little_bytes 8 ((old + value) % 2 ^ 64))
-sum-written s t c seg offset rank value old sound h =
-    let call = FetchAdd seg offset rank value in
-    let made = step-called s t c call (replies.Value old) h in
+pub sum-written : (s t : State) (c : CallerId) (call : fetch_add.FetchAdd) (old : ℕ) → IsSound s → step s (Called c (FetchAdd call) (replies.Value old)) ≡ Ok t
+    → IsWritten s t c.rank call.rank call.seg call.offset (little_bytes 8 ((old + call.value) % 2 ^ 64))
+sum-written s t c call old sound h =
+    let made = sound-called s t c (FetchAdd call) (replies.Value old) sound h in
     let m = made.3 in
     let posts = made.0 in
     let memory = made.1 in
-    let found = word-found s.limits c.rank posts memory seg offset rank old (found-reply s.limits c.rank posts memory c.thread call (replies.Value old) (same_reply-same _ _ m.is.answered) refl) in
-    let sum = λ (n : ℕ). with_bytes memory seg (with_range (bytes_of memory seg) offset (little_bytes 8 ((n + value) % 2 ^ 64))) in
-    word-written s t c call seg offset rank old ((old + value) % 2 ^ 64) posts memory (sum (word_at (bytes_of memory seg) offset)) sound (rw (← m.is.leaves) m) refl (λ all. refl) found (ap sum found.value)
+    let found = word-found s.limits c.rank posts memory call.seg call.offset call.rank old (found-reply s.limits c.rank posts memory c.thread (FetchAdd call) (replies.Value old) (same_reply-same _ _ m.is.answered) refl) in
+    let sum = λ (n : ℕ). with_bytes memory call.seg (with_range (bytes_of memory call.seg) call.offset (little_bytes 8 ((n + call.value) % 2 ^ 64))) in
+    word-written s t c (FetchAdd call) call.seg call.offset call.rank old ((old + call.value) % 2 ^ 64) posts memory (sum (word_at (bytes_of memory call.seg) call.offset)) sound (rw (← m.is.leaves) m) refl found
+    (ap sum found.value)
 
-pub swap-written : (s t : State) (c : CallerId) (seg offset rank comparator new : ℕ) → IsSound s → step s (Called c (CompareSwap seg offset rank comparator new) (replies.Value comparator)) ≡ Ok t
-    → IsWritten s t c.rank rank seg offset (little_bytes 8 new)
-swap-written s t c seg offset rank comparator new sound h =
-    let call = CompareSwap seg offset rank comparator new in
-    let made = step-called s t c call (replies.Value comparator) h in
+pub swap-written : (s t : State) (c : CallerId) (call : compare_swap.CompareSwap) → IsSound s → step s (Called c (CompareSwap call) (replies.Value call.comparator)) ≡ Ok t
+    → IsWritten s t c.rank call.rank call.seg call.offset (little_bytes 8 call.new)
+swap-written s t c call sound h =
+    let made = sound-called s t c (CompareSwap call) (replies.Value call.comparator) sound h in
     let m = made.3 in
     let posts = made.0 in
     let memory = made.1 in
-    let found = word-found s.limits c.rank posts memory seg offset rank comparator (found-reply s.limits c.rank posts memory c.thread call (replies.Value comparator) (same_reply-same _ _ m.is.answered) refl) in
-    let stands = eq-eqb (word_at (bytes_of memory seg) offset) comparator found.value in
-    word-written s t c call seg offset rank comparator new posts memory (with_bytes memory seg (with_swap (bytes_of memory seg) offset comparator new)) sound (rw (← m.is.leaves) m) refl (λ all. refl) found (rw stands refl)
+    let found = word-found s.limits c.rank posts memory call.seg call.offset call.rank call.comparator
+    (found-reply s.limits c.rank posts memory c.thread (CompareSwap call) (replies.Value call.comparator) (same_reply-same _ _ m.is.answered) refl) in
+    let stands = eq-eqb (word_at (bytes_of memory call.seg) call.offset) call.comparator found.value in
+    word-written s t c (CompareSwap call) call.seg call.offset call.rank call.comparator call.new posts memory (with_bytes memory call.seg (with_swap (bytes_of memory call.seg) call.offset call.comparator call.new))
+    sound (rw (← m.is.leaves) m) refl found (rw stands refl)
 
-pub swap-kept : (s t : State) (c : CallerId) (seg offset rank comparator new old : ℕ) → old ≢ comparator → step s (Called c (CompareSwap seg offset rank comparator new) (replies.Value old)) ≡ Ok t → IsOnlyCounted s t c.rank
-swap-kept s t c seg offset rank comparator new old apart h =
-    let call = CompareSwap seg offset rank comparator new in
-    let made = step-called s t c call (replies.Value old) h in
+pub swap-kept : (s t : State) (c : CallerId) (call : compare_swap.CompareSwap) (old : ℕ) → old ≢ call.comparator → step s (Called c (CompareSwap call) (replies.Value old)) ≡ Ok t → IsOnlyCounted s t c.rank
+swap-kept s t c call old apart h =
+    let made = step-called s t c (CompareSwap call) (replies.Value old) h in
     let m = made.3 in
     let posts = made.0 in
     let memory = made.1 in
-    let found = word-found s.limits c.rank posts memory seg offset rank old (found-reply s.limits c.rank posts memory c.thread call (replies.Value old) (same_reply-same _ _ m.is.answered) refl) in
-    let there = there-in-generation memory seg found.theirs.generation found.there in
-    let kept : made.2.memory ≡ memory = rw m.is.leaves (rw (differs (word_at (bytes_of memory seg) offset) found.value) (same-memory memory there.0 there.1)) in
+    let found = word-found s.limits c.rank posts memory call.seg call.offset call.rank old
+    (found-reply s.limits c.rank posts memory c.thread (CompareSwap call) (replies.Value old) (same_reply-same _ _ m.is.answered) refl) in
+    let there = there-in-generation memory call.seg found.theirs.generation found.there in
+    let kept : made.2.memory ≡ memory = rw m.is.leaves (rw (differs (word_at (bytes_of memory call.seg) call.offset) found.value) (same-memory memory there.0 there.1)) in
     let after : made.2.posts ≡ counted posts = rw m.is.leaves refl in
+    let reach = call_reach s.limits.ranks c.rank (CompareSwap call) in
     record {
       posts = posts;
       there = m.posts_there;
-      after = m.leaves ∙ rw (after, kept, set-there s.memories (memory_rank s.limits c.rank call) memory m.memory_there) refl;
+      after = m.leaves
+          ∙ ap (λ (x : List Posts). record s { posts = x; memories = memories_at reach c.rank made.2.memory s.memories })
+          (tells-none s.limits.ranks call.rank c.rank posts (CompareSwap call) (replies.Value old) (slice_set s.posts c.rank made.2.posts) ∙ ap (slice_set s.posts c.rank) after)
+          ∙ ap (λ (x : List Memory). record s { posts = slice_set s.posts c.rank (counted posts); memories = x })
+          (ap (λ (m' : Memory). memories_at reach c.rank m' s.memories) (kept ∙ m.worked) ∙ memories-same reach c.rank s.memories);
     }
   where
-    differs : (n : ℕ) → n ≡ old → (n == comparator) ≡ false
-    differs n is = go (n == comparator) refl
+    differs : (n : ℕ) → n ≡ old → (n == call.comparator) ≡ false
+    differs n is = go (n == call.comparator) refl
       where
-        go : (b : Bool) → (n == comparator) ≡ b → (n == comparator) ≡ false
-        go true same = absurd (apart (sym is ∙ eqb-true n comparator same))
+        go : (b : Bool) → (n == call.comparator) ≡ b → (n == call.comparator) ≡ false
+        go true same = absurd (apart (sym is ∙ eqb-true n call.comparator same))
         go false same = same
 
-    same-memory : (memory : Memory) (x : Segment) → segment_at memory seg ≡ Some x → with_bytes memory seg (bytes_of memory seg) ≡ memory
+    same-memory : (memory : Memory) (x : Segment) → segment_at memory call.seg ≡ Some x → with_bytes memory call.seg (bytes_of memory call.seg) ≡ memory
     same-memory memory x there =
-        let set = set-there memory.segments seg (Some x) (joined memory.segments seg x there) in
-        let item : option_map (λ (y : Segment). record y { bytes = bytes_of memory seg }) (segment_at memory seg) ≡ Some x = rw there refl in
-        ap (λ (segments : List (Option Segment)). (let m : Memory = record { segments = segments } in m)) (ap (λ (o : Option Segment). slice_set memory.segments seg o) item ∙ set)
+        let set = set-there memory.segments call.seg (Some x) (joined memory.segments call.seg x there) in
+        let item : option_map (λ (y : Segment). record y { bytes = bytes_of memory call.seg }) (segment_at memory call.seg) ≡ Some x = rw there refl in
+        ap (λ (segments : List (Option Segment)). (let m : Memory = record { segments = segments } in m)) (ap (λ (o : Option Segment). slice_set memory.segments call.seg o) item ∙ set)

@@ -1,10 +1,12 @@
 -- What a call answers, and what it leaves. A call of a rank `me` reads and changes that rank's posts and at most one memory:
 -- that of its rank or, for an atomic, of the rank that it names. A segment made known is also told to the rank that it
 -- names. What each call finds and leaves stands with its chapter.
-use Rattle.std.specs.Prelude.{ℕ, ◌+◌, ◌*◌, ◌&&◌, Option, None, Some, Result, Ok, Err, if◌then◌else◌, slice_set}
-use Rattle.gaspi_types.specs.CallRows.{entries_of, is_end}
+use Rattle.std.specs.Prelude.{ℕ, ◌+◌, ◌*◌, ◌&&◌, List, [], Option, None, Some, Result, Ok, Err, if◌then◌else◌, slice_set}
+use Rattle.gaspi_types.specs.CallRows.{row_of, entries_of, is_end}
 use Rattle.gaspi_types.specs.Replies.{is_done, is_idle}
 use Rattle.gaspi_types.specs.SegmentTables.{extent_in}
+use Rattle.gaspi_types.specs.declared.call_rows.Posting.{Posting}
+use Rattle.gaspi_types.specs.declared.entries.Kind.{Kind}
 use Rattle.gaspi_types.specs.declared.shapes.Limits.{Limits}
 use Rattle.gaspi_types.specs.declared.calls.Call.{Call}
 use Rattle.gaspi_types.specs.declared.calls.Call.TheVariants.{Alloc, Register, Delete, Store, Load, Write, Notify, WriteNotify, Wait, Waitsome, Reset, FetchAdd, CompareSwap, End}
@@ -27,22 +29,34 @@ use Rattle.gaspi_model.specs.declared.states.ThreadState.TheVariants as threads
 use Rattle.gaspi_model.specs.declared.states.Posts.{Posts}
 use Rattle.gaspi_model.specs.declared.states.Memory.{Memory}
 
--- what a call finds: its refusal, or a reply, or that it is not ready
+-- what a call finds that posts nothing: its refusal, or a reply, or that it is not ready
+abbrev pub plain_finds : Limits → ℕ → Posts → Memory → Call → Result (Option Reply) Refusal
+plain_finds limits me posts memory (Alloc call) = alloc_finds posts call
+plain_finds limits me posts memory (Register call) = register_finds limits posts call
+plain_finds limits me posts memory (Delete call) = delete_finds posts call
+plain_finds limits me posts memory (Store call) = store_finds posts call
+plain_finds limits me posts memory (Load call) = load_finds posts memory call
+plain_finds limits me posts memory (Wait call) = wait_finds posts call
+plain_finds limits me posts memory (Waitsome call) = waitsome_finds limits posts memory call
+plain_finds limits me posts memory (Reset call) = reset_finds limits posts memory call
+plain_finds limits me posts memory (FetchAdd call) = word_finds limits me posts memory call.seg call.offset call.rank
+plain_finds limits me posts memory (CompareSwap call) = word_finds limits me posts memory call.seg call.offset call.rank
+plain_finds limits me posts memory call = Ok (Some replies.Done)
+
+-- what a call asks to be appended that posts
+abbrev pub call_asks : Limits → ℕ → Posts → Call → Result (List Kind) Refusal
+call_asks limits me posts (Write call) = write_asks me posts call
+call_asks limits me posts (Notify call) = notify_asks limits me posts call
+call_asks limits me posts (WriteNotify call) = write_notify_asks limits me posts call
+call_asks limits me posts call = Ok []
+
+-- what a call finds
 abbrev pub call_finds : Limits → ℕ → Posts → Memory → Call → Result (Option Reply) Refusal
-call_finds limits me posts memory (Alloc call) = alloc_finds posts call
-call_finds limits me posts memory (Register call) = register_finds limits posts call
-call_finds limits me posts memory (Delete call) = delete_finds posts call
-call_finds limits me posts memory (Store call) = store_finds posts call
-call_finds limits me posts memory (Load call) = load_finds posts memory call
-call_finds limits me posts memory (Write call) = asked_finds limits posts call.rank call.queue (write_asks me posts call)
-call_finds limits me posts memory (Notify call) = asked_finds limits posts call.rank call.queue (notify_asks limits me posts call)
-call_finds limits me posts memory (WriteNotify call) = asked_finds limits posts call.rank call.queue (write_notify_asks limits me posts call)
-call_finds limits me posts memory (Wait call) = wait_finds posts call
-call_finds limits me posts memory (Waitsome call) = waitsome_finds limits posts memory call
-call_finds limits me posts memory (Reset call) = reset_finds limits posts memory call
-call_finds limits me posts memory (FetchAdd call) = word_finds limits me posts memory call.seg call.offset call.rank
-call_finds limits me posts memory (CompareSwap call) = word_finds limits me posts memory call.seg call.offset call.rank
-call_finds limits me posts memory End = Ok (Some replies.Done)
+call_finds limits me posts memory call = finds_by (row_of call).posting
+  where
+    finds_by : Option Posting → Result (Option Reply) Refusal
+    finds_by None = plain_finds limits me posts memory call
+    finds_by (Some to) = asked_finds limits posts to.rank to.queue (call_asks limits me posts call)
 
 abbrev pub ready_of : Result (Option Reply) Refusal → Ready
 ready_of (Ok None) = ready.NotReady
@@ -63,16 +77,20 @@ recorded_reply ready.NotReady = replies.Timeout
 
 -- What a call leaves that was answered neither with a refusal nor with a timeout.
 
--- in the posts of its rank
+-- in the posts of its rank, where it posts nothing
+abbrev pub plain_done : Posts → ℕ → Call → Posts
+plain_done posts thread (Alloc call) = with_own posts call.seg call.size
+plain_done posts thread (Delete call) = without_own posts call.seg
+plain_done posts thread (Wait call) = closed posts call.queue
+plain_done posts thread End = record posts { threads = slice_set posts.threads thread threads.Ended }
+plain_done posts thread call = posts
+
 abbrev pub posts_done : Limits → ℕ → Posts → ℕ → Call → Posts
-posts_done limits me posts thread (Alloc call) = with_own posts call.seg call.size
-posts_done limits me posts thread (Delete call) = without_own posts call.seg
-posts_done limits me posts thread (Write call) = with_post posts call.queue call.rank (write_asks me posts call)
-posts_done limits me posts thread (Notify call) = with_post posts call.queue call.rank (notify_asks limits me posts call)
-posts_done limits me posts thread (WriteNotify call) = with_post posts call.queue call.rank (write_notify_asks limits me posts call)
-posts_done limits me posts thread (Wait call) = closed posts call.queue
-posts_done limits me posts thread End = record posts { threads = slice_set posts.threads thread threads.Ended }
-posts_done limits me posts thread call = posts
+posts_done limits me posts thread call = done_by (row_of call).posting
+  where
+    done_by : Option Posting → Posts
+    done_by None = plain_done posts thread call
+    done_by (Some to) = with_post posts to.queue to.rank (call_asks limits me posts call)
 
 -- In the memory that it works on, where the posts were so before it. The bytes of a segment are changed by the words that
 -- say what a store and an atomic change.

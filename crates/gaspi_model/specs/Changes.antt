@@ -1,6 +1,10 @@
 -- What events change, in the words of what they are for.
-use Rattle.std.specs.Prelude.{◌≡◌, ◌≢◌, ℕ, ◌+◌, ◌<◌, ◌≤◌, Bool, true, false, List, length, remove, slice_get, slice_set, Option, None, Some}
-use Rattle.gaspi_types.specs.Lanes.{is_carried}
+use Rattle.std.specs.Prelude.{◌≡◌, ◌≢◌, ℕ, ◌+◌, ◌<◌, ◌≤◌, Bool, true, false, List, [], length, remove, slice_get, slice_set, Option, None, Some}
+use Rattle.gaspi_types.specs.Lanes.{is_posted, is_carried}
+use Rattle.gaspi_types.specs.SegmentBytes.{range_of}
+use Rattle.gaspi_types.specs.SegmentTables.{extent_in}
+use Rattle.gaspi_types.specs.declared.entries.Extent.{Extent}
+use Rattle.gaspi_types.specs.declared.entries.Phase.TheVariants.{Carried, Failed}
 use Rattle.gaspi_types.specs.declared.entries.Entry.{Entry}
 use Rattle.gaspi_types.specs.declared.entries.Kind.{Kind}
 use Rattle.gaspi_types.specs.declared.entries.Kind.TheVariants.{Write, Notify}
@@ -103,3 +107,78 @@ pub record IsPutDone (s t : State) (origin queue target number : ℕ) : Type 0 w
   pub same_generation : new_segment.generation ≡ old_segment.generation
   pub puts : Puts entry old_segment new_segment
   pub limits : t.limits ≡ s.limits
+
+-- A put that failed, since the target's segment of the entry's generation is gone: the entry with its number, which had
+-- taken its bytes, has failed in its place; its queue is broken with that target, and the target is corrupt for its origin;
+-- and nothing else has changed but the count of events of its origin. (state vector)
+pub record IsPutFailed (s t : State) (origin queue target number : ℕ) : Type 0 where
+  pub posts : Posts
+  pub q : Queue
+  pub lane : List Entry
+  pub place : ℕ
+  pub entry : Entry
+  pub memory : Memory
+  pub posts_there : slice_get s.posts origin ≡ Some posts
+  pub queue_there : slice_get posts.queues queue ≡ Some q
+  pub lane_there : slice_get q.lanes target ≡ Some lane
+  pub entry_there : slice_get lane place ≡ Some entry
+  pub numbered : entry.number ≡ number
+  pub carried : is_carried entry ≡ true
+  pub whole : q.broken ≡ None
+  pub memory_there : slice_get s.memories target ≡ Some memory
+  pub gone : (segment : Segment) → segment_at memory (target_segment entry.kind) ≡ Some segment → segment.generation ≢ target_generation entry.kind
+  pub after : t ≡ record s {
+    posts = slice_set s.posts origin (record (counted posts) {
+      queues = slice_set posts.queues queue (record q { broken = Some target; lanes = slice_set q.lanes target (slice_set lane place (record entry { phase = Failed })) });
+      corrupt = slice_set posts.corrupt target true;
+    });
+  }
+
+-- what an entry takes: a write the bytes of its range in the segment that its origin has in its generation, a notification
+-- nothing
+abbrev pub Takes : Entry → Memory → List ℕ → Type 0
+Takes e memory bytes = of_kind e.kind
+  where
+    of_kind : Kind → Type 0
+    of_kind (Write own target) =
+        (segment : Segment) × (segment_at memory own.segment ≡ Some segment) × (segment.generation ≡ own.generation) × (bytes ≡ range_of segment.bytes own.offset own.size)
+    of_kind (Notify target value) = bytes ≡ []
+
+-- A take: the entry with its number, which was posted, has taken its bytes in its place; and nothing else has changed but
+-- the count of events of its origin.
+pub record IsTaken (s t : State) (origin queue target number : ℕ) : Type 0 where
+  pub posts : Posts
+  pub q : Queue
+  pub lane : List Entry
+  pub place : ℕ
+  pub entry : Entry
+  pub memory : Memory
+  pub bytes : List ℕ
+  pub posts_there : slice_get s.posts origin ≡ Some posts
+  pub queue_there : slice_get posts.queues queue ≡ Some q
+  pub lane_there : slice_get q.lanes target ≡ Some lane
+  pub entry_there : slice_get lane place ≡ Some entry
+  pub numbered : entry.number ≡ number
+  pub posted : is_posted entry ≡ true
+  pub memory_there : slice_get s.memories origin ≡ Some memory
+  pub takes : Takes entry memory bytes
+  pub after : t ≡ record s {
+    posts = slice_set s.posts origin (record (counted posts) {
+      queues = slice_set posts.queues queue (record q { lanes = slice_set q.lanes target (slice_set lane place (record entry { phase = Carried bytes })) });
+    });
+  }
+
+-- the posts of a rank that is told a segment of an owner: what it knows of it has changed, and nothing else
+abbrev pub with_told : Posts → ℕ → ℕ → Extent → List (Option Extent) → Posts
+with_told peer owner segment extent table = record peer { known = slice_set peer.known owner (slice_set table segment (Some extent)) }
+
+-- A segment that is made known to a rank: that rank knows its present generation and size, and nothing else has changed but
+-- the count of events of its owner. To its owner it makes nothing known. (segments: segment_register)
+pub record IsRegistered (s t : State) (me segment rank : ℕ) : Type 0 where
+  pub posts : Posts
+  pub extent : Extent
+  pub posts_there : slice_get s.posts me ≡ Some posts
+  pub own_there : extent_in posts.own segment ≡ Some extent
+  pub itself : rank ≡ me → t ≡ record s { posts = slice_set s.posts me (counted posts) }
+  pub peer : (rank ≡ me → ⊥) → (p : Posts) × (table : List (Option Extent)) × (slice_get s.posts rank ≡ Some p) × (slice_get p.known me ≡ Some table)
+      × (t ≡ record s { posts = slice_set (slice_set s.posts me (counted posts)) rank (with_told p me segment extent table) })

@@ -2,6 +2,7 @@
 use Rattle.std.specs.Prelude.{◌≡◌, ℕ, ◌+◌, ◌-◌, ◌*◌, ◌<◌, ◌≤◌, true, nat_le, sum_by, count_by, List, [], ◌∷◌, length, slice_get, Option, None, Some}
 use Rattle.gaspi_types.specs.Lanes.{is_posted, is_failed, carried_count}
 use Rattle.gaspi_types.specs.declared.entries.Entry.{Entry}
+use Rattle.gaspi_types.specs.declared.entries.Extent.{Extent}
 use Rattle.gaspi_types.specs.World.{are_limits}
 use Rattle.gaspi_types.specs.declared.shapes.Limits.{Limits}
 use Rattle.gaspi_model.specs.State.{owed}
@@ -48,10 +49,20 @@ pub record IsSoundQueue (depth : ℕ) (q : Queue) : Type 0 where
   pub opened : q.open_count ≤ depth
   pub failed : queue_failed q ≡ failures q.broken
 
--- The posts of a rank: each queue has a lane to each rank, and is sound; what is recorded and owed has room; no event
+-- Every table of the posts of a rank has its length: one item for each queue, rank, thread and number of a segment.
+pub record HasTables (limits : Limits) (posts : Posts) : Type 0 where
+  pub queues : length posts.queues ≡ limits.queues
+  pub corrupt : length posts.corrupt ≡ limits.ranks
+  pub own : length posts.own ≡ 32
+  pub known : length posts.known ≡ limits.ranks
+  pub known_segments : (rank : ℕ) (table : List (Option Extent)) → slice_get posts.known rank ≡ Some table → length table ≡ 32
+  pub threads : length posts.threads ≡ 4
+
+-- The posts of a rank: every table has its length; each queue has a lane to each rank, and is sound; what is recorded and owed has room; no event
 -- gave more than 256 numbers to entries, nor a number of a segment more than one generation; and the numbers of each lane
 -- rise, and are below the next one.
 pub record IsSoundPosts (limits : Limits) (posts : Posts) : Type 0 where
+  pub tables : HasTables limits posts
   pub lanes : (queue : ℕ) (q : Queue) → slice_get posts.queues queue ≡ Some q → length q.lanes ≡ limits.ranks
   pub room : posts.events + owed posts ≤ limits.events
   pub numbers : posts.next ≤ 256 * posts.events

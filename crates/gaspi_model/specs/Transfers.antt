@@ -1,5 +1,5 @@
 -- Takes and puts: what a transfer may do, and what it leaves. (GASPI: one-sided communication, notification order)
-use Rattle.std.specs.Prelude.{ℕ, Bool, true, false, List, [], ◌∷◌, remove, Option, None, Some, Result, Ok, Err, if◌then◌else◌, slice_get, slice_set, is_none}
+use Rattle.std.specs.Prelude.{nat_lt, ◌==◌, ◌||◌, ◌&&◌, ℕ, Bool, true, false, List, [], ◌∷◌, remove, Option, None, Some, Result, Ok, Err, if◌then◌else◌, slice_get, slice_set, is_none}
 use Rattle.std.specs.List.{flat_map, enumerate_from}
 use Rattle.gaspi_types.specs.Checks.{◌>>=◌, check, found}
 use Rattle.gaspi_types.specs.SegmentBytes.{range_of, with_range}
@@ -158,3 +158,10 @@ rank_transfers limits (origin, posts) = flat_map (queue_transfers origin limits)
 
 abbrev pub transfers : Limits → List Posts → List Transfer
 transfers limits posts = flat_map (rank_transfers limits) (enumerate_from 0 posts)
+
+-- the order of transfers: by origin, queue, target and number
+abbrev pub is_earlier : Transfer → Transfer → Bool
+is_earlier a b =
+    nat_lt a.origin b.origin
+    || ((a.origin == b.origin) && (nat_lt a.queue b.queue
+    || ((a.queue == b.queue) && (nat_lt a.target b.target || ((a.target == b.target) && nat_lt a.number b.number)))))

@@ -1,34 +1,46 @@
 //! Laws of the machine: the contracts of functions that do nothing.
 
-ghost use Rattle.std.specs.Prelude.{◌≡◌, ◌≢◌, ℕ, ◌+◌, ◌%◌, ◌^◌, ◌<◌, ◌≤◌, ◌∷◌, ◌++◌, [], List, Ok, Some, IsOk, true, false, slice_get};
+ghost use Rattle.std.specs.Prelude.{◌≡◌, ◌≢◌, ℕ, ◌+◌, ◌%◌, ◌^◌, ◌<◌, ◌≤◌, ◌∷◌, ◌++◌, [], List, Ok, Some, IsOk, true, false, length, slice_get};
 ghost use Rattle.byteorder.specs.Endian.{little_bytes};
-ghost use Rattle.gaspi_types.specs.Need.{need_of};
+ghost use Rattle.gaspi_types.specs.CallRows.{need_of};
 ghost use Rattle.gaspi_types.specs.Replies.{is_idle};
-ghost use Rattle.std.specs.List.{list_any};
+ghost use Rattle.std.specs.List.{list_any, count_by};
 ghost use Rattle.gaspi_types.specs.World.{World, IsWorld, is_caller};
 ghost use Rattle.gaspi_types.specs.declared.calls.Call.{Call};
-ghost use Rattle.gaspi_types.specs.declared.calls.Call.TheVariants.{Store, Write, Notify, WriteNotify, FetchAdd, CompareSwap, End};
+ghost use Rattle.gaspi_types.specs.declared.calls.Call.TheVariants.{Register, Store, Write, Notify, WriteNotify, FetchAdd, CompareSwap, End};
+ghost use Rattle.gaspi_types.specs.declared.calls.segments.Register as register;
+ghost use Rattle.gaspi_types.specs.declared.calls.memory.Store as store;
+ghost use Rattle.gaspi_types.specs.declared.calls.posts.Write as write;
+ghost use Rattle.gaspi_types.specs.declared.calls.posts.Notify as notify;
+ghost use Rattle.gaspi_types.specs.declared.calls.posts.WriteNotify as write_notify;
+ghost use Rattle.gaspi_types.specs.declared.calls.atomics.FetchAdd as fetch_add;
+ghost use Rattle.gaspi_types.specs.declared.calls.atomics.CompareSwap as compare_swap;
 ghost use Rattle.gaspi_types.specs.declared.events.Event.{Event};
-ghost use Rattle.gaspi_types.specs.declared.events.Event.TheVariants.{Called, Put};
-ghost use Rattle.gaspi_types.specs.declared.events.Outcome.TheVariants.{Applied};
+ghost use Rattle.gaspi_types.specs.declared.events.Event.TheVariants.{Called, Take, Put};
+ghost use Rattle.gaspi_types.specs.declared.events.Outcome.TheVariants.{Applied, Failed};
+ghost use Rattle.gaspi_types.specs.declared.events.Outcome.{Outcome};
 ghost use Rattle.gaspi_types.specs.declared.events.Transfer.{Transfer};
 ghost use Rattle.gaspi_types.specs.declared.replies.Ready.{Ready};
 ghost use Rattle.gaspi_types.specs.declared.replies.Reply.{Reply};
 ghost use Rattle.gaspi_types.specs.declared.replies.Reply.TheVariants as replies;
 ghost use Rattle.gaspi_types.specs.declared.shapes.CallerId.{CallerId};
 ghost use Rattle.gaspi_model.specs.Calls.{recorded_reply};
-ghost use Rattle.gaspi_model.specs.Changes.{IsOnlyCounted, IsPutDone, IsWritten, is_corrupt};
+ghost use Rattle.gaspi_model.specs.Changes.{IsOnlyCounted, IsPutDone, IsPutFailed, IsTaken, IsRegistered, IsWritten, is_corrupt};
 ghost use Rattle.gaspi_model.specs.Order.{IsNotificationStanding, IsWriteStanding};
-ghost use Rattle.gaspi_model.specs.Shards.{AgreeOn, ComeToSame, HaveSamePart, is_shard, owner_of, shards};
-ghost use Rattle.gaspi_model.specs.Settled.{AreLanesEmpty};
+ghost use Rattle.gaspi_model.specs.Shards.{AgreeOn, ComeToSame, HaveSamePart, is_shard, same_shard, footprint, numbers_of, is_among};
+ghost use Rattle.gaspi_model.specs.declared.states.Shard.{Shard};
+ghost use Rattle.gaspi_model.specs.declared.states.Shard.TheVariants as shards;
+ghost use Rattle.gaspi_model.specs.Settled.{AreLanesEmpty, IsSettled};
 ghost use Rattle.gaspi_model.specs.State.{opening};
-ghost use Rattle.gaspi_model.specs.Step.{step, reached, own_calls, is_legal, ends_caller, answer_in, is_active, room_taken, transfer_event};
+ghost use Rattle.gaspi_model.specs.Step.{step, owner_of, after, reached, own_calls, is_legal, ends_caller, answer_in, is_active, room_taken, transfer_event};
 ghost use Rattle.gaspi_model.specs.Sound.{IsSound, events_left};
-ghost use Rattle.gaspi_model.specs.Transfers.{transfers};
+ghost use Rattle.gaspi_model.specs.Transfers.{transfers, is_earlier};
 ghost use Rattle.gaspi_model.specs.declared.states.Posts.{Posts};
+ghost use Rattle.gaspi_model.specs.declared.states.Memory.{Memory};
 ghost use Rattle.gaspi_model.specs.declared.states.State.{State};
 
-/// The opening state is sound, and every step keeps a state sound, so every state of a legal history is: what a rank has
+/// The opening state is sound, and every step keeps a state sound, so every state of a legal history is: every table has an
+/// item for each queue, rank, thread, number of a segment and slot; what a rank has
 /// recorded and owes is at most EVENTS; its next entry number is at most 256 times its events, and the next generation of
 /// a segment number at most one more than its events; the numbers of a lane rise and are below its origin's next number; a
 /// lane has at most DEPTH carried entries; the entries of a queue from its least posted one on are at most its open count,
@@ -40,6 +52,8 @@ pub fn soundness()
     ensures steps { (s t : State) (e : Event) → IsSound s → step s e ≡ Ok t → IsSound t }
     ensures histories { (w : World) (history : List Event) (s : State) → IsWorld w → reached w history ≡ Ok s → IsSound s }
     ensures limits { (s t : State) (e : Event) → step s e ≡ Ok t → t.limits ≡ s.limits }
+    // A memory has a place for each number of a segment.
+    ensures segments { (s : State) (rank : ℕ) (memory : Memory) → IsSound s → slice_get s.memories rank ≡ Some memory → length memory.segments ≡ 32 }
     // Each event takes one of the events that are left.
     ensures counts { (s t : State) (e : Event) → IsSound s → step s e ≡ Ok t → events_left t + 1 ≡ events_left s }
     // A caller goes on until its end.
@@ -58,21 +72,29 @@ pub fn enabled()
 {}
 
 /// What events change. A put that is made changes exactly the range or the one slot that its entry states, and takes the
-/// entry out of its lane; a store changes exactly its range, and an atomic exactly its word, a `compare_swap` only where
+/// entry out of its lane; one that fails leaves its entry failed in its place, its queue broken and its target corrupt; a
+/// take takes the bytes that the entry's source has now; a segment that is made known is known in its present generation and
+/// size to the rank that is named; a store changes exactly its range, and an atomic exactly its word, a `compare_swap` only where
 /// it answers the comparator; a refusal or a timeout changes nothing; and in each case nothing else has changed but the
-/// count of events. (GASPI: one-sided communication, notifications, atomics, timeouts)
+/// count of events. (GASPI: one-sided communication, notifications, state vector, segments, atomics, timeouts)
 pub fn changes()
     ensures put { (s t : State) (origin queue target number : ℕ) → IsSound s → step s (Put origin queue target number Applied) ≡ Ok t
         → IsPutDone s t origin queue target number }
+    ensures failed { (s t : State) (origin queue target number : ℕ) → IsSound s → step s (Put origin queue target number Failed) ≡ Ok t
+        → IsPutFailed s t origin queue target number }
+    ensures taken { (s t : State) (origin queue target number : ℕ) (outcome : Outcome) → IsSound s → step s (Take origin queue target number outcome) ≡ Ok t
+        → IsTaken s t origin queue target number }
+    ensures registered { (s t : State) (c : CallerId) (call : register.Register) → IsSound s → step s (Called c (Register call) replies.Done) ≡ Ok t
+        → IsRegistered s t c.rank call.seg call.rank }
     ensures idle { (s t : State) (c : CallerId) (call : Call) (reply : Reply) → is_idle reply ≡ true → step s (Called c call reply) ≡ Ok t
         → IsOnlyCounted s t c.rank }
-    ensures store { (s t : State) (c : CallerId) (seg offset : ℕ) (bytes : List ℕ) → IsSound s → step s (Called c (Store seg offset bytes) replies.Done) ≡ Ok t
-        → IsWritten s t c.rank c.rank seg offset bytes }
-    ensures fetch_add { (s t : State) (c : CallerId) (seg offset rank value old : ℕ) → IsSound s → step s (Called c (FetchAdd seg offset rank value) (replies.Value old)) ≡ Ok t
-        → IsWritten s t c.rank rank seg offset (little_bytes 8 ((old + value) % 2 ^ 64)) }
-    ensures swapped { (s t : State) (c : CallerId) (seg offset rank comparator new : ℕ) → IsSound s → step s (Called c (CompareSwap seg offset rank comparator new) (replies.Value comparator)) ≡ Ok t
-        → IsWritten s t c.rank rank seg offset (little_bytes 8 new) }
-    ensures kept { (s t : State) (c : CallerId) (seg offset rank comparator new old : ℕ) → old ≢ comparator → step s (Called c (CompareSwap seg offset rank comparator new) (replies.Value old)) ≡ Ok t
+    ensures store { (s t : State) (c : CallerId) (call : store.Store) → IsSound s → step s (Called c (Store call) replies.Done) ≡ Ok t
+        → IsWritten s t c.rank c.rank call.seg call.offset call.bytes }
+    ensures fetch_add { (s t : State) (c : CallerId) (call : fetch_add.FetchAdd) (old : ℕ) → IsSound s → step s (Called c (FetchAdd call) (replies.Value old)) ≡ Ok t
+        → IsWritten s t c.rank call.rank call.seg call.offset (little_bytes 8 ((old + call.value) % 2 ^ 64)) }
+    ensures swapped { (s t : State) (c : CallerId) (call : compare_swap.CompareSwap) → IsSound s → step s (Called c (CompareSwap call) (replies.Value call.comparator)) ≡ Ok t
+        → IsWritten s t c.rank call.rank call.seg call.offset (little_bytes 8 call.new) }
+    ensures kept { (s t : State) (c : CallerId) (call : compare_swap.CompareSwap) (old : ℕ) → old ≢ call.comparator → step s (Called c (CompareSwap call) (replies.Value old)) ≡ Ok t
         → IsOnlyCounted s t c.rank }
 {}
 
@@ -86,19 +108,19 @@ pub fn corruption()
 /// In a legal history, where a write stands in a lane after some events, and later a notification of that lane with a
 /// greater number is put, the write was put in between. (GASPI: notification order)
 pub fn notification_order()
-    ensures write { (w : World) (history : List Event) (c : CallerId) (seg offset rank rseg roffset size queue : ℕ) (s : State) (posts : Posts)
+    ensures write { (w : World) (history : List Event) (c : CallerId) (call : write.Write) (s : State) (posts : Posts)
         → IsWorld w → reached w history ≡ Ok s → slice_get s.posts c.rank ≡ Some posts
-        → is_legal w (history ++ Called c (Write seg offset rank rseg roffset size queue) replies.Done ∷ []) ≡ true
-        → IsWriteStanding w (history ++ Called c (Write seg offset rank rseg roffset size queue) replies.Done ∷ []) c.rank queue rank posts.next }
-    ensures notify { (w : World) (history : List Event) (c : CallerId) (rseg rank note value queue : ℕ) (s : State) (posts : Posts)
+        → is_legal w (history ++ Called c (Write call) replies.Done ∷ []) ≡ true
+        → IsWriteStanding w (history ++ Called c (Write call) replies.Done ∷ []) c.rank call.queue call.rank posts.next }
+    ensures notify { (w : World) (history : List Event) (c : CallerId) (call : notify.Notify) (s : State) (posts : Posts)
         → IsWorld w → reached w history ≡ Ok s → slice_get s.posts c.rank ≡ Some posts
-        → is_legal w (history ++ Called c (Notify rseg rank note value queue) replies.Done ∷ []) ≡ true
-        → IsNotificationStanding w (history ++ Called c (Notify rseg rank note value queue) replies.Done ∷ []) c.rank queue rank posts.next }
-    ensures write_notify { (w : World) (history : List Event) (c : CallerId) (seg offset rank rseg roffset size note value queue : ℕ) (s : State) (posts : Posts)
+        → is_legal w (history ++ Called c (Notify call) replies.Done ∷ []) ≡ true
+        → IsNotificationStanding w (history ++ Called c (Notify call) replies.Done ∷ []) c.rank call.queue call.rank posts.next }
+    ensures write_notify { (w : World) (history : List Event) (c : CallerId) (call : write_notify.WriteNotify) (s : State) (posts : Posts)
         → IsWorld w → reached w history ≡ Ok s → slice_get s.posts c.rank ≡ Some posts
-        → is_legal w (history ++ Called c (WriteNotify seg offset rank rseg roffset size note value queue) replies.Done ∷ []) ≡ true
-        → IsWriteStanding w (history ++ Called c (WriteNotify seg offset rank rseg roffset size note value queue) replies.Done ∷ []) c.rank queue rank posts.next
-        × IsNotificationStanding w (history ++ Called c (WriteNotify seg offset rank rseg roffset size note value queue) replies.Done ∷ []) c.rank queue rank (posts.next + 1) }
+        → is_legal w (history ++ Called c (WriteNotify call) replies.Done ∷ []) ≡ true
+        → IsWriteStanding w (history ++ Called c (WriteNotify call) replies.Done ∷ []) c.rank call.queue call.rank posts.next
+        × IsNotificationStanding w (history ++ Called c (WriteNotify call) replies.Done ∷ []) c.rank call.queue call.rank (posts.next + 1) }
     ensures order { (w : World) (earlier later rest : List Event) (origin queue target m n : ℕ)
         → is_legal w (earlier ++ later ++ Put origin queue target n Applied ∷ rest) ≡ true
         → IsWriteStanding w earlier origin queue target m → IsNotificationStanding w (earlier ++ later) origin queue target n → m < n
@@ -110,20 +132,45 @@ pub fn prefixes()
     ensures { (w : World) (earlier later : List Event) → is_legal w (earlier ++ later) ≡ true → is_legal w earlier ≡ true }
 {}
 
-/// An event is a matter of its shards. It leaves every other part as it was; whether it is a step, the cause where it is
-/// none, and the new parts of its shards depend on the limits and on those parts alone; and which shards it has, its
-/// owner's among them, depends on its owner's part.
+/// An event is a matter of its shards: the posts of its owner's rank, and with them at most the memory or the posts that it
+/// touches. It leaves every other shard as it was; whether it is a step, the cause where it is none, and the new parts of
+/// its shards depend on the limits and on those parts alone; and which shards it has, its owner's posts among them and none
+/// twice, depends on its owner's posts and on the event without its reply.
 pub fn locality()
-    ensures frame { (s t : State) (e : Event) (rank : ℕ) → step s e ≡ Ok t → is_shard (shards s e) rank ≡ false → HaveSamePart t s rank }
-    ensures determined { (s s' : State) (e : Event) → AgreeOn (shards s e) s s' → ComeToSame (shards s e) (step s e) (step s' e) }
-    ensures owner { (s : State) (e : Event) → is_shard (shards s e) (owner_of e) ≡ true }
-    ensures shards { (s s' : State) (e : Event) → s.limits ≡ s'.limits → HaveSamePart s s' (owner_of e) → shards s e ≡ shards s' e }
+    ensures frame { (s t : State) (e : Event) (shard : Shard) → step s e ≡ Ok t → is_shard (footprint s e) shard ≡ false → HaveSamePart t s shard }
+    ensures determined { (s s' : State) (e : Event) → AgreeOn (is_shard (footprint s e)) s s' → ComeToSame s s' (step s e) (step s' e) }
+    ensures owner { (s : State) (e : Event) → is_shard (footprint s e) (shards.Posts (owner_of e)) ≡ true }
+    ensures footprint { (s s' : State) (e : Event) → s.limits ≡ s'.limits → HaveSamePart s s' (shards.Posts (owner_of e)) → footprint s e ≡ footprint s' e }
+    ensures reply { (s : State) (c : CallerId) (call : Call) (reply reply' : Reply) → footprint s (Called c call reply) ≡ footprint s (Called c call reply') }
+    ensures once { (s : State) (e : Event) (shard : Shard) → count_by (λ x. same_shard x shard) (footprint s e) ≤ 1 }
+{}
+
+/// The same of coarser shards, where each shard has a number and those of one number are one: so of a rank's posts and
+/// memory as one shard, or of the whole state.
+pub fn coarser_locality()
+    ensures frame { (number : Shard → ℕ) (s t : State) (e : Event) (shard : Shard) → step s e ≡ Ok t → is_among (numbers_of number s e) (number shard) ≡ false
+        → HaveSamePart t s shard }
+    ensures determined { (number : Shard → ℕ) (s s' : State) (e : Event) → AgreeOn (λ shard. is_among (numbers_of number s e) (number shard)) s s'
+        → ComeToSame s s' (step s e) (step s' e) }
+    ensures owner { (number : Shard → ℕ) (s : State) (e : Event) → is_among (numbers_of number s e) (number (shards.Posts (owner_of e))) ≡ true }
 {}
 
 /// Where no transfer may come next, every lane of a queue that is not broken is empty: nothing stands still for want of
-/// room.
+/// room. A state that is settled stays so, whatever legally comes after it.
 pub fn settling()
-    ensures { (s : State) → IsSound s → transfers s.limits s.posts ≡ [] → AreLanesEmpty s }
+    ensures empties { (s : State) → IsSound s → transfers s.limits s.posts ≡ [] → AreLanesEmpty s }
+    ensures stays { (s t : State) (events : List Event) → IsSettled s → after s events ≡ Ok t → IsSettled t }
+{}
+
+/// The transfers that may come next are listed exactly: one whose event is a step stands in the list, and (as `enabled`
+/// says) what stands there is a step; they stand by origin, queue, target and number, so none of them twice.
+pub fn listing()
+    ensures take { (s t : State) (origin queue target number : ℕ) (outcome : Outcome) → step s (Take origin queue target number outcome) ≡ Ok t
+        → (k : ℕ) × (slice_get (transfers s.limits s.posts) k ≡ Some (record { origin = origin; queue = queue; target = target; number = number; put = false })) }
+    ensures put { (s t : State) (origin queue target number : ℕ) (outcome : Outcome) → step s (Put origin queue target number outcome) ≡ Ok t
+        → (k : ℕ) × (slice_get (transfers s.limits s.posts) k ≡ Some (record { origin = origin; queue = queue; target = target; number = number; put = true })) }
+    ensures order { (s : State) (j k : ℕ) (a b : Transfer) → IsSound s → j < k → slice_get (transfers s.limits s.posts) j ≡ Some a → slice_get (transfers s.limits s.posts) k ≡ Some b
+        → is_earlier a b ≡ true }
 {}
 
 /// A caller that is active after a history is one of the world's, and has not recorded its end: so one that has is

@@ -5,7 +5,7 @@ mod laws;
 mod states;
 
 pub use laws::{
-    changes, corruption, enabled, endings, locality, notification_order, prefixes, settling,
-    soundness,
+    changes, coarser_locality, corruption, enabled, endings, listing, locality, notification_order,
+    prefixes, settling, soundness,
 };
 pub use states::{Memory, Posts, Queue, Segment, Shard, State, StepFault, ThreadState, Why};

@@ -1,1 +1,1 @@
-pub mod DeclaredCallers
+pub mod Declarations

@@ -62,6 +62,8 @@ pub record IsWorld (w : World) : Type 0 where
   pub callers : (rank : ℕ) → count_by (λ c. c.rank == rank) w.callers ≤ w.limits.events
   pub once : (rank thread : ℕ) → count_by (is_caller rank thread) w.callers ≤ 1
   pub within : (place : ℕ) (c : CallerId) → slice_get w.callers place ≡ Some c → (c.rank < w.limits.ranks) × (c.thread < 4)
+  pub segments : (place : ℕ) (d : Declared) → slice_get w.segments place ≡ Some d → (d.rank < w.limits.ranks) × (d.segment < 32) × (is_segment_size d.size ≡ true)
+  pub declared_once : (rank segment : ℕ) → count_by (is_segment rank segment) w.segments ≤ 1
 
 -- the world after a declaration that was tried: changed as the outcome says, and unchanged where it was refused
 abbrev pub Declares : Result (Unit {0}) ShapeFault → World → World → Result World ShapeFault → Type 0

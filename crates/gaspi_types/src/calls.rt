@@ -10,14 +10,13 @@ mod posts;
 mod queues;
 mod segments;
 
+use crate::memory::NoMemory;
 pub use atomics::{CompareSwap, FetchAdd};
 pub use memory::{Load, Store};
 pub use notifications::{Reset, Waitsome};
 pub use posts::{Notify, Write, WriteNotify};
 pub use queues::Wait;
 pub use segments::{Alloc, Delete, Register};
-
-use crate::memory::NoMemory;
 use std::alloc::Global;
 
 /// A call as its caller wrote it, without its timeout: ids, ranks, offsets and sizes are any numbers, and a call

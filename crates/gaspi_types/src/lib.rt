@@ -17,8 +17,8 @@ mod touches;
 
 pub use call_rows::{CallRow, Posting, need};
 pub use calls::{
-    Alloc, Call, CompareSwap, Delete, FetchAdd, Load, Notify, Register, Reset, Store, Timeout, Wait,
-    Waitsome, Write, WriteNotify,
+    Alloc, Call, CompareSwap, Delete, FetchAdd, Load, Notify, Register, Reset, Store, Timeout,
+    Wait, Waitsome, Write, WriteNotify,
 };
 pub use collectives::{Coll, NumType, Numbers, Op, Stage};
 pub use comparisons::same_reply;

@@ -219,8 +219,10 @@ impl Shape {
     pub fn add_segment(&mut self, rank: u64, seg: u64, size: u64) -> Result<(), ShapeFault>
         ensures { Declares result self.old self.new (segment_added self.old rank seg size) }
     {
-        let within = rank < u64::from(self.limits.ranks) && seg < 32 && is_segment_size(size);
-        if !within {
+        if rank >= u64::from(self.limits.ranks) || seg >= 32 {
+            return Err(ShapeFault::Limit);
+        }
+        if !is_segment_size(size) {
             return Err(ShapeFault::Limit);
         }
         if has_segment(self.segments.as_slice(), rank, seg) {

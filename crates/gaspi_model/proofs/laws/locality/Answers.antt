@@ -1,4 +1,4 @@
-use Rattle.gaspi_model.proofs.LocalSteps.{frame, determined, owner-is-shard, shards-by-owner}
+use Rattle.gaspi_model.proofs.LocalSteps.{frame, determined, owner-among, footprint-by-owner, footprint-by-call, once}
 use Rattle.gaspi_model.proofs.laws.locality.Goals as goal
 
 pub returns-clause-frame : goal.returns-clause-frame
@@ -8,7 +8,13 @@ pub returns-clause-determined : goal.returns-clause-determined
 returns-clause-determined c = determined
 
 pub returns-clause-owner : goal.returns-clause-owner
-returns-clause-owner c = owner-is-shard
+returns-clause-owner c = owner-among
 
-pub returns-clause-shards : goal.returns-clause-shards
-returns-clause-shards c = shards-by-owner
+pub returns-clause-footprint : goal.returns-clause-footprint
+returns-clause-footprint c = footprint-by-owner
+
+pub returns-clause-reply : goal.returns-clause-reply
+returns-clause-reply c = footprint-by-call
+
+pub returns-clause-once : goal.returns-clause-once
+returns-clause-once c = once

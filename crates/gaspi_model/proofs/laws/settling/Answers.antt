@@ -1,5 +1,9 @@
 use Rattle.gaspi_model.proofs.EmptyLanes.{lanes-empty}
+use Rattle.gaspi_model.proofs.StaysSettled.{stays-settled}
 use Rattle.gaspi_model.proofs.laws.settling.Goals as goal
 
-pub returns : goal.returns
-returns c = lanes-empty
+pub returns-clause-empties : goal.returns-clause-empties
+returns-clause-empties c = lanes-empty
+
+pub returns-clause-stays : goal.returns-clause-stays
+returns-clause-stays c = stays-settled

@@ -1,5 +1,5 @@
 use Rattle.std.proofs.Common.{sym, ◌∙◌, arith}
-use Rattle.gaspi_types.proofs.DeclaredCallers.{IsWorld-counted}
+use Rattle.gaspi_types.proofs.Declarations.{IsWorld-counted}
 use Rattle.gaspi_types.proofs.shapes.Shape.add_caller.Goals as goal
 
 pub invariant_of-self-2 : goal.invariant_of-self-2

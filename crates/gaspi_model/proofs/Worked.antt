@@ -1,0 +1,280 @@
+-- In a sound state the memory that an event works on is there: its owner's, or that of a rank that it names.
+use Rattle.std.proofs.Common.{◌≡◌, ℕ, ◌<◌, Bool, true, false, ◌==◌, nat_lt, List, length, Option, None, Some, Result, Ok, Err, refl, sym, ap, ◌∙◌, subst, arith, if◌then◌else◌}
+use Rattle.std.specs.List.{slice_get, slice_set}
+use Rattle.std.proofs.lemmas.Bool.{ltb-true, lt-ltb, eqb-true}
+use Rattle.std.proofs.lemmas.Option.{slice_get_within}
+use Rattle.gaspi_types.specs.CallRows.{row_of}
+use Rattle.gaspi_types.specs.Touches.{reach_of}
+use Rattle.gaspi_types.specs.Replies.{is_idle, same_reply}
+use Rattle.gaspi_types.specs.declared.shapes.Limits.{Limits}
+use Rattle.gaspi_types.specs.declared.shapes.CallerId.{CallerId}
+use Rattle.gaspi_types.specs.declared.calls.Call.{Call}
+use Rattle.gaspi_types.specs.declared.calls.Call.TheVariants.{Alloc, Delete, Store, Load, Waitsome, Reset, FetchAdd, CompareSwap}
+use Rattle.gaspi_types.specs.declared.events.Outcome.{Outcome}
+use Rattle.gaspi_types.specs.declared.events.Event.TheVariants.{Called, Take, Put}
+use Rattle.gaspi_types.specs.declared.replies.Reply.{Reply}
+use Rattle.gaspi_types.specs.declared.touches.Touch.{Touch}
+use Rattle.gaspi_types.specs.declared.touches.Touch.TheVariants as touches
+use Rattle.gaspi_types.specs.declared.touches.Reach.{Reach}
+use Rattle.gaspi_types.specs.declared.touches.Reach.TheVariants.{Alone, OwnMemory, PeerMemory, PeerPosts}
+use Rattle.gaspi_model.specs.State.{thread_at, is_running}
+use Rattle.gaspi_model.specs.Calls.{call_finds, answer, recorded_reply, ready_of, memory_done, memory_after}
+use Rattle.gaspi_model.specs.AtomicCalls.{word_finds}
+use Rattle.gaspi_model.specs.Parts.{memory_or_none}
+use Rattle.gaspi_model.specs.Transfers.{Found, Worked}
+use Rattle.gaspi_model.specs.Step.{step}
+use Rattle.gaspi_model.specs.Sound.{IsSound}
+use Rattle.gaspi_model.specs.declared.states.Posts.{Posts}
+use Rattle.gaspi_model.specs.declared.states.Memory.{Memory}
+use Rattle.gaspi_model.specs.declared.states.State.{State}
+use Rattle.gaspi_model.proofs.FoundReplies.{found-reply}
+use Rattle.gaspi_model.proofs.Same.{same_reply-same}
+use Rattle.gaspi_model.proofs.Tables.{set-there, there-within}
+use Rattle.gaspi_model.proofs.Told.{told}
+use Rattle.gaspi_model.proofs.Made.{IsTake, IsPut, IsCalled, memory_at, memories_at, call_reach, put_reach, IsCalledStep, IsTakeStep, IsPutStep, step-called, step-take, step-put}
+
+-- there is a memory for each rank
+pub record HasMemories (s : State) : Type 0 where
+  pub ranks : length s.posts ≡ s.limits.ranks
+  pub memories : length s.memories ≡ s.limits.ranks
+
+-- the rank whose memory an event of that reach works on; where it works on none, its owner's
+abbrev pub memory_place : Reach → ℕ → ℕ
+memory_place Alone me = me
+memory_place OwnMemory me = me
+memory_place (PeerMemory rank) me = rank
+memory_place (PeerPosts rank) me = me
+
+abbrev pub memory_rank : Limits → ℕ → Call → ℕ
+memory_rank limits me call = memory_place (call_reach limits.ranks me call) me
+
+-- that is a rank
+place-within : (ranks me : ℕ) (touch : Touch) → me < ranks → memory_place (reach_of ranks me touch) me < ranks
+place-within ranks me touches.Nothing less = less
+place-within ranks me touches.OwnMemory less = less
+place-within ranks me (touches.MemoryOf r) less = go (r == me) (nat_lt r ranks) refl
+  where
+    go : (b c : Bool) → nat_lt r ranks ≡ c → memory_place (if b then OwnMemory else (if c then PeerMemory r else Alone)) me < ranks
+    go true c is = less
+    go false true is = ltb-true r ranks is
+    go false false is = less
+place-within ranks me (touches.PostsOf r) less = go (r == me) (nat_lt r ranks)
+  where
+    go : (b c : Bool) → memory_place (if b then Alone else (if c then PeerPosts r else Alone)) me < ranks
+    go true c = less
+    go false true = less
+    go false false = less
+
+-- whether an event of that reach works on no memory
+abbrev is_unworked : Reach → Bool
+is_unworked Alone = true
+is_unworked OwnMemory = false
+is_unworked (PeerMemory rank) = false
+is_unworked (PeerPosts rank) = true
+
+-- An atomic that works on no memory names no rank.
+word-unworked : (limits : Limits) (me : ℕ) (posts : Posts) (m : Memory) (seg offset rank : ℕ) → is_unworked (reach_of limits.ranks me (touches.MemoryOf rank)) ≡ true → nat_lt rank limits.ranks ≡ false
+word-unworked limits me posts m seg offset rank h = go (rank == me) (nat_lt rank limits.ranks) refl h
+  where
+    go : (b c : Bool) → nat_lt rank limits.ranks ≡ c → is_unworked (if b then OwnMemory else (if c then PeerMemory rank else Alone)) ≡ true → nat_lt rank limits.ranks ≡ false
+    go true c is h = absurd (let no : ⊥ = cc in no)
+    go false true is h = absurd (let no : ⊥ = cc in no)
+    go false false is h = is
+
+-- A call that works on no memory finds the same whatever the memory is, and leaves it.
+finds-unworked : (limits : Limits) (me : ℕ) (posts : Posts) (m m' : Memory) (call : Call) → is_unworked (call_reach limits.ranks me call) ≡ true
+    → call_finds limits me posts m call ≡ call_finds limits me posts m' call
+finds-unworked limits me posts m m' (Load call) h = absurd (let no : ⊥ = cc in no)
+finds-unworked limits me posts m m' (Waitsome call) h = absurd (let no : ⊥ = cc in no)
+finds-unworked limits me posts m m' (Reset call) h = absurd (let no : ⊥ = cc in no)
+finds-unworked limits me posts m m' (FetchAdd call) h = rw (word-unworked limits me posts m call.seg call.offset call.rank h) refl
+finds-unworked limits me posts m m' (CompareSwap call) h = rw (word-unworked limits me posts m call.seg call.offset call.rank h) refl
+finds-unworked limits me posts m m' other h = refl
+
+done-unworked : (limits : Limits) (me : ℕ) (posts : Posts) (m : Memory) (call : Call) (reply : Reply) → is_unworked (call_reach limits.ranks me call) ≡ true
+    → call_finds limits me posts m call ≡ Ok (Some reply) → memory_done limits posts m call ≡ m
+done-unworked limits me posts m (Alloc call) reply h finds = absurd (let no : ⊥ = cc in no)
+done-unworked limits me posts m (Delete call) reply h finds = absurd (let no : ⊥ = cc in no)
+done-unworked limits me posts m (Store call) reply h finds = absurd (let no : ⊥ = cc in no)
+done-unworked limits me posts m (Reset call) reply h finds = absurd (let no : ⊥ = cc in no)
+done-unworked limits me posts m (FetchAdd call) reply h finds =
+    absurd (let refused = rw (word-unworked limits me posts m call.seg call.offset call.rank h) at finds in let no : ⊥ = cc in no)
+done-unworked limits me posts m (CompareSwap call) reply h finds =
+    absurd (let refused = rw (word-unworked limits me posts m call.seg call.offset call.rank h) at finds in let no : ⊥ = cc in no)
+done-unworked limits me posts m other reply h finds = refl
+
+answer-unworked : (limits : Limits) (me : ℕ) (posts : Posts) (m m' : Memory) (thread : ℕ) (call : Call) → is_unworked (call_reach limits.ranks me call) ≡ true
+    → answer limits me posts m thread call ≡ answer limits me posts m' thread call
+answer-unworked limits me posts m m' thread call h = go (is_running (thread_at posts thread)) refl
+  where
+    go : (b : Bool) → is_running (thread_at posts thread) ≡ b → answer limits me posts m thread call ≡ answer limits me posts m' thread call
+    go true is = rw is (ap ready_of (finds-unworked limits me posts m m' call h))
+    go false is = rw is refl
+
+called-unworked : (limits : Limits) (me : ℕ) (posts : Posts) (m m' : Memory) (thread : ℕ) (call : Call) (reply : Reply) (after : Worked)
+    → is_unworked (call_reach limits.ranks me call) ≡ true → IsCalled limits me posts m thread call reply after
+    → IsCalled limits me posts m' thread call reply (record { posts = after.posts; memory = m' })
+called-unworked limits me posts m m' thread call reply after h is = record {
+  there = is.there;
+  answered = answered;
+  room = is.room;
+  leaves = ap (λ (p : Posts). let x : Worked = record { posts = p; memory = m' } in x) (ap (λ (x : Worked). x.posts) is.leaves)
+      ∙ ap (λ (k : Memory). let x : Worked = record { posts = _; memory = k } in x) (sym (kept (is_idle reply) refl));
+}
+  where
+    answered : same_reply reply (recorded_reply (answer limits me posts m' thread call)) ≡ true
+    answered = subst (λ (r : _). same_reply reply (recorded_reply r) ≡ true) (answer-unworked limits me posts m m' thread call h) is.answered
+
+    kept : (b : Bool) → is_idle reply ≡ b → memory_after limits posts m' call reply ≡ m'
+    kept true idle = rw idle refl
+    kept false awake =
+        rw awake (done-unworked limits me posts m' call reply h (found-reply limits me posts m' thread call reply (same_reply-same _ _ answered) awake))
+
+-- a call's step, by the place of the memory that it works on
+pub record IsCalledThere (s t : State) (c : CallerId) (call : Call) (reply : Reply) (posts : Posts) (memory : Memory) (after : Worked) : Type 0 where
+  pub posts_there : slice_get s.posts c.rank ≡ Some posts
+  pub memory_there : slice_get s.memories (memory_rank s.limits c.rank call) ≡ Some memory
+  pub is : IsCalled s.limits c.rank posts memory c.thread call reply after
+  pub leaves : t ≡ record s {
+    posts = told s.limits.ranks c.rank posts call reply (slice_set s.posts c.rank after.posts);
+    memories = slice_set s.memories (memory_rank s.limits c.rank call) after.memory;
+  }
+
+pub called-there : (s t : State) (c : CallerId) (call : Call) (reply : Reply) → HasMemories s → step s (Called c call reply) ≡ Ok t
+    → (posts : Posts) × (memory : Memory) × (after : Worked) × IsCalledThere s t c call reply posts memory after
+called-there s t c call reply has h =
+    let made = step-called s t c call reply h in
+    let within = slice_get_within s.posts c.rank made.0 made.3.posts_there in
+    let place = place-within s.limits.ranks c.rank (row_of call).touch (let ranks = has.ranks in omega arith) in
+    let there = there-within s.memories (memory_rank s.limits c.rank call) (let memories = has.memories in omega arith) in
+    by-reach (call_reach s.limits.ranks c.rank call) refl made.0 made.1 made.2 made.3 there.0 there.1
+  where
+    -- the memory is worked on
+    worked : (posts : Posts) (m : Memory) (after : Worked) → IsCalledStep s t c call reply posts m after → (memory : Memory) → slice_get s.memories (memory_rank s.limits c.rank call) ≡ Some memory
+        → memory_at (call_reach s.limits.ranks c.rank call) c.rank s.memories ≡ memory
+        → memories_at (call_reach s.limits.ranks c.rank call) c.rank after.memory s.memories ≡ slice_set s.memories (memory_rank s.limits c.rank call) after.memory
+        → (posts : Posts) × (memory : Memory) × (after : Worked) × IsCalledThere s t c call reply posts memory after
+    worked posts m after made memory there same sets = (
+      posts,
+      memory,
+      after,
+      record {
+        posts_there = made.posts_there;
+        memory_there = there;
+        is = subst (λ (x : Memory). IsCalled s.limits c.rank posts x c.thread call reply after) (made.worked ∙ same) made.is;
+        leaves = made.leaves
+            ∙ ap (λ (x : List Memory). record s { posts = told s.limits.ranks c.rank posts call reply (slice_set s.posts c.rank after.posts); memories = x }) sets;
+      },
+    )
+
+    -- none is
+    unworked : (posts : Posts) (m : Memory) (after : Worked) → IsCalledStep s t c call reply posts m after → (memory : Memory) → slice_get s.memories (memory_rank s.limits c.rank call) ≡ Some memory
+        → is_unworked (call_reach s.limits.ranks c.rank call) ≡ true
+        → memories_at (call_reach s.limits.ranks c.rank call) c.rank after.memory s.memories ≡ s.memories
+        → (posts : Posts) × (memory : Memory) × (after : Worked) × IsCalledThere s t c call reply posts memory after
+    unworked posts m after made memory there none same = (
+      posts,
+      memory,
+      record { posts = after.posts; memory = memory },
+      record {
+        posts_there = made.posts_there;
+        memory_there = there;
+        is = called-unworked s.limits c.rank posts m memory c.thread call reply after none made.is;
+        leaves = made.leaves
+            ∙ ap (λ (x : List Memory). record s { posts = told s.limits.ranks c.rank posts call reply (slice_set s.posts c.rank after.posts); memories = x })
+            (same ∙ sym (set-there s.memories (memory_rank s.limits c.rank call) memory there));
+      },
+    )
+
+    by-reach : (r : Reach) → call_reach s.limits.ranks c.rank call ≡ r → (posts : Posts) (m : Memory) (after : Worked) → IsCalledStep s t c call reply posts m after
+        → (memory : Memory) → slice_get s.memories (memory_rank s.limits c.rank call) ≡ Some memory
+        → (posts : Posts) × (memory : Memory) × (after : Worked) × IsCalledThere s t c call reply posts memory after
+    by-reach Alone is posts m after made memory there = unworked posts m after made memory there (rw is refl) (rw is refl)
+    by-reach OwnMemory is posts m after made memory there =
+        let here : slice_get s.memories c.rank ≡ Some memory = rw is at there in
+        worked posts m after made memory there (rw (is, here) refl) (rw is refl)
+    by-reach (PeerMemory rank) is posts m after made memory there =
+        let here : slice_get s.memories rank ≡ Some memory = rw is at there in
+        worked posts m after made memory there (rw (is, here) refl) (rw is refl)
+    by-reach (PeerPosts rank) is posts m after made memory there = unworked posts m after made memory there (rw is refl) (rw is refl)
+
+-- a take's step, where the memory of its origin is there
+pub take-there : (s t : State) (origin queue target number : ℕ) (outcome : Outcome) → HasMemories s → (posts : Posts) (memory : Memory) (after : Posts) (at : Found)
+    → IsTakeStep s t origin queue target number outcome posts memory after at → slice_get s.memories origin ≡ Some memory
+take-there s t origin queue target number outcome has posts memory after at m =
+    let within = slice_get_within s.posts origin posts m.posts_there in
+    let there = there-within s.memories origin (let ranks = has.ranks in let memories = has.memories in omega arith) in
+    there.1 ∙ ap (λ (x : Memory). Some x) (sym (m.worked ∙ ap memory_or_none there.1))
+
+-- a put's step, by its target, where that is a rank
+pub record IsPutThere (s t : State) (origin queue target number : ℕ) (outcome : Outcome) (posts : Posts) (memory : Memory) (after : Worked) (at : Found) : Type 0 where
+  pub posts_there : slice_get s.posts origin ≡ Some posts
+  pub memory_there : slice_get s.memories target ≡ Some memory
+  pub is : IsPut posts memory queue target number outcome after at
+  pub leaves : t ≡ record s { posts = slice_set s.posts origin after.posts; memories = slice_set s.memories target after.memory }
+
+pub put-there : (s t : State) (origin queue target number : ℕ) (outcome : Outcome) → HasMemories s → target < s.limits.ranks → (posts : Posts) (memory : Memory) (after : Worked) (at : Found)
+    → IsPutStep s t origin queue target number outcome posts memory after at → IsPutThere s t origin queue target number outcome posts memory after at
+put-there s t origin queue target number outcome has ranked posts memory after at m =
+    let there = there-within s.memories target (let memories = has.memories in omega arith) in
+    go (target == origin) refl there.0 there.1
+  where
+    build : (x : Memory) → slice_get s.memories target ≡ Some x → memory_at (put_reach s.limits.ranks origin target) origin s.memories ≡ x
+        → memories_at (put_reach s.limits.ranks origin target) origin after.memory s.memories ≡ slice_set s.memories target after.memory
+        → IsPutThere s t origin queue target number outcome posts memory after at
+    build x there same sets = record {
+      posts_there = m.posts_there;
+      memory_there = there ∙ ap (λ (y : Memory). Some y) (sym (m.worked ∙ same));
+      is = m.is;
+      leaves = m.leaves ∙ ap (λ (y : List Memory). record s { posts = slice_set s.posts origin after.posts; memories = y }) sets;
+    }
+
+    go : (b : Bool) → (target == origin) ≡ b → (x : Memory) → slice_get s.memories target ≡ Some x → IsPutThere s t origin queue target number outcome posts memory after at
+    go true is x there =
+        let same = eqb-true target origin is in
+        let here : slice_get s.memories origin ≡ Some x = subst (λ (n : ℕ). slice_get s.memories n ≡ Some x) same there in
+        build x there (rw (is, here) refl) (rw is (ap (λ (n : ℕ). slice_set s.memories n after.memory) (sym same)))
+    go false is x there =
+        let less = lt-ltb target s.limits.ranks ranked in
+        build x there (rw (is, less, there) refl) (rw (is, less) refl)
+
+-- In a sound state.
+
+has-memories : (s : State) → IsSound s → HasMemories s
+has-memories s sound = record { ranks = sound.ranks; memories = sound.memories }
+
+pub sound-called : (s t : State) (c : CallerId) (call : Call) (reply : Reply) → IsSound s → step s (Called c call reply) ≡ Ok t
+    → (posts : Posts) × (memory : Memory) × (after : Worked) × IsCalledThere s t c call reply posts memory after
+sound-called s t c call reply sound h = called-there s t c call reply (has-memories s sound) h
+
+pub record IsTakeThere (s t : State) (origin queue target number : ℕ) (outcome : Outcome) (posts : Posts) (memory : Memory) (after : Posts) (at : Found) : Type 0 where
+  pub posts_there : slice_get s.posts origin ≡ Some posts
+  pub memory_there : slice_get s.memories origin ≡ Some memory
+  pub is : IsTake s.limits posts memory queue target number outcome after at
+  pub leaves : t ≡ record s { posts = slice_set s.posts origin after }
+
+pub sound-take : (s t : State) (origin queue target number : ℕ) (outcome : Outcome) → IsSound s → step s (Take origin queue target number outcome) ≡ Ok t
+    → (posts : Posts) × (memory : Memory) × (after : Posts) × (at : Found) × IsTakeThere s t origin queue target number outcome posts memory after at
+sound-take s t origin queue target number outcome sound h =
+    let made = step-take s t origin queue target number outcome h in
+    let m = made.4 in (
+      made.0,
+      made.1,
+      made.2,
+      made.3,
+      record {
+        posts_there = m.posts_there;
+        memory_there = take-there s t origin queue target number outcome (has-memories s sound) made.0 made.1 made.2 made.3 m;
+        is = m.is;
+        leaves = m.leaves;
+      },
+    )
+
+pub sound-put : (s t : State) (origin queue target number : ℕ) (outcome : Outcome) → IsSound s → step s (Put origin queue target number outcome) ≡ Ok t
+    → (posts : Posts) × (memory : Memory) × (after : Worked) × (at : Found) × IsPutThere s t origin queue target number outcome posts memory after at
+sound-put s t origin queue target number outcome sound h =
+    let made = step-put s t origin queue target number outcome h in
+    let m = made.4 in
+    let lanes = (sound.posts origin made.0 m.posts_there).lanes queue made.3.queue m.is.is.in_posts in
+    let within = slice_get_within made.3.queue.lanes target made.3.lane m.is.is.in_queue in
+    (made.0, made.1, made.2, made.3, put-there s t origin queue target number outcome (has-memories s sound) (omega arith) made.0 made.1 made.2 made.3 m)

@@ -1,0 +1,11 @@
+use Rattle.gaspi_model.proofs.LocalSteps.{coarse-frame, coarse-determined, coarse-owner}
+use Rattle.gaspi_model.proofs.laws.coarser_locality.Goals as goal
+
+pub returns-clause-frame : goal.returns-clause-frame
+returns-clause-frame c = coarse-frame
+
+pub returns-clause-determined : goal.returns-clause-determined
+returns-clause-determined c = coarse-determined
+
+pub returns-clause-owner : goal.returns-clause-owner
+returns-clause-owner c = coarse-owner

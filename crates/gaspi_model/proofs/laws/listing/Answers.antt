@@ -1,0 +1,12 @@
+use Rattle.gaspi_model.proofs.ListedSteps.{take-listed, put-listed}
+use Rattle.gaspi_model.proofs.ListedOrder.{listed-ordered}
+use Rattle.gaspi_model.proofs.laws.listing.Goals as goal
+
+pub returns-clause-take : goal.returns-clause-take
+returns-clause-take c = take-listed
+
+pub returns-clause-put : goal.returns-clause-put
+returns-clause-put c = put-listed
+
+pub returns-clause-order : goal.returns-clause-order
+returns-clause-order c = λ s j k a b sound. listed-ordered s sound j k a b
