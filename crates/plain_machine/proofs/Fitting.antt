@@ -14,7 +14,7 @@ use Rattle.gaspi_types.specs.declared.replies.Reply.{Reply}
 use Rattle.gaspi_types.specs.declared.events.Event.{Event}
 use Rattle.gaspi_types.specs.declared.events.Event.TheVariants.{Called, Take, Put}
 use Rattle.gaspi_model.specs.State.{owed, thread_at}
-use Rattle.gaspi_model.specs.Calls.{answer, recorded_reply, charge, posts_done, posts_after, memory_after}
+use Rattle.gaspi_model.specs.Calls.{call_asks, answer, recorded_reply, charge, posts_done, posts_after, memory_after}
 use Rattle.gaspi_model.specs.Posting.{with_post, changed_at}
 use Rattle.gaspi_model.specs.Step.{step, called, is_there}
 use Rattle.gaspi_model.specs.Transfers.{Worked}
@@ -59,7 +59,7 @@ queues-done limits me posts thread call = by_posting (row_of call).posting refl
     by_posting None is = of_plain call is
     by_posting (Some posting) is =
         let p = posting_of limits me posts call posting is in
-        rw (p.leaves thread) (queues-post posts posting.queue posting.rank p.asked)
+        rw (p.leaves thread) (queues-post posts posting.queue posting.rank (call_asks limits me posts call))
 
 queues-after : (limits : Limits) (me : ℕ) (posts : Posts) (thread : ℕ) (call : Call) (reply : Reply) → length (posts_after limits me posts thread call reply).queues ≡ length posts.queues
 queues-after limits me posts thread call reply = by_idle (is_idle reply) refl

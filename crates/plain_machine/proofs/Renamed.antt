@@ -26,7 +26,7 @@ use Rattle.gaspi_types.specs.declared.touches.Reach.{Reach}
 use Rattle.gaspi_types.specs.declared.shapes.CallerId.{CallerId}
 use Rattle.gaspi_model.proofs.Tables.{slice_get-set_same, past-none}
 use Rattle.gaspi_model.specs.State.{owed, thread_at}
-use Rattle.gaspi_model.specs.Calls.{answer, recorded_reply, charge, posts_done, posts_after, memory_after, peer_after}
+use Rattle.gaspi_model.specs.Calls.{call_asks, answer, recorded_reply, charge, posts_done, posts_after, memory_after, peer_after}
 use Rattle.gaspi_model.specs.Posting.{with_post, with_entries, counted}
 use Rattle.gaspi_model.specs.Sound.{IsSound, IsSoundPosts}
 use Rattle.gaspi_model.specs.Step.{step, called, is_there, Steps}
@@ -215,7 +215,7 @@ quiet_call limits me posts memory thread call reply j limited few same busy lane
         let f = found_by limits me posts memory thread call reply same busy in
         let post = posted limits me posts memory thread call reply posting p f in
         let none : post_lane me posting.rank posting.queue ≡ None = rw is at lane in
-        absurd (post_has_lane limits me posts posting.rank posting.queue p.asked f.reply_found limited few post none)
+        absurd (post_has_lane limits me posts posting.rank posting.queue (call_asks limits me posts call) f.reply_found limited few post none)
 
 -- what a recorded call has passed
 record IsAnswered (limits : Limits) (me : ℕ) (posts : Posts) (memory : Memory) (thread : ℕ) (call : Call) (reply : Reply) (after : Posts) : Type 0 where
@@ -287,9 +287,9 @@ posting s t (Called c call reply) id sound lane puts is =
         let p = posting_of s.limits c.rank done.p call posting row in
         let f = found_by s.limits c.rank done.p done.by.0 c.thread call reply done.by.1.replied busy in
         let post = posted s.limits c.rank done.p done.by.0 c.thread call reply posting p f in
-        let after : counted (with_post done.p posting.queue posting.rank p.asked) ≡ done.p' = ap counted (sym (p.leaves c.thread)) ∙ (rw busy at done.by.1.after_is) in
+        let after : counted (with_post done.p posting.queue posting.rank (call_asks s.limits c.rank done.p call)) ≡ done.p' = ap counted (sym (p.leaves c.thread)) ∙ (rw busy at done.by.1.after_is) in
         rw (← lane_of_post (nat_lt posting.rank 16 && nat_lt posting.queue 8) (lane_id c.rank posting.queue posting.rank) id lane, done.is, ← after)
-        (post_names s.posts c.rank s.limits done.p posting.queue posting.rank p.asked f.reply_found posting.entries done.there (sound.posts c.rank done.p done.there) post p.long p.some)
+        (post_names s.posts c.rank s.limits done.p posting.queue posting.rank (call_asks s.limits c.rank done.p call) f.reply_found posting.entries done.there (sound.posts c.rank done.p done.there) post p.long p.some)
 
 -- a put
 pub leaving : (s t : State) (e : Event) (id : LaneId) → event_lane e ≡ Some id → is_put e ≡ true → step s e ≡ Ok t
