@@ -1,69 +1,132 @@
--- A call's text, read back.
-use Rattle.std.proofs.Common.{◌≡◌, codes, Some, lit<, refl, ap, ◌∙◌}
-use Rattle.std.specs.List.{AllByRecursion}
-use Rattle.call_texts.specs.CallText.{call_word_of, alloc_of, register_of, delete_of, store_of, load_of, write_of, notify_of, write_notify_of, wait_of, waitsome_of, reset_of, fetch_add_of, compare_swap_of, call_of, recorded_call_of, call_of_text, end_word, words_of_call, call_text, IsWritable}
+-- A call's text, read back, and the calls that words spell.
+use Rattle.std.proofs.Common.{◌≡◌, ◌≢◌, ◌<◌, ℕ, true, false, Bool, cond, ◌==◌, length, List, [], ◌∷◌, Option, Some, None, lit<, refl, sym, ap, subst, ◌∙◌, append-nil}
+use Rattle.std.specs.List.{AllByRecursion, list_all}
+use Rattle.std.proofs.lemmas.Option.{cond_some, option_and_then_some, same_Some, none-some}
+use Rattle.call_texts.specs.CallText.{Spelled, spelling_of, form_of, call_word_of, has_timeout, spelled, call_with, call_taken, with_nothing_left, call_of, is_end_text, recorded_call_of, call_of_text, end_word, words_of_spelled, words_of_call, call_text, IsSpelledInRange, IsWritable}
+use Rattle.call_texts.specs.Fields.{Fields, AreInRange, words_of_fields, fields_taken}
 use Rattle.call_texts.specs.Words.{is_plain, IsPlainWord}
+use Rattle.gaspi_types.specs.CallRows.{row_of}
 use Rattle.gaspi_types.specs.declared.calls.Call.{Call}
 use Rattle.gaspi_types.specs.declared.calls.Call.TheVariants as calls
-use Rattle.call_texts.proofs.HexWords.{bytes_of-hex_text}
-use Rattle.call_texts.proofs.NumberWords.{number_of-decimal, value_of-decimal}
-use Rattle.call_texts.proofs.PlainWords.{number_word, small_word, fixed_word, hex_word}
+use Rattle.call_texts.specs.declared.call_words.CallWord.{CallWord}
+use Rattle.call_texts.specs.declared.call_words.CallWord.TheVariants.{Wait}
+use Rattle.call_texts.proofs.FormWords.{form-back, form-range, form-plain}
+use Rattle.call_texts.proofs.PlainWords.{fixed_word}
 use Rattle.call_texts.proofs.WordTexts.{words_of-plain}
 
--- each word of a call is plain
-pub words_of_call-plain : (call : Call) → IsWritable call → AllByRecursion IsPlainWord (words_of_call call)
-unfolding is_plain
-words_of_call-plain (calls.Alloc seg size) h =
-    (fixed_word (codes "alloc") (lit< tt) refl, (number_word seg h.0, (number_word size h.1, tt)))
-words_of_call-plain (calls.Register seg rank) h =
-    (fixed_word (codes "register") (lit< tt) refl, (number_word seg h.0, (number_word rank h.1, tt)))
-words_of_call-plain (calls.Delete seg) h = (fixed_word (codes "delete") (lit< tt) refl, (number_word seg h, tt))
-words_of_call-plain (calls.Store seg offset bytes) h =
-    (fixed_word (codes "store") (lit< tt) refl, (number_word seg h.0, (number_word offset h.1, (hex_word bytes h.2, tt))))
-words_of_call-plain (calls.Load seg offset size) h =
-    (fixed_word (codes "load") (lit< tt) refl, (number_word seg h.0, (number_word offset h.1, (number_word size h.2, tt))))
-words_of_call-plain (calls.Write seg offset rank rseg roffset size queue) h =
-    (fixed_word (codes "write") (lit< tt) refl, (number_word seg h.0, (number_word offset h.1, (number_word rank h.2, (number_word rseg h.3, (number_word roffset h.4, (number_word size h.5, (number_word queue h.6, tt))))))))
-words_of_call-plain (calls.Notify rseg rank note value queue) h =
-    (fixed_word (codes "notify") (lit< tt) refl, (number_word rseg h.0, (number_word rank h.1, (number_word note h.2, (small_word value h.3, (number_word queue h.4, tt))))))
-words_of_call-plain (calls.WriteNotify seg offset rank rseg roffset size note value queue) h =
-    (fixed_word (codes "write_notify") (lit< tt) refl, (number_word seg h.0, (number_word offset h.1, (number_word rank h.2, (number_word rseg h.3, (number_word roffset h.4, (number_word size h.5, (number_word note h.6, (small_word value h.7, (number_word queue h.8, tt))))))))))
-words_of_call-plain (calls.Wait queue) h = (fixed_word (codes "wait") (lit< tt) refl, (number_word queue h, tt))
-words_of_call-plain (calls.Waitsome seg begin num) h =
-    (fixed_word (codes "waitsome") (lit< tt) refl, (number_word seg h.0, (number_word begin h.1, (number_word num h.2, tt))))
-words_of_call-plain (calls.Reset seg note) h =
-    (fixed_word (codes "reset") (lit< tt) refl, (number_word seg h.0, (number_word note h.1, tt)))
-words_of_call-plain (calls.FetchAdd seg offset rank value) h =
-    (fixed_word (codes "fetch_add") (lit< tt) refl, (number_word seg h.0, (number_word offset h.1, (number_word rank h.2, (number_word value h.3, tt)))))
-words_of_call-plain (calls.CompareSwap seg offset rank comparator new) h =
-    (fixed_word (codes "compare_swap") (lit< tt) refl, (number_word seg h.0, (number_word offset h.1, (number_word rank h.2, (number_word comparator h.3, (number_word new h.4, tt))))))
-words_of_call-plain calls.End h = (fixed_word end_word (lit< tt) refl, tt)
+-- What spells a call, and the call that it spells, for all words and calls.
 
--- the words of a call spell it
+word-spelled : (word : CallWord) → call_word_of (spelling_of word) ≡ Some word
+unfolding call_word_of
+word-spelled Wait = refl
+word-spelled word = refl
+
+word-filled : (word : CallWord) → 0 < length (spelling_of word)
+word-filled Wait = lit< tt
+word-filled word = lit< tt
+
+word-plain : (word : CallWord) → list_all is_plain (spelling_of word) ≡ true
+unfolding is_plain
+word-plain Wait = refl
+word-plain word = refl
+
+no-end : (word : CallWord) (arguments : List (List ℕ)) → is_end_text (spelling_of word ∷ arguments) ≡ false
+no-end Wait [] = refl
+no-end word [] = refl
+no-end word (argument ∷ arguments) = refl
+
+spelled-call : (word : CallWord) (fields : Fields (form_of word)) → spelled (call_with word fields) ≡ Some (record { word = word; fields = fields })
+spelled-call Wait fields = refl
+spelled-call word fields = refl
+
+-- a call, from what spells it
+abbrev call_from : Option Spelled → Call
+call_from None = calls.End
+call_from (Some s) = call_with s.word s.fields
+
+call-spelled : (call : Call) → call_from (spelled call) ≡ call
+call-spelled calls.End = refl
+call-spelled call = refl
+
+-- Each word of a call is plain.
+
+spelled-plain : (s : Option Spelled) → IsSpelledInRange s → AllByRecursion IsPlainWord (words_of_spelled s)
+unfolding is_plain
+spelled-plain None small = (fixed_word end_word (lit< tt) refl, tt)
+spelled-plain (Some s) small = (fixed_word (spelling_of s.word) (word-filled s.word) (word-plain s.word), form-plain (form_of s.word) s.fields small)
+
+pub words_of_call-plain : (call : Call) → IsWritable call → AllByRecursion IsPlainWord (words_of_call call)
+words_of_call-plain call small = spelled-plain (spelled call) small
+
+-- The words of a call spell it.
+
+taken-back : (word : CallWord) (fields : Fields (form_of word)) → AreInRange (form_of word) fields
+    → call_taken word (words_of_fields (form_of word) fields) ≡ Some (call_with word fields, [])
+unfolding call_taken
+taken-back word fields small =
+    let back = form-back (form_of word) fields [] small in
+    let read : fields_taken (form_of word) (words_of_fields (form_of word) fields) ≡ Some (fields, []) = rw append-nil at back in
+    rw read refl
+
+spelled-back : (s : Option Spelled) → IsSpelledInRange s → recorded_call_of (words_of_spelled s) ≡ Some (call_from s)
+unfolding recorded_call_of call_of
+spelled-back None small = refl
+spelled-back (Some s) small =
+    rw (no-end s.word (words_of_fields (form_of s.word) s.fields), word-spelled s.word, taken-back s.word s.fields small) refl
+
 pub call_of-words : (call : Call) → IsWritable call → recorded_call_of (words_of_call call) ≡ Some call
-unfolding recorded_call_of call_of call_word_of alloc_of register_of delete_of store_of load_of write_of notify_of write_notify_of wait_of waitsome_of reset_of fetch_add_of compare_swap_of
-call_of-words (calls.Alloc seg size) h = rw (number_of-decimal seg h.0, number_of-decimal size h.1) refl
-call_of-words (calls.Register seg rank) h = rw (number_of-decimal seg h.0, number_of-decimal rank h.1) refl
-call_of-words (calls.Delete seg) h = rw (number_of-decimal seg h) refl
-call_of-words (calls.Store seg offset bytes) h =
-    rw (number_of-decimal seg h.0, number_of-decimal offset h.1, bytes_of-hex_text bytes h.2) refl
-call_of-words (calls.Load seg offset size) h =
-    rw (number_of-decimal seg h.0, number_of-decimal offset h.1, number_of-decimal size h.2) refl
-call_of-words (calls.Write seg offset rank rseg roffset size queue) h =
-    rw (number_of-decimal seg h.0, number_of-decimal offset h.1, number_of-decimal rank h.2, number_of-decimal rseg h.3, number_of-decimal roffset h.4, number_of-decimal size h.5, number_of-decimal queue h.6) refl
-call_of-words (calls.Notify rseg rank note value queue) h =
-    rw (number_of-decimal rseg h.0, number_of-decimal rank h.1, number_of-decimal note h.2, value_of-decimal value h.3, number_of-decimal queue h.4) refl
-call_of-words (calls.WriteNotify seg offset rank rseg roffset size note value queue) h =
-    rw (number_of-decimal seg h.0, number_of-decimal offset h.1, number_of-decimal rank h.2, number_of-decimal rseg h.3, number_of-decimal roffset h.4, number_of-decimal size h.5, number_of-decimal note h.6, value_of-decimal value h.7, number_of-decimal queue h.8) refl
-call_of-words (calls.Wait queue) h = rw (number_of-decimal queue h) refl
-call_of-words (calls.Waitsome seg begin num) h =
-    rw (number_of-decimal seg h.0, number_of-decimal begin h.1, number_of-decimal num h.2) refl
-call_of-words (calls.Reset seg note) h = rw (number_of-decimal seg h.0, number_of-decimal note h.1) refl
-call_of-words (calls.FetchAdd seg offset rank value) h =
-    rw (number_of-decimal seg h.0, number_of-decimal offset h.1, number_of-decimal rank h.2, number_of-decimal value h.3) refl
-call_of-words (calls.CompareSwap seg offset rank comparator new) h =
-    rw (number_of-decimal seg h.0, number_of-decimal offset h.1, number_of-decimal rank h.2, number_of-decimal comparator h.3, number_of-decimal new h.4) refl
-call_of-words calls.End h = refl
+call_of-words call small = spelled-back (spelled call) small ∙ ap (λ (c : Call). Some c) (call-spelled call)
 
 pub call_of_text-call_text : (call : Call) → IsWritable call → call_of_text (call_text call) ≡ Some call
 call_of_text-call_text call h = ap recorded_call_of (words_of-plain (words_of_call call) (words_of_call-plain call h)) ∙ call_of-words call h
+
+-- What words spell is a call in range that has a word, and so no end.
+
+record HasWord (call : Call) : Type 0 where
+  what : Spelled
+  spells : spelled call ≡ Some what
+  range : AreInRange (form_of what.word) what.fields
+
+found-word : (word : CallWord) (words : List (List ℕ)) (taken : Call × List (List ℕ)) → call_taken word words ≡ Some taken → HasWord taken.0
+unfolding call_taken
+found-word word words taken is =
+    option_and_then_some _ (fields_taken (form_of word) words) taken is (λ found read same.
+    subst (λ (t : Call × List (List ℕ)). HasWord t.0) (same_Some (call_with word found.0, found.1) taken same)
+    (record {
+      what = record { word = word; fields = found.0 };
+      spells = spelled-call word found.0;
+      range = form-range (form_of word) words found read;
+    }))
+
+alone : (taken : Call × List (List ℕ)) (call : Call) → with_nothing_left taken ≡ Some call → HasWord taken.0 → HasWord call
+alone taken call is has = subst (λ (c : Call). HasWord c) (cond_some (length taken.1 == 0) taken.0 call is).1 has
+
+call-word : (words : List (List ℕ)) (call : Call) → call_of words ≡ Some call → HasWord call
+unfolding call_of
+call-word [] call is = absurd (none-some call is)
+call-word (first ∷ arguments) call is =
+    option_and_then_some _ (call_word_of first) call is (λ word spells found.
+    option_and_then_some _ (call_taken word arguments) call found (λ taken read whole.
+    alone taken call whole (found-word word arguments taken read)))
+
+word-writable : (call : Call) → HasWord call → IsWritable call
+word-writable call has = subst (λ (s : Option Spelled). IsSpelledInRange s) (sym has.spells) has.range
+
+recorded-range : (words : List (List ℕ)) (call : Call) (ends : Bool) → cond ends (Some calls.End) (call_of words) ≡ Some call → IsWritable call
+recorded-range words call true is = subst (λ (c : Call). IsWritable c) (same_Some calls.End call is) tt
+recorded-range words call false is = word-writable call (call-word words call is)
+
+pub recorded_call_of-range : (words : List (List ℕ)) (call : Call) → recorded_call_of words ≡ Some call → IsWritable call
+unfolding recorded_call_of
+recorded_call_of-range words call is = recorded-range words call (is_end_text words) is
+
+pub call_of-no_end : (words : List (List ℕ)) (call : Call) → call_of words ≡ Some call → call ≢ calls.End
+call_of-no_end words call is end =
+    let has = call-word words call is in
+    none-some has.what (ap spelled (sym end) ∙ has.spells)
+
+-- The timeouts of words are those of the calls' rows.
+
+pub timeout-row : (word : CallWord) (fields : Fields (form_of word)) → (row_of (call_with word fields)).times_out ≡ has_timeout word
+timeout-row Wait fields = refl
+timeout-row word fields = refl

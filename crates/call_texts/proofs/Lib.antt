@@ -1,7 +1,8 @@
 pub mod CallTexts
+pub mod FormWords
 pub mod HexWords
-pub mod InRange
 pub mod JoinedWords
 pub mod NumberWords
 pub mod PlainWords
+pub mod WordRanges
 pub mod WordTexts

@@ -1,7 +1,9 @@
 //! The words that calls begin with.
 
 ghost use Rattle.std.specs.Prelude.{◌≡◌, is_some};
-ghost use Rattle.call_texts.specs.CallText.{spelling_of, call_word_of, arguments_of, has_timeout};
+ghost use Rattle.call_texts.specs.CallText.{spelling_of, form_of, call_word_of, arguments_of, has_timeout};
+
+use crate::fields::Field::{self, Bytes, Number, Value};
 
 /// The word that a call's text begins with.
 #[derive(Clone, Copy, Debug, PartialEq, Eq)]
@@ -21,26 +23,55 @@ pub enum CallWord {
     CompareSwap,
 }
 
+/// How a call's word is spelled, and the form of what follows it, a timeout aside.
+#[derive(Clone, Copy)]
+struct WordRow {
+    spelling: &'static [u8],
+    form: &'static [Field],
+}
+
+impl WordRow {
+    fn new(spelling: &'static [u8], form: &'static [Field]) -> WordRow
+        ensures spelling { result.spelling.now ≡ spelling.now }
+        ensures form { result.form.now ≡ form.now }
+    {
+        WordRow { spelling, form }
+    }
+}
+
 impl CallWord {
+    /// Its row.
+    fn row(self) -> WordRow
+        ensures spelling { result.spelling.now ≡ spelling_of self }
+        ensures form { result.form.now ≡ form_of self }
+    {
+        match self {
+            CallWord::Alloc => WordRow::new(b"alloc", &[Number; 2]),
+            CallWord::Register => WordRow::new(b"register", &[Number; 2]),
+            CallWord::Delete => WordRow::new(b"delete", &[Number]),
+            CallWord::Store => WordRow::new(b"store", &[Number, Number, Bytes]),
+            CallWord::Load => WordRow::new(b"load", &[Number; 3]),
+            CallWord::Write => WordRow::new(b"write", &[Number; 7]),
+            CallWord::Notify => WordRow::new(b"notify", &[Number, Number, Number, Value, Number]),
+            CallWord::WriteNotify => WordRow::new(
+                b"write_notify",
+                &[
+                    Number, Number, Number, Number, Number, Number, Number, Value, Number,
+                ],
+            ),
+            CallWord::Wait => WordRow::new(b"wait", &[Number]),
+            CallWord::Waitsome => WordRow::new(b"waitsome", &[Number; 3]),
+            CallWord::Reset => WordRow::new(b"reset", &[Number; 2]),
+            CallWord::FetchAdd => WordRow::new(b"fetch_add", &[Number; 4]),
+            CallWord::CompareSwap => WordRow::new(b"compare_swap", &[Number; 5]),
+        }
+    }
+
     /// Its spelling.
     pub fn spelling(self) -> &'static [u8]
         ensures { result.now ≡ spelling_of self }
     {
-        match self {
-            CallWord::Alloc => b"alloc",
-            CallWord::Register => b"register",
-            CallWord::Delete => b"delete",
-            CallWord::Store => b"store",
-            CallWord::Load => b"load",
-            CallWord::Write => b"write",
-            CallWord::Notify => b"notify",
-            CallWord::WriteNotify => b"write_notify",
-            CallWord::Wait => b"wait",
-            CallWord::Waitsome => b"waitsome",
-            CallWord::Reset => b"reset",
-            CallWord::FetchAdd => b"fetch_add",
-            CallWord::CompareSwap => b"compare_swap",
-        }
+        self.row().spelling
     }
 
     /// The call's word that is spelled so.
@@ -72,21 +103,7 @@ impl CallWord {
     pub fn argument_count(self) -> usize
         ensures { result ≡ arguments_of self }
     {
-        match self {
-            CallWord::Alloc => 2,
-            CallWord::Register => 2,
-            CallWord::Delete => 1,
-            CallWord::Store => 3,
-            CallWord::Load => 3,
-            CallWord::Write => 7,
-            CallWord::Notify => 5,
-            CallWord::WriteNotify => 9,
-            CallWord::Wait => 1,
-            CallWord::Waitsome => 3,
-            CallWord::Reset => 2,
-            CallWord::FetchAdd => 4,
-            CallWord::CompareSwap => 5,
-        }
+        self.row().form.len()
     }
 
     /// Whether its call has a timeout. (GASPI: timeouts)

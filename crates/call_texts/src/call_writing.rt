@@ -3,6 +3,7 @@
 ghost use Rattle.std.specs.Prelude.{◌≡◌, ◌++◌, take, length, OnOk, OnErr};
 ghost use Rattle.call_texts.specs.CallText.{call_text};
 
+use crate::call_words::CallWord;
 use crate::words_written::{append_bytes, append_line};
 use gaspi_types::{Bytes, Call, NoMemory};
 
@@ -12,91 +13,78 @@ fn append_call(text: &mut Bytes, call: &Call) -> Result<(), NoMemory>
     ensures err { OnErr result (take (length text.old) text.new ≡ text.old) }
 {
     match call {
-        Call::Alloc { seg, size } => append_line(text, b"alloc", &[*seg, *size]),
-        Call::Register { seg, rank } => append_line(text, b"register", &[*seg, *rank]),
-        Call::Delete { seg } => append_line(text, b"delete", &[*seg]),
-        Call::Store { seg, offset, bytes } => {
-            append_line(text, b"store", &[*seg, *offset])?;
-            append_bytes(text, bytes.as_slice())
+        Call::Alloc(call) => append_line(text, CallWord::Alloc.spelling(), &[call.seg, call.size]),
+        Call::Register(call) => append_line(
+            text,
+            CallWord::Register.spelling(),
+            &[call.seg, call.rank],
+        ),
+        Call::Delete(call) => append_line(text, CallWord::Delete.spelling(), &[call.seg]),
+        Call::Store(call) => {
+            append_line(text, CallWord::Store.spelling(), &[call.seg, call.offset])?;
+            append_bytes(text, call.bytes.as_slice())
         }
-        Call::Load { seg, offset, size } => append_line(text, b"load", &[*seg, *offset, *size]),
-        Call::Write {
-            seg,
-            offset,
-            rank,
-            rseg,
-            roffset,
-            size,
-            queue,
-        } => {
-            append_line(
-                text,
-                b"write",
-                &[*seg, *offset, *rank, *rseg, *roffset, *size, *queue],
-            )
-        }
-        Call::Notify {
-            rseg,
-            rank,
-            note,
-            value,
-            queue,
-        } => {
-            append_line(
-                text,
-                b"notify",
-                &[*rseg, *rank, *note, u64::from(*value), *queue],
-            )
-        }
-        Call::WriteNotify {
-            seg,
-            offset,
-            rank,
-            rseg,
-            roffset,
-            size,
-            note,
-            value,
-            queue,
-        } => {
-            append_line(
-                text,
-                b"write_notify",
-                &[
-                    *seg,
-                    *offset,
-                    *rank,
-                    *rseg,
-                    *roffset,
-                    *size,
-                    *note,
-                    u64::from(*value),
-                    *queue,
-                ],
-            )
-        }
-        Call::Wait { queue } => append_line(text, b"wait", &[*queue]),
-        Call::Waitsome { seg, begin, num } => append_line(text, b"waitsome", &[*seg, *begin, *num]),
-        Call::Reset { seg, note } => append_line(text, b"reset", &[*seg, *note]),
-        Call::FetchAdd {
-            seg,
-            offset,
-            rank,
-            value,
-        } => append_line(text, b"fetch_add", &[*seg, *offset, *rank, *value]),
-        Call::CompareSwap {
-            seg,
-            offset,
-            rank,
-            comparator,
-            new,
-        } => {
-            append_line(
-                text,
-                b"compare_swap",
-                &[*seg, *offset, *rank, *comparator, *new],
-            )
-        }
+        Call::Load(call) => append_line(
+            text,
+            CallWord::Load.spelling(),
+            &[call.seg, call.offset, call.size],
+        ),
+        Call::Write(call) => append_line(
+            text,
+            CallWord::Write.spelling(),
+            &[
+                call.seg,
+                call.offset,
+                call.rank,
+                call.rseg,
+                call.roffset,
+                call.size,
+                call.queue,
+            ],
+        ),
+        Call::Notify(call) => append_line(
+            text,
+            CallWord::Notify.spelling(),
+            &[
+                call.rseg,
+                call.rank,
+                call.note,
+                u64::from(call.value),
+                call.queue,
+            ],
+        ),
+        Call::WriteNotify(call) => append_line(
+            text,
+            CallWord::WriteNotify.spelling(),
+            &[
+                call.seg,
+                call.offset,
+                call.rank,
+                call.rseg,
+                call.roffset,
+                call.size,
+                call.note,
+                u64::from(call.value),
+                call.queue,
+            ],
+        ),
+        Call::Wait(call) => append_line(text, CallWord::Wait.spelling(), &[call.queue]),
+        Call::Waitsome(call) => append_line(
+            text,
+            CallWord::Waitsome.spelling(),
+            &[call.seg, call.begin, call.num],
+        ),
+        Call::Reset(call) => append_line(text, CallWord::Reset.spelling(), &[call.seg, call.note]),
+        Call::FetchAdd(call) => append_line(
+            text,
+            CallWord::FetchAdd.spelling(),
+            &[call.seg, call.offset, call.rank, call.value],
+        ),
+        Call::CompareSwap(call) => append_line(
+            text,
+            CallWord::CompareSwap.spelling(),
+            &[call.seg, call.offset, call.rank, call.comparator, call.new],
+        ),
         Call::End => text.append(b"end"),
     }
 }

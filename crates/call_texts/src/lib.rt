@@ -2,9 +2,12 @@
 #![tactic(auto)]
 
 mod blanks;
+mod call_fields;
 mod call_reading;
 mod call_words;
 mod call_writing;
+mod field_words;
+mod fields;
 mod hexes;
 mod numbers;
 mod text_laws;
@@ -17,8 +20,8 @@ pub use call_writing::write_call;
 pub use hexes::{read_bytes, write_bytes};
 pub use numbers::{read_number, read_value, write_number};
 pub use text_laws::{
-    bytes_read_back, calls_read_back, numbers_read_back, read_words_are_in_range, words_read_back,
-    written_words_are_plain,
+    bytes_read_back, calls_read_back, numbers_read_back, read_words_are_in_range,
+    timeouts_are_those_of_rows, words_read_back, words_spell_no_end, written_words_are_plain,
 };
 pub use words_written::{append_bytes, append_line, append_numbers, append_word};
 

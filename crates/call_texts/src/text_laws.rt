@@ -1,11 +1,15 @@
 //! Laws of the texts. Each is a function without a body: what it ensures is the law.
 
-ghost use Rattle.std.specs.Prelude.{◌≡◌, ◌^◌, ◌<◌, ℕ, List, Some, true};
+ghost use Rattle.std.specs.Prelude.{◌≡◌, ◌≢◌, ◌^◌, ◌<◌, ℕ, List, Some, true};
 ghost use Rattle.std.specs.Fmt.{decimal};
 ghost use Rattle.std.specs.List.{AllByRecursion, join_with_byte};
 ghost use Rattle.hex.specs.Hex.{IsBytes};
-ghost use Rattle.call_texts.specs.CallText.{recorded_call_of, call_of_text, words_of_call, call_text, IsWritable};
+ghost use Rattle.call_texts.specs.CallText.{call_of, recorded_call_of, call_of_text, call_with, form_of, has_timeout, words_of_call, call_text, IsWritable};
+ghost use Rattle.call_texts.specs.Fields.{Fields};
+ghost use Rattle.call_texts.specs.declared.call_words.CallWord.{CallWord};
+ghost use Rattle.gaspi_types.specs.CallRows.{row_of};
 ghost use Rattle.gaspi_types.specs.declared.calls.Call.{Call};
+ghost use Rattle.gaspi_types.specs.declared.calls.Call.TheVariants.{End};
 ghost use Rattle.call_texts.specs.Hex.{bytes_of, hex_text};
 ghost use Rattle.call_texts.specs.Numbers.{is_numeral, number_of, value_of};
 ghost use Rattle.call_texts.specs.Words.{words_of, IsWord, IsPlainWord};
@@ -30,6 +34,16 @@ pub fn bytes_read_back()
 pub fn calls_read_back()
     ensures text { (call : Call) → IsWritable call → call_of_text (call_text call) ≡ Some call }
     ensures words { (call : Call) → IsWritable call → recorded_call_of (words_of_call call) ≡ Some call }
+{}
+
+/// The words of a script spell no end of a caller.
+pub fn words_spell_no_end()
+    ensures { (words : List (List ℕ)) (call : Call) → call_of words ≡ Some call → call ≢ End }
+{}
+
+/// A word's call has a timeout where the call's row says so. (GASPI: timeouts)
+pub fn timeouts_are_those_of_rows()
+    ensures { (word : CallWord) (fields : Fields (form_of word)) → (row_of (call_with word fields)).times_out ≡ has_timeout word }
 {}
 
 /// What words spell is in the range of its type.

@@ -11,7 +11,7 @@ use Rattle.gaspi_types.specs.declared.events.Event.{Event}
 use Rattle.gaspi_types.specs.declared.events.Event.TheVariants.{Called, Take, Put}
 use Rattle.gaspi_model.proofs.Tables.{slice_get-replicate}
 use Rattle.gaspi_model.proofs.Tables.{changed_at-found}
-use Rattle.gaspi_model.specs.Calls.{changed_at}
+use Rattle.gaspi_model.specs.Posting.{changed_at}
 use Rattle.gaspi_model.specs.Step.{own_calls}
 use Rattle.gaspi_run.specs.OwnCalls.{pairs_of, HasCallers, IsCallTable}
 use Rattle.gaspi_run.specs.declared.own_calls.OwnCall.{OwnCall}

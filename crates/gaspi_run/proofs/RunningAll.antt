@@ -6,10 +6,9 @@ use Rattle.std.proofs.lemmas.Bool.{ltb-true, ltb-false}
 use Rattle.std.proofs.lemmas.List.Elements.{All-get_or}
 use Rattle.std.proofs.lemmas.Option.{slice_get_within, get_or_from_slice_get}
 use Rattle.gaspi_types.specs.World.{World}
-use Rattle.gaspi_types.specs.Need.{need_of}
+use Rattle.gaspi_types.specs.CallRows.{need_of}
 use Rattle.gaspi_types.specs.declared.calls.Call.{Call}
 use Rattle.gaspi_types.specs.declared.calls.Call.TheVariants.{End}
-use Rattle.gaspi_types.specs.declared.calls.Call.TheVariants as calls
 use Rattle.gaspi_types.specs.declared.replies.Reply.TheVariants as replies
 use Rattle.gaspi_types.specs.declared.replies.Ready.{Ready}
 use Rattle.gaspi_types.specs.declared.replies.Ready.TheVariants as ready
@@ -19,7 +18,8 @@ use Rattle.gaspi_types.specs.declared.events.Transfer.{Transfer}
 use Rattle.gaspi_model.specs.State.{thread_at, is_running}
 use Rattle.gaspi_model.specs.Calls.{recorded_reply}
 use Rattle.gaspi_model.specs.Sound.{IsSound}
-use Rattle.gaspi_model.specs.Step.{step, transfer_event, answer_in, room_taken, own_calls, is_active, is_end, ends_caller}
+use Rattle.gaspi_model.specs.Step.{step, transfer_event, answer_in, room_taken, own_calls, is_active, ends_caller}
+use Rattle.gaspi_types.specs.CallRows.{is_end}
 use Rattle.gaspi_model.specs.Transfers.{transfers}
 use Rattle.gaspi_model.specs.declared.states.Posts.{Posts}
 use Rattle.gaspi_model.specs.declared.states.Memory.{Memory}
@@ -59,20 +59,8 @@ pub record Laws : Type 0 where
   pub stops : StopsRun
 
 not-end : (call : Call) → call ≢ End → is_end call ≡ false
-not-end (calls.Alloc seg size) other = refl
-not-end (calls.Register seg rank) other = refl
-not-end (calls.Delete seg) other = refl
-not-end (calls.Store seg offset bytes) other = refl
-not-end (calls.Load seg offset size) other = refl
-not-end (calls.Write seg offset rank rseg roffset size queue) other = refl
-not-end (calls.Notify rseg rank note value queue) other = refl
-not-end (calls.WriteNotify seg offset rank rseg roffset size note value queue) other = refl
-not-end (calls.Wait queue) other = refl
-not-end (calls.Waitsome seg begin num) other = refl
-not-end (calls.Reset seg note) other = refl
-not-end (calls.FetchAdd seg offset rank value) other = refl
-not-end (calls.CompareSwap seg offset rank comparator new) other = refl
 not-end End other = absurd (other refl)
+not-end call other = refl
 
 all-at : {X : Type 0} (P : X → Type 0) (xs : List X) (place : ℕ) (x : X) → All P xs → slice_get xs place ≡ Some x → P x
 all-at P xs place x all at = subst P (get_or_from_slice_get xs place x x at) (All-get_or P xs place x (slice_get_within xs place x at) all)
@@ -169,14 +157,13 @@ going-running laws limit w scripts t place x line tried lines plain good running
 
 -- an active caller's end is answered
 end-answer : (s : State) (rank thread : ℕ) → IsSound s → rank < s.limits.ranks → is_active s rank thread ≡ true → answer_in s rank thread End ≡ Some (ready.Reply replies.Done)
-end-answer s rank thread sound within active = go (slice_get s.posts rank) (slice_get s.memories rank) refl refl
+end-answer s rank thread sound within active = go (slice_get s.posts rank) refl
   where
-    go : (p : Option Posts) (m : Option Memory) → slice_get s.posts rank ≡ p → slice_get s.memories rank ≡ m → answer_in s rank thread End ≡ Some (ready.Reply replies.Done)
-    go None m hp hm = absurd (past-none s.posts rank (let same = sound.ranks in omega arith) hp)
-    go (Some posts) None hp hm = absurd (past-none s.memories rank (let same = sound.memories in omega arith) hm)
-    go (Some posts) (Some memory) hp hm =
+    go : (p : Option Posts) → slice_get s.posts rank ≡ p → answer_in s rank thread End ≡ Some (ready.Reply replies.Done)
+    go None hp = absurd (past-none s.posts rank (let same = sound.ranks in omega arith) hp)
+    go (Some posts) hp =
         let running : is_running (thread_at posts thread) ≡ true = rw hp at active in
-        rw (hp, hm, running) refl
+        rw (hp, running) refl
 
 room-end : (s : State) (rank : ℕ) → IsSound s → room_taken s rank + need_of End false false ≤ s.limits.events
 room-end s rank sound = go (slice_get s.posts rank) refl

@@ -6,7 +6,7 @@ use Rattle.std.proofs.lemmas.Option.{slice_get-get_or}
 use Rattle.gaspi_types.specs.declared.calls.Call.{Call}
 use Rattle.gaspi_types.specs.declared.replies.Reply.{Reply}
 use Rattle.gaspi_types.specs.declared.shapes.CallerId.{CallerId}
-use Rattle.gaspi_model.specs.Step.{is_end}
+use Rattle.gaspi_types.specs.CallRows.{is_end}
 use Rattle.rank_script.specs.Runs.{Progress, Going, Over, advanced, outcome_of, line_of}
 use Rattle.gaspi_run.specs.OwnCalls.{pairs_of}
 use Rattle.gaspi_run.specs.Transcripts.{transcript, call_line}

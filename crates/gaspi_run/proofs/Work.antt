@@ -4,7 +4,7 @@ use Rattle.std.specs.List.{slice_get, slice_set, sum_by}
 use Rattle.std.proofs.lemmas.Bool.{leb-false, ltb-true, ne_eqb}
 use Rattle.std.proofs.lemmas.List.Sums.{sum_by-cons, sum_by-set, sum_by-remove}
 use Rattle.std.proofs.lemmas.Option.{slice_get_within, get_or_from_slice_get}
-use Rattle.gaspi_types.specs.Need.{need_of}
+use Rattle.gaspi_types.specs.CallRows.{need_of}
 use Rattle.gaspi_types.specs.declared.shapes.Limits.{Limits}
 use Rattle.gaspi_types.specs.declared.calls.Call.{Call}
 use Rattle.gaspi_types.specs.declared.calls.Call.TheVariants.{End}
@@ -16,7 +16,6 @@ use Rattle.gaspi_types.specs.declared.events.Event.{Event}
 use Rattle.gaspi_types.specs.declared.events.Event.TheVariants.{Called}
 use Rattle.gaspi_types.specs.declared.events.Transfer.{Transfer}
 use Rattle.gaspi_model.specs.Sound.{IsSound, events_left}
-use Rattle.gaspi_model.specs.Calls.{memory_named, memory_rank}
 use Rattle.gaspi_model.specs.Step.{step, transfer_event, answer_in, room_taken}
 use Rattle.gaspi_model.specs.Transfers.{transfers}
 use Rattle.gaspi_model.specs.declared.states.State.{State}
@@ -152,26 +151,13 @@ answered-less counts limit t place w line tried lines None sound at going some =
 answered-less counts limit t place w line tried lines (Some (ready.Reply reply)) sound at going some = recorded-less counts limit t place w line tried lines line.call reply sound at going
 answered-less counts limit t place w line tried lines (Some ready.NotReady) sound at going some = looked-less counts limit t place w line tried lines sound at going
 
--- the rank whose memory a call works on is there
-memory_rank-within : (limits : Limits) (me : ℕ) (call : Call) → me < limits.ranks → memory_rank limits me call < limits.ranks
-memory_rank-within limits me call within = go (memory_named call) refl
-  where
-    by-rank : (r : ℕ) → memory_named call ≡ Some r → (b : Bool) → nat_lt r limits.ranks ≡ b → memory_rank limits me call < limits.ranks
-    by-rank r is true less = rw (is, less) (ltb-true r limits.ranks less)
-    by-rank r is false past = rw (is, past) within
-
-    go : (o : Option ℕ) → memory_named call ≡ o → memory_rank limits me call < limits.ranks
-    go None is = rw is within
-    go (Some r) is = by-rank r is (nat_lt r limits.ranks) refl
-
 -- a look at a call finds something where the caller's rank is there
 pub answer-some : (s : State) (rank thread : ℕ) (call : Call) → IsSound s → rank < s.limits.ranks → answer_in s rank thread call ≡ None → ⊥
-answer-some s rank thread call sound within none = go (slice_get s.posts rank) (slice_get s.memories (memory_rank s.limits rank call)) refl refl
+answer-some s rank thread call sound within none = go (slice_get s.posts rank) refl
   where
-    go : (p : Option Posts) (m : Option Memory) → slice_get s.posts rank ≡ p → slice_get s.memories (memory_rank s.limits rank call) ≡ m → ⊥
-    go None m hp hm = past-none s.posts rank (let same = sound.ranks in omega arith) hp
-    go (Some posts) None hp hm = past-none s.memories (memory_rank s.limits rank call) (let same = sound.memories in let there = memory_rank-within s.limits rank call within in omega arith) hm
-    go (Some posts) (Some memory) hp hm = let no = rw (hp, hm) at none in cc
+    go : (p : Option Posts) → slice_get s.posts rank ≡ p → ⊥
+    go None hp = past-none s.posts rank (let same = sound.ranks in omega arith) hp
+    go (Some posts) hp = let no = rw hp at none in cc
 
 going-less-turn : Counts → (limit : ℕ) (t : Turns) (place : ℕ) (w : Waiting) (line : ScriptLine) (tried : ℕ) (lines : List ScriptLine) → IsSound t.state → w.caller.rank < t.state.limits.ranks
     → slice_get t.waiting place ≡ Some w → w.cursor ≡ Going line tried lines → work limit (going_turn limit t place w line) < work limit t

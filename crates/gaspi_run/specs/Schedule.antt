@@ -1,7 +1,7 @@
 -- The schedule on one thread: turns of callers and of transfers, picked by the generator. (own choice)
 use Rattle.std.specs.Prelude.{count_by, ◌<◌, ◌≡◌, ℕ, zero, suc, ◌+◌, ◌-◌, true, false, ◌==◌, nat_lt, nat_le, List, [], ◌∷◌, ◌++◌, length, remove, Option, None, Some, Result, Ok, Err, if◌then◌else◌, slice_get, slice_set, find}
 use Rattle.std.specs.List.{flat_map, range_with_len}
-use Rattle.gaspi_types.specs.Need.{need_of}
+use Rattle.gaspi_types.specs.CallRows.{need_of}
 use Rattle.gaspi_types.specs.World.{World, is_caller}
 use Rattle.gaspi_types.specs.declared.shapes.CallerId.{CallerId}
 use Rattle.gaspi_types.specs.declared.calls.Call.{Call}

@@ -9,7 +9,8 @@ use Rattle.gaspi_types.specs.declared.shapes.CallerId.{CallerId}
 use Rattle.gaspi_types.specs.declared.calls.Call.{Call}
 use Rattle.gaspi_types.specs.declared.replies.Reply.{Reply}
 use Rattle.gaspi_types.specs.declared.events.Event.{Event}
-use Rattle.gaspi_model.specs.Step.{own_calls, is_end}
+use Rattle.gaspi_model.specs.Step.{own_calls}
+use Rattle.gaspi_types.specs.CallRows.{is_end}
 use Rattle.rank_script.specs.Runs.{Progress, Going, Over, going_on, advanced}
 use Rattle.rank_script.specs.WorldText.{is_script_of}
 use Rattle.rank_script.specs.declared.scripts.Script.{Script}

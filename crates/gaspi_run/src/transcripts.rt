@@ -3,7 +3,7 @@
 ghost use Rattle.std.specs.Prelude.{◌≡◌, ◌<◌, ◌++◌, ◌||◌, [], List, OnOk, OnErr, codes, is_some};
 ghost use Rattle.std.specs.Fmt.{decimal};
 ghost use Rattle.gaspi_types.specs.declared.events.Event.{Event};
-ghost use Rattle.gaspi_model.specs.Step.{is_end};
+ghost use Rattle.gaspi_types.specs.CallRows.{is_end};
 ghost use Rattle.gaspi_run.specs.OwnCalls.{pairs_of, HasCallers, IsCallTable};
 ghost use Rattle.gaspi_texts.specs.EventText.{caller_word};
 ghost use Rattle.rank_script.specs.Runs.{going_on, outcome_of};
@@ -81,7 +81,7 @@ fn write_ending(text: &mut Bytes, caller: CallerId, cursor: &Cursor<'_>) -> Resu
 fn is_end(call: &Call) -> bool
     ensures { result ≡ is_end call.now }
 {
-    matches!(call, Call::End)
+    call.row().ends
 }
 
 /// Whether a run makes no more calls: it is over, or its caller ends.

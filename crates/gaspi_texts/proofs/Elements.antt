@@ -1,6 +1,6 @@
 -- The elements that words spell, from the front on.
 use Rattle.std.proofs.Common.{◌≡◌, ℕ, ℤ, List, [], ◌∷◌, ◌++◌, Option, Some, None, refl}
-use Rattle.call_texts.specs.CallText.{◌>>=◌}
+use Rattle.call_texts.specs.Fields.{◌>>=◌}
 use Rattle.gaspi_texts.specs.ReplyText.{element_of, elements_of}
 use Rattle.gaspi_types.specs.declared.collectives.NumType.{NumType}
 

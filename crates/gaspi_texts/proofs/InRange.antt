@@ -1,5 +1,5 @@
 -- What words spell is in range.
-use Rattle.std.proofs.Common.{◌≡◌, ℕ, ℤ, ◌+◌, ◌^◌, ◌<◌, Bool, true, false, ◌==◌, if◌then◌else◌, nat_lt, List, [], ◌∷◌, take, drop, position, codes, Option, Some, None, IfSome, refl, subst, arith}
+use Rattle.std.proofs.Common.{◌≡◌, ℕ, ℤ, ◌+◌, ◌^◌, ◌<◌, Bool, true, false, ◌==◌, if◌then◌else◌, nat_lt, List, [], ◌∷◌, take, drop, position, codes, Option, Some, None, IfSome, refl, sym, subst, arith, rules}
 use Rattle.std.specs.List.{AllByRecursion}
 use Rattle.std.specs.Option.{option_map}
 use Rattle.std.specs.Str.{bytes_eq}
@@ -13,17 +13,15 @@ use Rattle.gaspi_types.specs.declared.collectives.Op.{Op}
 use Rattle.gaspi_types.specs.declared.collectives.Op.TheVariants.{Min, Max, Sum}
 use Rattle.gaspi_types.specs.declared.collectives.Stage.{Stage}
 use Rattle.gaspi_types.specs.declared.collectives.Stage.TheVariants.{Building, Committed}
-use Rattle.gaspi_types.specs.declared.collectives.Coll.{Coll}
 use Rattle.gaspi_types.specs.declared.collectives.Coll.TheVariants.{Allreduce, Create, Commit}
-use Rattle.gaspi_types.specs.declared.replies.Refusal.{Refusal}
-use Rattle.gaspi_types.specs.declared.replies.Refusal.TheVariants.{BadRank, NoSegment, SegmentThere, Unregistered, BadRange, BadSize, BadQueue, QueueFull, QueueBroken, BadNote, ZeroValue, BadAlign, PassiveSize, NoGroup, GroupStage, NotMember, GroupMismatch, ActiveCollective, ResumeOther, CollectiveMismatch, BadCount, FloatType, SegmentBusy, GroupsFull, CallerEnded}
 use Rattle.gaspi_types.specs.declared.replies.Reply.{Reply}
 use Rattle.gaspi_types.specs.declared.replies.Reply.TheVariants as replies
 use Rattle.gaspi_types.specs.declared.shapes.CallerId.{CallerId}
 use Rattle.gaspi_types.specs.declared.events.Event.{Event}
 use Rattle.gaspi_types.specs.declared.events.Event.TheVariants.{Called}
 use Rattle.gaspi_types.specs.declared.events.Outcome.{Outcome}
-use Rattle.call_texts.specs.CallText.{◌>>=◌, recorded_call_of, IsNumber, IsWritable}
+use Rattle.call_texts.specs.CallText.{recorded_call_of, IsWritable}
+use Rattle.call_texts.specs.Fields.{◌>>=◌, IsNumber}
 use Rattle.gaspi_texts.specs.declared.event_reading.Moved.{Moved}
 use Rattle.gaspi_texts.specs.declared.reply_words.ReplyWord.{ReplyWord}
 use Rattle.gaspi_texts.specs.declared.reply_words.ReplyWord.TheVariants as reply_words
@@ -32,7 +30,9 @@ use Rattle.gaspi_texts.specs.EventReading.{number_below, outcome_of, caller_of, 
 use Rattle.gaspi_texts.specs.EventText.{arrow, IsInEventRange}
 use Rattle.call_texts.specs.Hex.{bytes_of}
 use Rattle.call_texts.specs.Numbers.{number_of, value_of}
-use Rattle.gaspi_texts.specs.ReplyText.{is_in_type, signed_of, element_of, elements_of, type_of, op_of, stage_of, bare, one_field, queue_full_of, group_stage_of, allreduce_of, create_of, barrier_of, coll_of, refusal_of, plain_reply, value_reply, bytes_reply, list_reply, refused_reply, reply_word_of, reply_with, reply_of, IsInRange}
+use Rattle.gaspi_texts.specs.CollectiveText.{type_of, op_of, stage_of, one_field, allreduce_of, create_of, barrier_of, coll_of}
+use Rattle.gaspi_texts.specs.RefusalText.{RefusalForm, Bare, OneNumber, TwoNumbers, OneStage, OneCollective, Held, numbers_of_held, held_of, RefusalRow, refusal_rows, row_in, refusal_of}
+use Rattle.gaspi_texts.specs.ReplyText.{is_in_type, signed_of, element_of, elements_of, plain_reply, value_reply, bytes_reply, list_reply, refused_reply, reply_word_of, reply_with, reply_of, IsInRange}
 
 -- Steps that may find nothing.
 
@@ -69,6 +69,19 @@ guarded_int P false z h = tt
 held : {A : Type 0} (P : A → Type 0) (o : Option A) → ((x : A) → o ≡ Some x → P x) → IfSome o P
 held P (Some x) h = h x refl
 held P None h = tt
+
+-- The rows of refusals.
+
+-- a refusal that is made of what it holds is compared by that
+abbrev IsFair : RefusalRow → Type 0
+IsFair row = (held : Held row.form) → refusal_fields (row.made held) ≡ numbers_of_held row.form held
+
+rows-fair : AllByRecursion (λ row. IsFair row.1) refusal_rows
+rows-fair = search rules
+
+row_in-fair : (number : ℕ) (rows : List (ℕ × RefusalRow)) → AllByRecursion (λ row. IsFair row.1) rows → IfSome (row_in number rows) IsFair
+row_in-fair number [] h = tt
+row_in-fair number (row ∷ rows) h = either IsFair (number == row.0) (Some row.1) (row_in number rows) h.0 (row_in-fair number rows h.1)
 
 module _ (laws : CallLaws) where
   -- Numbers, bytes and calls.
@@ -147,76 +160,42 @@ module _ (laws : CallLaws) where
       (either _ (bytes_eq (codes "create") word) _ _ (create_of-range arguments)
       (either _ (bytes_eq (codes "commit") word) _ None (commit_range (one_field arguments) (one_field-range arguments)) tt)))
 
-  bare-range : (r : Refusal) (fields : List (List ℕ)) → AllByRecursion (λ n. n < 2 ^ 32) (refusal_fields r)
-      → IfSome (bare r fields) (λ found. AllByRecursion (λ n. n < 2 ^ 32) (refusal_fields found))
-  bare-range r [] h = h
-  bare-range r (word ∷ words) h = tt
+  stage_range : (o : Option Stage) → IfSome o (λ stage. AllByRecursion (λ n. n < 2 ^ 32) (stage_number stage ∷ []))
+  stage_range (Some stage) = (stage_small stage, tt)
+  stage_range None = tt
 
-  single_range : (f : ℕ → Refusal) → ((n : ℕ) → n < 2 ^ 32 → AllByRecursion (λ k. k < 2 ^ 32) (refusal_fields (f n))) → (o : Option ℕ)
-      → IfSome o (λ n. n < 2 ^ 32) → IfSome (option_map f o) (λ found. AllByRecursion (λ n. n < 2 ^ 32) (refusal_fields found))
-  single_range f h (Some n) small = h n small
-  single_range f h None small = tt
+  one_range : (o : Option ℕ) → IfSome o (λ n. n < 2 ^ 32) → IfSome o (λ n. AllByRecursion (λ m. m < 2 ^ 32) (n ∷ []))
+  one_range (Some n) small = (small, tt)
+  one_range None small = tt
 
-  kept_range : (f : Coll → Refusal) → ((c : Coll) → AllByRecursion (λ n. n < 2 ^ 32) (coll_fields c) → AllByRecursion (λ k. k < 2 ^ 32) (refusal_fields (f c)))
-      → (o : Option Coll) → IfSome o (λ c. AllByRecursion (λ n. n < 2 ^ 32) (coll_fields c)) → IfSome (option_map f o) (λ found. AllByRecursion (λ n. n < 2 ^ 32) (refusal_fields found))
-  kept_range f h (Some c) small = h c small
-  kept_range f h None small = tt
+  two_range : (first second : Option ℕ) → IfSome first (λ n. n < 2 ^ 32) → IfSome second (λ n. n < 2 ^ 32)
+      → IfSome (first >>= λ m. (second >>= λ n. Some (m, n))) (λ (both : ℕ × ℕ). AllByRecursion (λ k. k < 2 ^ 32) (both.0 ∷ both.1 ∷ []))
+  two_range (Some first) (Some second) h k = (h, (k, tt))
+  two_range None second h k = tt
+  two_range (Some first) None h k = tt
 
-  queue_full_range : (count need : Option ℕ) → IfSome count (λ n. n < 2 ^ 32) → IfSome need (λ n. n < 2 ^ 32)
-      → IfSome (count >>= λ m. (need >>= λ n. Some (QueueFull m n))) (λ found. AllByRecursion (λ n. n < 2 ^ 32) (refusal_fields found))
-  queue_full_range (Some count) (Some need) h k = (h, (k, tt))
-  queue_full_range None need h k = tt
-  queue_full_range (Some count) None h k = tt
+  held_of-range : (form : RefusalForm) (words : List (List ℕ)) → IfSome (held_of form words) (λ held. AllByRecursion (λ n. n < 2 ^ 32) (numbers_of_held form held))
+  held_of-range Bare [] = tt
+  held_of-range Bare (word ∷ words) = tt
+  held_of-range OneNumber words = one_range (one_field words) (one_field-range words)
+  held_of-range TwoNumbers (first ∷ second ∷ []) = two_range (value_of first) (value_of second) (value_range first) (value_range second)
+  held_of-range TwoNumbers other = tt
+  held_of-range OneStage [] = tt
+  held_of-range OneStage (word ∷ []) = stage_range (stage_of word)
+  held_of-range OneStage (word ∷ next ∷ words) = tt
+  held_of-range OneCollective words = coll_of-range words
 
-  group_stage_range : (o : Option Stage) → IfSome (option_map GroupStage o) (λ found. AllByRecursion (λ n. n < 2 ^ 32) (refusal_fields found))
-  group_stage_range (Some stage) = (stage_small stage, tt)
-  group_stage_range None = tt
+  made_range : (row : RefusalRow) (found : Option (Held row.form)) → IsFair row
+      → IfSome found (λ held. AllByRecursion (λ n. n < 2 ^ 32) (numbers_of_held row.form held))
+      → IfSome (option_map row.made found) (λ r. AllByRecursion (λ n. n < 2 ^ 32) (refusal_fields r))
+  made_range row (Some held) fair small = subst (λ (ns : List ℕ). AllByRecursion (λ n. n < 2 ^ 32) ns) (sym (fair held)) small
+  made_range row None fair small = tt
 
-  single-range : (f : ℕ → Refusal) → ((n : ℕ) → n < 2 ^ 32 → AllByRecursion (λ k. k < 2 ^ 32) (refusal_fields (f n))) → (fields : List (List ℕ))
-      → IfSome (option_map f (one_field fields)) (λ found. AllByRecursion (λ n. n < 2 ^ 32) (refusal_fields found))
-  single-range f h fields = single_range f h (one_field fields) (one_field-range fields)
-
-  kept-range : (f : Coll → Refusal) → ((c : Coll) → AllByRecursion (λ n. n < 2 ^ 32) (coll_fields c) → AllByRecursion (λ k. k < 2 ^ 32) (refusal_fields (f c)))
-      → (fields : List (List ℕ)) → IfSome (option_map f (coll_of fields)) (λ found. AllByRecursion (λ n. n < 2 ^ 32) (refusal_fields found))
-  kept-range f h fields = kept_range f h (coll_of fields) (coll_of-range fields)
-
-  queue_full_of-range : (fields : List (List ℕ)) → IfSome (queue_full_of fields) (λ found. AllByRecursion (λ n. n < 2 ^ 32) (refusal_fields found))
-  queue_full_of-range (first ∷ second ∷ []) = queue_full_range (value_of first) (value_of second) (value_range first) (value_range second)
-  queue_full_of-range other = tt
-
-  group_stage_of-range : (fields : List (List ℕ)) → IfSome (group_stage_of fields) (λ found. AllByRecursion (λ n. n < 2 ^ 32) (refusal_fields found))
-  group_stage_of-range [] = tt
-  group_stage_of-range (word ∷ []) = group_stage_range (stage_of word)
-  group_stage_of-range (word ∷ next ∷ words) = tt
-
-  refusal_of-range : (number : ℕ) (fields : List (List ℕ)) → IfSome (refusal_of number fields) (λ found. AllByRecursion (λ n. n < 2 ^ 32) (refusal_fields found))
+  refusal_of-range : (number : ℕ) (words : List (List ℕ)) → IfSome (refusal_of number words) (λ found. AllByRecursion (λ n. n < 2 ^ 32) (refusal_fields found))
   unfolding refusal_of
-  refusal_of-range number fields =
-      (either _ (number == 1) _ _ (bare-range BadRank fields tt)
-      (either _ (number == 2) _ _ (bare-range NoSegment fields tt)
-      (either _ (number == 3) _ _ (bare-range SegmentThere fields tt)
-      (either _ (number == 4) _ _ (bare-range Unregistered fields tt)
-      (either _ (number == 5) _ _ (single-range BadRange (λ n h. (h, tt)) fields)
-      (either _ (number == 6) _ _ (bare-range BadSize fields tt)
-      (either _ (number == 7) _ _ (bare-range BadQueue fields tt)
-      (either _ (number == 8) _ _ (queue_full_of-range fields)
-      (either _ (number == 9) _ _ (single-range QueueBroken (λ n h. (h, tt)) fields)
-      (either _ (number == 10) _ _ (bare-range BadNote fields tt)
-      (either _ (number == 11) _ _ (bare-range ZeroValue fields tt)
-      (either _ (number == 12) _ _ (bare-range BadAlign fields tt)
-      (either _ (number == 13) _ _ (single-range PassiveSize (λ n h. (h, tt)) fields)
-      (either _ (number == 14) _ _ (bare-range NoGroup fields tt)
-      (either _ (number == 15) _ _ (group_stage_of-range fields)
-      (either _ (number == 16) _ _ (bare-range NotMember fields tt)
-      (either _ (number == 17) _ _ (single-range GroupMismatch (λ n h. (h, tt)) fields)
-      (either _ (number == 18) _ _ (single-range ActiveCollective (λ n h. (h, tt)) fields)
-      (either _ (number == 19) _ _ (kept-range ResumeOther (λ c h. h) fields)
-      (either _ (number == 20) _ _ (kept-range CollectiveMismatch (λ c h. h) fields)
-      (either _ (number == 21) _ _ (bare-range BadCount fields tt)
-      (either _ (number == 22) _ _ (bare-range FloatType fields tt)
-      (either _ (number == 23) _ _ (single-range SegmentBusy (λ n h. (h, tt)) fields)
-      (either _ (number == 24) _ _ (bare-range GroupsFull fields tt)
-      (either _ (number == 25) _ None (bare-range CallerEnded fields tt) tt)))))))))))))))))))))))))
+  refusal_of-range number words =
+      bound IsFair (λ found. AllByRecursion (λ n. n < 2 ^ 32) (refusal_fields found)) (row_in number refusal_rows) (λ row. option_map row.made (held_of row.form words))
+      (row_in-fair number refusal_rows rows-fair) (λ row fair. made_range row (held_of row.form words) fair (held_of-range row.form words))
 
   bytes_reply-range : (arguments : List (List ℕ)) → IfSome (bytes_reply arguments) IsInRange
   bytes_reply-range [] = tt

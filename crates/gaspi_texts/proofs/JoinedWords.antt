@@ -1,14 +1,13 @@
 -- Words joined by spaces, and the same words each behind a space.
-use Rattle.std.proofs.Common.{◌≡◌, ℕ, ◌<◌, List, [], ◌∷◌, ◌++◌, length, map, codes, refl, sym, ap, ◌∙◌, append-nil, arith}
+use Rattle.std.proofs.Common.{◌≡◌, ℕ, ◌<◌, List, [], ◌∷◌, ◌++◌, length, map, Option, Some, None, codes, refl, sym, ap, ◌∙◌, append-nil, arith}
 use Rattle.std.proofs.lemmas.Grind.{flat_map-append}
 use Rattle.std.specs.List.{flat_map, join_with_byte}
 use Rattle.gaspi_types.specs.declared.calls.Call.{Call}
-use Rattle.gaspi_types.specs.declared.calls.Call.TheVariants as calls
 use Rattle.gaspi_types.specs.declared.events.Event.TheVariants.{Called}
 use Rattle.gaspi_types.specs.declared.replies.Reply.{Reply}
 use Rattle.gaspi_types.specs.declared.replies.Reply.TheVariants as replies
 use Rattle.gaspi_types.specs.declared.shapes.CallerId.{CallerId}
-use Rattle.call_texts.specs.CallText.{words_of_call, call_text}
+use Rattle.call_texts.specs.CallText.{Spelled, spelled, words_of_spelled, words_of_call, call_text}
 use Rattle.gaspi_texts.specs.EventText.{arrow, caller_word, words_of_event, event_text}
 use Rattle.gaspi_texts.specs.ReplyText.{words_of_reply, reply_text}
 use Rattle.call_texts.specs.Written.{spaced}
@@ -30,21 +29,12 @@ spaced_filled : (words : List (List ℕ)) → 0 < length words → spaced words 
 spaced_filled [] filled = absurd (omega arith)
 spaced_filled (word ∷ words) filled = ap (λ (text : List ℕ). 32 ∷ text) (sym (join_spaced word words))
 
+spelled_filled : (s : Option Spelled) → 0 < length (words_of_spelled s)
+spelled_filled None = omega arith
+spelled_filled (Some s) = omega arith
+
 call_filled : (call : Call) → 0 < length (words_of_call call)
-call_filled (calls.Alloc seg size) = omega arith
-call_filled (calls.Register seg rank) = omega arith
-call_filled (calls.Delete seg) = omega arith
-call_filled (calls.Store seg offset bytes) = omega arith
-call_filled (calls.Load seg offset size) = omega arith
-call_filled (calls.Write seg offset rank rseg roffset size queue) = omega arith
-call_filled (calls.Notify rseg rank note value queue) = omega arith
-call_filled (calls.WriteNotify seg offset rank rseg roffset size note value queue) = omega arith
-call_filled (calls.Wait queue) = omega arith
-call_filled (calls.Waitsome seg begin num) = omega arith
-call_filled (calls.Reset seg note) = omega arith
-call_filled (calls.FetchAdd seg offset rank value) = omega arith
-call_filled (calls.CompareSwap seg offset rank comparator new) = omega arith
-call_filled calls.End = omega arith
+call_filled call = spelled_filled (spelled call)
 
 reply_filled : (reply : Reply) → 0 < length (words_of_reply reply)
 unfolding words_of_reply

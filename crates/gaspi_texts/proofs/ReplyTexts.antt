@@ -1,5 +1,5 @@
 -- A reply's text, read back.
-use Rattle.std.proofs.Common.{◌≡◌, ℕ, ℤ, pos, negsuc, ◌^◌, ◌<◌, true, false, ◌==◌, codes, List, [], ◌∷◌, map, suc, Some, lit<, refl, sym, ap, ◌∙◌, arith}
+use Rattle.std.proofs.Common.{◌≡◌, ℕ, ℤ, pos, negsuc, ◌^◌, ◌<◌, true, false, ◌==◌, codes, List, [], ◌∷◌, map, suc, Some, lit<, refl, sym, ap, subst, ◌∙◌, arith}
 use Rattle.std.specs.Char.{is_ascii_digit}
 use Rattle.std.specs.Fmt.{decimal, signed_decimal}
 use Rattle.std.specs.List.{list_all, AllByRecursion}
@@ -15,11 +15,13 @@ use Rattle.gaspi_types.specs.declared.collectives.Stage.TheVariants.{Building, C
 use Rattle.gaspi_types.specs.declared.collectives.Coll.{Coll}
 use Rattle.gaspi_types.specs.declared.collectives.Coll.TheVariants.{Barrier, Allreduce, Create, Commit}
 use Rattle.gaspi_types.specs.declared.replies.Refusal.{Refusal}
-use Rattle.gaspi_types.specs.declared.replies.Refusal.TheVariants.{BadRank, NoSegment, SegmentThere, Unregistered, BadRange, BadSize, BadQueue, QueueFull, QueueBroken, BadNote, ZeroValue, BadAlign, PassiveSize, NoGroup, GroupStage, NotMember, GroupMismatch, ActiveCollective, ResumeOther, CollectiveMismatch, BadCount, FloatType, SegmentBusy, GroupsFull, CallerEnded}
+use Rattle.gaspi_types.specs.declared.replies.Refusal.TheVariants.{BadRank}
 use Rattle.gaspi_types.specs.declared.replies.Reply.{Reply}
 use Rattle.gaspi_types.specs.declared.replies.Reply.TheVariants as replies
 use Rattle.call_texts.specs.Numbers.{number_of}
-use Rattle.gaspi_texts.specs.ReplyText.{type_word, op_word, stage_word, type_of, op_of, stage_of, is_in_type, signed_of, element_of, elements_of, coll_words, coll_of, field_words, refusal_of, reply_word_of, words_of_reply, reply_text, reply_of, IsInRange}
+use Rattle.gaspi_texts.specs.CollectiveText.{type_word, op_word, stage_word, type_of, op_of, stage_of, coll_words, coll_of}
+use Rattle.gaspi_texts.specs.RefusalText.{RefusalForm, Bare, OneNumber, TwoNumbers, OneStage, OneCollective, Held, numbers_of_held, words_of_held, held_of, RefusalRow, refusal_rows, row_in, refusal_of, Holding, Holds, holding_of, field_words}
+use Rattle.gaspi_texts.specs.ReplyText.{is_in_type, signed_of, element_of, elements_of, reply_word_of, words_of_reply, reply_text, reply_of, IsInRange}
 use Rattle.call_texts.specs.Words.{words_of}
 use Rattle.gaspi_texts.specs.CallLaws.{CallLaws}
 use Rattle.gaspi_texts.proofs.GraphicWords.{number_word, small_word, fixed_word, hex_word, signed_word, are_digits, IsWide}
@@ -66,6 +68,30 @@ stage_graphic : (stage : Stage) → IsGraphic (stage_word stage)
 unfolding is_graphic
 stage_graphic Building = fixed_word (stage_word Building) (lit< tt) refl
 stage_graphic Committed = fixed_word (stage_word Committed) (lit< tt) refl
+
+-- Refusals: each is made by the row of its number, from what it holds.
+
+record HasRow (r : Refusal) : Type 0 where
+  row : RefusalRow
+  there : row_in (refusal_number r) refusal_rows ≡ Some row
+  held : Held row.form
+  makes : row.made held ≡ r
+  words : field_words r ≡ words_of_held row.form held
+  numbers : refusal_fields r ≡ numbers_of_held row.form held
+
+abbrev form_in : Holding → RefusalForm
+form_in (Holds form held) = form
+
+abbrev held_in : (holding : Holding) → Held (form_in holding)
+held_in (Holds form held) = held
+
+has_row : (r : Refusal) → HasRow r
+has_row BadRank = record { row = _; there = refl; held = held_in (holding_of BadRank); makes = refl; words = refl; numbers = refl }
+has_row r = record { row = _; there = refl; held = held_in (holding_of r); makes = refl; words = refl; numbers = refl }
+
+refusal_number-small : (r : Refusal) → refusal_number r < 2 ^ 64
+refusal_number-small BadRank = lit< tt
+refusal_number-small r = lit< tt
 
 -- Elements.
 
@@ -131,88 +157,35 @@ module _ (laws : CallLaws) where
       (fixed_word (codes "create") (lit< tt) refl, (small_word laws segment h.1.0, (small_word laws size h.1.1.0, tt)))
   coll_graphic (Commit mask) h = (fixed_word (codes "commit") (lit< tt) refl, (small_word laws mask h.1.0, tt))
 
+  held_of-words : (form : RefusalForm) (held : Held form) → AllByRecursion (λ n. n < 2 ^ 32) (numbers_of_held form held)
+      → held_of form (words_of_held form held) ≡ Some held
+  held_of-words Bare held h = refl
+  held_of-words OneNumber n h = laws.value n h.0
+  held_of-words TwoNumbers (first, second) h = rw (laws.value first h.0, laws.value second h.1.0) refl
+  held_of-words OneStage stage h = stage_of-word stage
+  held_of-words OneCollective kept h = coll_of-words kept h
+
+  held_graphic : (form : RefusalForm) (held : Held form) → AllByRecursion (λ n. n < 2 ^ 32) (numbers_of_held form held)
+      → AllByRecursion IsGraphic (words_of_held form held)
+  held_graphic Bare held h = tt
+  held_graphic OneNumber n h = (small_word laws n h.0, tt)
+  held_graphic TwoNumbers (first, second) h = (small_word laws first h.0, (small_word laws second h.1.0, tt))
+  held_graphic OneStage stage h = (stage_graphic stage, tt)
+  held_graphic OneCollective kept h = coll_graphic kept h
+
   refusal_of-words : (r : Refusal) → AllByRecursion (λ n. n < 2 ^ 32) (refusal_fields r)
       → refusal_of (refusal_number r) (field_words r) ≡ Some r
   unfolding refusal_of
-  refusal_of-words BadRank h = refl
-  refusal_of-words NoSegment h = refl
-  refusal_of-words SegmentThere h = refl
-  refusal_of-words Unregistered h = refl
-  refusal_of-words (BadRange size) h = rw (laws.value size h.0) refl
-  refusal_of-words BadSize h = refl
-  refusal_of-words BadQueue h = refl
-  refusal_of-words (QueueFull count need) h = rw (laws.value count h.0, laws.value need h.1.0) refl
-  refusal_of-words (QueueBroken rank) h = rw (laws.value rank h.0) refl
-  refusal_of-words BadNote h = refl
-  refusal_of-words ZeroValue h = refl
-  refusal_of-words BadAlign h = refl
-  refusal_of-words (PassiveSize waiting) h = rw (laws.value waiting h.0) refl
-  refusal_of-words NoGroup h = refl
-  refusal_of-words (GroupStage stage) h = rw (stage_of-word stage) refl
-  refusal_of-words NotMember h = refl
-  refusal_of-words (GroupMismatch kept) h = rw (laws.value kept h.0) refl
-  refusal_of-words (ActiveCollective thread) h = rw (laws.value thread h.0) refl
-  refusal_of-words (ResumeOther kept) h = rw (coll_of-words kept h) refl
-  refusal_of-words (CollectiveMismatch kept) h = rw (coll_of-words kept h) refl
-  refusal_of-words BadCount h = refl
-  refusal_of-words FloatType h = refl
-  refusal_of-words (SegmentBusy queue) h = rw (laws.value queue h.0) refl
-  refusal_of-words GroupsFull h = refl
-  refusal_of-words CallerEnded h = refl
+  refusal_of-words r h =
+      let has = has_row r in
+      let small : AllByRecursion (λ n. n < 2 ^ 32) (numbers_of_held has.row.form has.held) = rw has.numbers at h in
+      rw (has.there, has.words, held_of-words has.row.form has.held small) (ap (λ (found : Refusal). Some found) has.makes)
 
   fields_graphic : (r : Refusal) → AllByRecursion (λ n. n < 2 ^ 32) (refusal_fields r) → AllByRecursion IsGraphic (field_words r)
-  fields_graphic BadRank h = tt
-  fields_graphic NoSegment h = tt
-  fields_graphic SegmentThere h = tt
-  fields_graphic Unregistered h = tt
-  fields_graphic (BadRange size) h = (small_word laws size h.0, tt)
-  fields_graphic BadSize h = tt
-  fields_graphic BadQueue h = tt
-  fields_graphic (QueueFull count need) h = (small_word laws count h.0, (small_word laws need h.1.0, tt))
-  fields_graphic (QueueBroken rank) h = (small_word laws rank h.0, tt)
-  fields_graphic BadNote h = tt
-  fields_graphic ZeroValue h = tt
-  fields_graphic BadAlign h = tt
-  fields_graphic (PassiveSize waiting) h = (small_word laws waiting h.0, tt)
-  fields_graphic NoGroup h = tt
-  fields_graphic (GroupStage stage) h = (stage_graphic stage, tt)
-  fields_graphic NotMember h = tt
-  fields_graphic (GroupMismatch kept) h = (small_word laws kept h.0, tt)
-  fields_graphic (ActiveCollective thread) h = (small_word laws thread h.0, tt)
-  fields_graphic (ResumeOther kept) h = coll_graphic kept h
-  fields_graphic (CollectiveMismatch kept) h = coll_graphic kept h
-  fields_graphic BadCount h = tt
-  fields_graphic FloatType h = tt
-  fields_graphic (SegmentBusy queue) h = (small_word laws queue h.0, tt)
-  fields_graphic GroupsFull h = tt
-  fields_graphic CallerEnded h = tt
-
-  refusal_number-small : (r : Refusal) → refusal_number r < 2 ^ 64
-  refusal_number-small BadRank = lit< tt
-  refusal_number-small NoSegment = lit< tt
-  refusal_number-small SegmentThere = lit< tt
-  refusal_number-small Unregistered = lit< tt
-  refusal_number-small (BadRange size) = lit< tt
-  refusal_number-small BadSize = lit< tt
-  refusal_number-small BadQueue = lit< tt
-  refusal_number-small (QueueFull count need) = lit< tt
-  refusal_number-small (QueueBroken rank) = lit< tt
-  refusal_number-small BadNote = lit< tt
-  refusal_number-small ZeroValue = lit< tt
-  refusal_number-small BadAlign = lit< tt
-  refusal_number-small (PassiveSize waiting) = lit< tt
-  refusal_number-small NoGroup = lit< tt
-  refusal_number-small (GroupStage stage) = lit< tt
-  refusal_number-small NotMember = lit< tt
-  refusal_number-small (GroupMismatch kept) = lit< tt
-  refusal_number-small (ActiveCollective thread) = lit< tt
-  refusal_number-small (ResumeOther kept) = lit< tt
-  refusal_number-small (CollectiveMismatch kept) = lit< tt
-  refusal_number-small BadCount = lit< tt
-  refusal_number-small FloatType = lit< tt
-  refusal_number-small (SegmentBusy queue) = lit< tt
-  refusal_number-small GroupsFull = lit< tt
-  refusal_number-small CallerEnded = lit< tt
+  fields_graphic r h =
+      let has = has_row r in
+      let small : AllByRecursion (λ n. n < 2 ^ 32) (numbers_of_held has.row.form has.held) = rw has.numbers at h in
+      subst (λ (words : List (List ℕ)). AllByRecursion IsGraphic words) (sym has.words) (held_graphic has.row.form has.held small)
 
   -- Replies.
 

@@ -8,7 +8,8 @@ use Rattle.gaspi_types.specs.declared.events.Outcome.{Outcome}
 use Rattle.gaspi_types.specs.declared.events.Outcome.TheVariants.{Applied, Failed}
 use Rattle.gaspi_types.specs.declared.events.Event.{Event}
 use Rattle.gaspi_types.specs.declared.events.Event.TheVariants.{Called, Take, Put}
-use Rattle.call_texts.specs.CallText.{◌>>=◌, recorded_call_of}
+use Rattle.call_texts.specs.CallText.{recorded_call_of}
+use Rattle.call_texts.specs.Fields.{◌>>=◌}
 use Rattle.gaspi_texts.specs.EventText.{arrow, outcome_word}
 use Rattle.call_texts.specs.Numbers.{value_of}
 use Rattle.gaspi_texts.specs.ReplyText.{reply_of}

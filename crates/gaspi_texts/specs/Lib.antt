@@ -1,5 +1,7 @@
 pub mod CallLaws
+pub mod CollectiveText
 pub mod EventReading
 pub mod EventText
 pub mod Lines
+pub mod RefusalText
 pub mod ReplyText

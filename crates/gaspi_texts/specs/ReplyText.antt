@@ -5,54 +5,18 @@ use Rattle.std.specs.List.{join_with_byte, AllByRecursion}
 use Rattle.std.specs.Option.{option_map, option_map_or}
 use Rattle.std.specs.Str.{bytes_eq}
 use Rattle.hex.specs.Hex.{IsBytes}
-use Rattle.call_texts.specs.CallText.{◌>>=◌}
+use Rattle.call_texts.specs.Fields.{◌>>=◌}
 use Rattle.call_texts.specs.Hex.{bytes_of, hex_text}
-use Rattle.call_texts.specs.Numbers.{number_of, value_of}
+use Rattle.call_texts.specs.Numbers.{number_of}
 use Rattle.gaspi_types.specs.Replies.{refusal_number, refusal_fields}
 use Rattle.gaspi_types.specs.declared.collectives.NumType.{NumType}
 use Rattle.gaspi_types.specs.declared.collectives.NumType.TheVariants.{Int, Uint, Long, Ulong, Float, Double}
-use Rattle.gaspi_types.specs.declared.collectives.Op.{Op}
-use Rattle.gaspi_types.specs.declared.collectives.Op.TheVariants.{Min, Max, Sum}
-use Rattle.gaspi_types.specs.declared.collectives.Stage.{Stage}
-use Rattle.gaspi_types.specs.declared.collectives.Stage.TheVariants.{Building, Committed}
-use Rattle.gaspi_types.specs.declared.collectives.Coll.{Coll}
-use Rattle.gaspi_types.specs.declared.collectives.Coll.TheVariants.{Barrier, Allreduce, Create, Commit}
-use Rattle.gaspi_types.specs.declared.replies.Refusal.{Refusal}
-use Rattle.gaspi_types.specs.declared.replies.Refusal.TheVariants.{BadRank, NoSegment, SegmentThere, Unregistered, BadRange, BadSize, BadQueue, QueueFull, QueueBroken, BadNote, ZeroValue, BadAlign, PassiveSize, NoGroup, GroupStage, NotMember, GroupMismatch, ActiveCollective, ResumeOther, CollectiveMismatch, BadCount, FloatType, SegmentBusy, GroupsFull, CallerEnded}
 use Rattle.gaspi_types.specs.declared.replies.Reply.{Reply}
 use Rattle.gaspi_types.specs.declared.replies.Reply.TheVariants as replies
+use Rattle.gaspi_texts.specs.CollectiveText.{type_word, type_of, one_field}
+use Rattle.gaspi_texts.specs.RefusalText.{field_words, refusal_of}
 use Rattle.gaspi_texts.specs.declared.reply_words.ReplyWord.{ReplyWord}
 use Rattle.gaspi_texts.specs.declared.reply_words.ReplyWord.TheVariants as words
-
--- Words that stand for types, operations and stages.
-
-abbrev pub type_word : NumType → List ℕ
-type_word Int = codes "INT"
-type_word Uint = codes "UINT"
-type_word Long = codes "LONG"
-type_word Ulong = codes "ULONG"
-type_word Float = codes "FLOAT"
-type_word Double = codes "DOUBLE"
-
-abbrev pub op_word : Op → List ℕ
-op_word Min = codes "MIN"
-op_word Max = codes "MAX"
-op_word Sum = codes "SUM"
-
-abbrev pub stage_word : Stage → List ℕ
-stage_word Building = codes "building"
-stage_word Committed = codes "committed"
-
--- the type, operation or stage that a word stands for
-
-unfoldable pub type_of : List ℕ → Option NumType
-type_of word = find (λ t. bytes_eq (type_word t) word) (Int ∷ Uint ∷ Long ∷ Ulong ∷ Float ∷ Double ∷ [])
-
-unfoldable pub op_of : List ℕ → Option Op
-op_of word = find (λ op. bytes_eq (op_word op) word) (Min ∷ Max ∷ Sum ∷ [])
-
-unfoldable pub stage_of : List ℕ → Option Stage
-stage_of word = find (λ stage. bytes_eq (stage_word stage) word) (Building ∷ Committed ∷ [])
 
 -- Elements: the numbers of a list.
 
@@ -98,41 +62,6 @@ elements_of t (word ∷ words) = do
 
 -- The words of a reply in the one form that is written.
 
--- a collective: its kind and its arguments, values aside
-abbrev pub coll_words : Coll → List (List ℕ)
-coll_words Barrier = codes "barrier" ∷ []
-coll_words (Allreduce op num_type count) = codes "allreduce" ∷ op_word op ∷ type_word num_type ∷ decimal count ∷ []
-coll_words (Create segment size) = codes "create" ∷ decimal segment ∷ decimal size ∷ []
-coll_words (Commit mask) = codes "commit" ∷ decimal mask ∷ []
-
--- the fields of a refusal
-abbrev pub field_words : Refusal → List (List ℕ)
-field_words BadRank = []
-field_words NoSegment = []
-field_words SegmentThere = []
-field_words Unregistered = []
-field_words (BadRange size) = decimal size ∷ []
-field_words BadSize = []
-field_words BadQueue = []
-field_words (QueueFull count need) = decimal count ∷ decimal need ∷ []
-field_words (QueueBroken rank) = decimal rank ∷ []
-field_words BadNote = []
-field_words ZeroValue = []
-field_words BadAlign = []
-field_words (PassiveSize waiting) = decimal waiting ∷ []
-field_words NoGroup = []
-field_words (GroupStage stage) = stage_word stage ∷ []
-field_words NotMember = []
-field_words (GroupMismatch kept) = decimal kept ∷ []
-field_words (ActiveCollective thread) = decimal thread ∷ []
-field_words (ResumeOther kept) = coll_words kept
-field_words (CollectiveMismatch kept) = coll_words kept
-field_words BadCount = []
-field_words FloatType = []
-field_words (SegmentBusy queue) = decimal queue ∷ []
-field_words GroupsFull = []
-field_words CallerEnded = []
-
 unfoldable pub words_of_reply : Reply → List (List ℕ)
 words_of_reply replies.Done = codes "done" ∷ []
 words_of_reply (replies.Value n) = codes "value" ∷ decimal n ∷ []
@@ -159,85 +88,6 @@ IsInRange replies.Timeout = Unit {0}
 IsInRange (replies.Refused refusal) = AllByRecursion (λ n. n < 2 ^ 32) (refusal_fields refusal)
 
 -- What words spell. Numbers may have leading zeros, bytes digits of either case, and zero a sign.
-
--- no field, and the fields of one number and of two
-abbrev pub bare : Refusal → List (List ℕ) → Option Refusal
-bare refusal [] = Some refusal
-bare refusal (word ∷ words) = None
-
-abbrev pub one_field : List (List ℕ) → Option ℕ
-one_field [] = None
-one_field (word ∷ []) = value_of word
-one_field (word ∷ next ∷ words) = None
-
-abbrev pub queue_full_of : List (List ℕ) → Option Refusal
-queue_full_of (first ∷ second ∷ []) = do
-  count ← value_of first
-  need ← value_of second
-  Some (QueueFull count need)
-queue_full_of other = None
-
-abbrev pub group_stage_of : List (List ℕ) → Option Refusal
-group_stage_of [] = None
-group_stage_of (word ∷ []) = option_map GroupStage (stage_of word)
-group_stage_of (word ∷ next ∷ words) = None
-
--- a kept collective
-abbrev pub allreduce_of : List (List ℕ) → Option Coll
-allreduce_of (first ∷ second ∷ third ∷ []) = do
-  op ← op_of first
-  num_type ← type_of second
-  count ← value_of third
-  Some (Allreduce op num_type count)
-allreduce_of other = None
-
-abbrev pub create_of : List (List ℕ) → Option Coll
-create_of (first ∷ second ∷ []) = do
-  segment ← value_of first
-  size ← value_of second
-  Some (Create segment size)
-create_of other = None
-
-abbrev pub barrier_of : List (List ℕ) → Option Coll
-barrier_of [] = Some Barrier
-barrier_of (word ∷ words) = None
-
-unfoldable pub coll_of : List (List ℕ) → Option Coll
-coll_of [] = None
-coll_of (word ∷ arguments) =
-    if bytes_eq (codes "barrier") word then barrier_of arguments
-    else (if bytes_eq (codes "allreduce") word then allreduce_of arguments
-    else (if bytes_eq (codes "create") word then create_of arguments
-    else (if bytes_eq (codes "commit") word then option_map Commit (one_field arguments) else None)))
-
--- the refusal of a number with its fields
-unfoldable pub refusal_of : ℕ → List (List ℕ) → Option Refusal
-refusal_of number fields =
-    if number == 1 then bare BadRank fields
-    else (if number == 2 then bare NoSegment fields
-    else (if number == 3 then bare SegmentThere fields
-    else (if number == 4 then bare Unregistered fields
-    else (if number == 5 then option_map BadRange (one_field fields)
-    else (if number == 6 then bare BadSize fields
-    else (if number == 7 then bare BadQueue fields
-    else (if number == 8 then queue_full_of fields
-    else (if number == 9 then option_map QueueBroken (one_field fields)
-    else (if number == 10 then bare BadNote fields
-    else (if number == 11 then bare ZeroValue fields
-    else (if number == 12 then bare BadAlign fields
-    else (if number == 13 then option_map PassiveSize (one_field fields)
-    else (if number == 14 then bare NoGroup fields
-    else (if number == 15 then group_stage_of fields
-    else (if number == 16 then bare NotMember fields
-    else (if number == 17 then option_map GroupMismatch (one_field fields)
-    else (if number == 18 then option_map ActiveCollective (one_field fields)
-    else (if number == 19 then option_map ResumeOther (coll_of fields)
-    else (if number == 20 then option_map CollectiveMismatch (coll_of fields)
-    else (if number == 21 then bare BadCount fields
-    else (if number == 22 then bare FloatType fields
-    else (if number == 23 then option_map SegmentBusy (one_field fields)
-    else (if number == 24 then bare GroupsFull fields
-    else (if number == 25 then bare CallerEnded fields else None))))))))))))))))))))))))
 
 -- the words that replies begin with
 abbrev pub reply_spelling : ReplyWord → List ℕ

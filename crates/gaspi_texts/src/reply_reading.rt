@@ -3,12 +3,14 @@
 ghost use Rattle.std.specs.Prelude.{◌≡◌, map, IfOk, OnErr, true};
 ghost use Rattle.std.specs.Option.{option_map};
 ghost use Rattle.gaspi_types.specs.declared.replies.Reply.TheVariants.{Id, Mask};
-ghost use Rattle.gaspi_texts.specs.ReplyText.{bare, one_field, queue_full_of, group_stage_of, allreduce_of, create_of, barrier_of, coll_of, refusal_of, plain_reply, value_reply, bytes_reply, list_reply, refused_reply, reply_with, holds_items};
+ghost use Rattle.gaspi_texts.specs.CollectiveText.{one_field, allreduce_of, create_of, coll_of};
+ghost use Rattle.gaspi_texts.specs.RefusalText.{no_field, two_fields, stage_field, refusal_of};
+ghost use Rattle.gaspi_texts.specs.ReplyText.{plain_reply, value_reply, bytes_reply, list_reply, refused_reply, reply_with, holds_items};
 
 use crate::reply_elements::read_elements;
 use crate::reply_words::{ReplyWord, read_op, read_stage, read_type};
 use call_texts::{read_bytes, read_number, read_value};
-use gaspi_types::{Coll, NoMemory, Numbers, Refusal, Reply};
+use gaspi_types::{Coll, NoMemory, Numbers, Refusal, Reply, Stage};
 use std::alloc::Global;
 
 /// The number that is the only field.
@@ -47,7 +49,7 @@ fn read_create(arguments: &[&[u8]]) -> Option<Coll>
 }
 
 /// The collective that words spell.
-#[tactic(auto, unfolding(crate::specs::ReplyText::coll_of))]
+#[tactic(auto, unfolding(crate::specs::CollectiveText::coll_of))]
 fn read_coll(fields: &[&[u8]]) -> Option<Coll>
     ensures { result ≡ coll_of (map (λ word. word.now) fields.now) }
 {
@@ -76,7 +78,7 @@ fn read_coll(fields: &[&[u8]]) -> Option<Coll>
 
 /// A refusal without a field.
 fn read_bare(refusal: Refusal, fields: &[&[u8]]) -> Option<Refusal>
-    ensures { result ≡ bare refusal (map (λ word. word.now) fields.now) }
+    ensures { result ≡ option_map (λ nothing. refusal) (no_field (map (λ word. word.now) fields.now)) }
 {
     if fields.is_empty() {
         Some(refusal)
@@ -85,31 +87,30 @@ fn read_bare(refusal: Refusal, fields: &[&[u8]]) -> Option<Refusal>
     }
 }
 
-/// A full queue's refusal.
-fn read_queue_full(fields: &[&[u8]]) -> Option<Refusal>
-    ensures { result ≡ queue_full_of (map (λ word. word.now) fields.now) }
+/// The numbers that are the only two fields.
+fn read_two_fields(fields: &[&[u8]]) -> Option<(u32, u32)>
+    ensures { result ≡ two_fields (map (λ word. word.now) fields.now) }
 {
-    let [count, need] = fields else {
+    let [first, second] = fields else {
         return None;
     };
-    let count = read_value(count)?;
-    let need = read_value(need)?;
-    Some(Refusal::QueueFull { count, need })
+    let first = read_value(first)?;
+    let second = read_value(second)?;
+    Some((first, second))
 }
 
-/// The refusal of a call that the group's stage does not have.
-fn read_group_stage(fields: &[&[u8]]) -> Option<Refusal>
-    ensures { result ≡ group_stage_of (map (λ word. word.now) fields.now) }
+/// The stage that is the only field.
+fn read_stage_field(fields: &[&[u8]]) -> Option<Stage>
+    ensures { result ≡ stage_field (map (λ word. word.now) fields.now) }
 {
-    let [stage] = fields else {
+    let [field] = fields else {
         return None;
     };
-    let stage = read_stage(stage)?;
-    Some(Refusal::GroupStage { stage })
+    read_stage(field)
 }
 
 /// The refusal of a number with its fields.
-#[tactic(auto, unfolding(crate::specs::ReplyText::refusal_of))]
+#[tactic(auto, unfolding(crate::specs::RefusalText::refusal_of))]
 fn read_refusal(number: u64, fields: &[&[u8]]) -> Option<Refusal>
     ensures { result ≡ refusal_of number (map (λ word. word.now) fields.now) }
 {
@@ -121,14 +122,14 @@ fn read_refusal(number: u64, fields: &[&[u8]]) -> Option<Refusal>
         5 => read_field(fields).map(|size| Refusal::BadRange { size }),
         6 => read_bare(Refusal::BadSize, fields),
         7 => read_bare(Refusal::BadQueue, fields),
-        8 => read_queue_full(fields),
+        8 => read_two_fields(fields).map(|(count, need)| Refusal::QueueFull { count, need }),
         9 => read_field(fields).map(|rank| Refusal::QueueBroken { rank }),
         10 => read_bare(Refusal::BadNote, fields),
         11 => read_bare(Refusal::ZeroValue, fields),
         12 => read_bare(Refusal::BadAlign, fields),
         13 => read_field(fields).map(|waiting| Refusal::PassiveSize { waiting }),
         14 => read_bare(Refusal::NoGroup, fields),
-        15 => read_group_stage(fields),
+        15 => read_stage_field(fields).map(|stage| Refusal::GroupStage { stage }),
         16 => read_bare(Refusal::NotMember, fields),
         17 => read_field(fields).map(|kept| Refusal::GroupMismatch { kept }),
         18 => read_field(fields).map(|thread| Refusal::ActiveCollective { thread }),

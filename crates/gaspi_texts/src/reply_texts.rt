@@ -4,7 +4,9 @@ ghost use Rattle.std.specs.Prelude.{◌≡◌, ◌++◌, ◌∷◌, map, take, l
 ghost use Rattle.std.specs.Fmt.{decimal};
 ghost use Rattle.std.specs.List.{join_with_byte};
 ghost use Rattle.gaspi_types.specs.Replies.{refusal_number};
-ghost use Rattle.gaspi_texts.specs.ReplyText.{coll_words, field_words, words_of_reply, reply_text, reply_of, takes_memory};
+ghost use Rattle.gaspi_texts.specs.CollectiveText.{coll_words};
+ghost use Rattle.gaspi_texts.specs.RefusalText.{field_words};
+ghost use Rattle.gaspi_texts.specs.ReplyText.{words_of_reply, reply_text, reply_of, takes_memory};
 ghost use Rattle.call_texts.specs.Words.{words_of};
 ghost use Rattle.call_texts.specs.Written.{spaced};
 
@@ -58,21 +60,7 @@ fn append_fields(text: &mut Bytes, refusal: Refusal) -> Result<(), NoMemory>
             append_coll(text, kept)
         }
         Refusal::SegmentBusy { queue } => append_numbers(text, &[u64::from(queue)]),
-        Refusal::BadRank
-        | Refusal::NoSegment
-        | Refusal::SegmentThere
-        | Refusal::Unregistered
-        | Refusal::BadSize
-        | Refusal::BadQueue
-        | Refusal::BadNote
-        | Refusal::ZeroValue
-        | Refusal::BadAlign
-        | Refusal::NoGroup
-        | Refusal::NotMember
-        | Refusal::BadCount
-        | Refusal::FloatType
-        | Refusal::GroupsFull
-        | Refusal::CallerEnded => Ok(()),
+        _ => Ok(()),
     }
 }
 

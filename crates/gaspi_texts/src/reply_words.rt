@@ -1,7 +1,8 @@
 //! The words of replies.
 
 ghost use Rattle.std.specs.Prelude.{◌≡◌};
-ghost use Rattle.gaspi_texts.specs.ReplyText.{reply_spelling, reply_word_of, type_word, op_word, stage_word, type_of, op_of, stage_of};
+ghost use Rattle.gaspi_texts.specs.CollectiveText.{type_word, op_word, stage_word, type_of, op_of, stage_of};
+ghost use Rattle.gaspi_texts.specs.ReplyText.{reply_spelling, reply_word_of};
 
 use gaspi_types::{NumType, Op, Stage};
 
@@ -92,7 +93,7 @@ pub(crate) fn stage_word(stage: Stage) -> &'static [u8]
 }
 
 /// The type of numbers that a word stands for.
-#[tactic(auto, unfolding(crate::specs::ReplyText::type_of))]
+#[tactic(auto, unfolding(crate::specs::CollectiveText::type_of))]
 pub(crate) fn read_type(word: &[u8]) -> Option<NumType>
     ensures { result ≡ type_of word.now }
 {
@@ -110,7 +111,7 @@ pub(crate) fn read_type(word: &[u8]) -> Option<NumType>
 }
 
 /// The operation that a word stands for.
-#[tactic(auto, unfolding(crate::specs::ReplyText::op_of))]
+#[tactic(auto, unfolding(crate::specs::CollectiveText::op_of))]
 pub(crate) fn read_op(word: &[u8]) -> Option<Op>
     ensures { result ≡ op_of word.now }
 {
@@ -121,7 +122,7 @@ pub(crate) fn read_op(word: &[u8]) -> Option<Op>
 }
 
 /// The stage that a word stands for.
-#[tactic(auto, unfolding(crate::specs::ReplyText::stage_of))]
+#[tactic(auto, unfolding(crate::specs::CollectiveText::stage_of))]
 pub(crate) fn read_stage(word: &[u8]) -> Option<Stage>
     ensures { result ≡ stage_of word.now }
 {

@@ -3,7 +3,7 @@ ghost use Rattle.std.specs.Prelude.{◌<◌};
 use super::*;
 use gaspi_types::{
     Bytes, Call, CallerId, Coll, Event, NoMemory, NumType, Numbers, Op, Outcome, QueueId, RankId,
-    Refusal, Reply, Rows, Stage, ThreadId,
+    Refusal, Reply, Rows, Stage, ThreadId, Wait,
 };
 use std::alloc::Global;
 use std::test::Fail;
@@ -282,7 +282,7 @@ fn events_have_texts(rt: HostRuntime) -> Result<(), Fail> {
     let put = Event::Put(first, QueueId::of(0), last, 0, Outcome::Failed);
     assert!(rt; event_is(alloc, put, b"put 0 0 15 0 failed")?);
     assert!(rt; called_is(alloc, Call::End, Reply::Done, b"called 1.2 end -> done")?);
-    let wait = Call::Wait { queue: 9 };
+    let wait = Call::Wait(Wait { queue: 9 });
     assert!(rt;
         called_is(
             alloc,

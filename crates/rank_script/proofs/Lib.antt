@@ -4,6 +4,5 @@ pub mod JournalLines
 pub mod KindFaults
 pub mod LateFaults
 pub mod LineFeeds
-pub mod PlainCalls
 pub mod ReadLines
 pub mod SomeWords

@@ -6,7 +6,8 @@ use Rattle.gaspi_types.specs.Ranges.{is_between}
 use Rattle.call_texts.specs.Words.{words_of}
 use Rattle.gaspi_texts.specs.Lines.{fed_lines}
 use Rattle.call_texts.specs.Numbers.{number_of}
-use Rattle.call_texts.specs.CallText.{◌>>=◌, is_call_word, argument_count, takes_timeout, call_of}
+use Rattle.call_texts.specs.CallText.{is_call_word, argument_count, takes_timeout, call_of}
+use Rattle.call_texts.specs.Fields.{◌>>=◌}
 use Rattle.gaspi_texts.specs.ReplyText.{reply_of}
 use Rattle.gaspi_types.specs.World.{World, are_limits, world_of, segment_added, caller_added, is_caller}
 use Rattle.gaspi_types.specs.declared.shapes.Limits.{Limits}

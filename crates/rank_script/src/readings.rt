@@ -15,6 +15,7 @@ use crate::call_lines::{asked_words, from_call, read_expected, read_tries};
 use crate::kinds::LineKind;
 use crate::lines::is_bad_line;
 use crate::scripts::{ScriptFault, ScriptLine, Scripts};
+use call_texts::words_spell_no_end;
 use gaspi_texts::{CallWord, words};
 use gaspi_types::{Shape, ShapeFault};
 use std::alloc::Global;
@@ -249,6 +250,7 @@ fn read_script_line(
     ensures exact { GivesLine result number (map (λ word. word.now) words.now) }
     ensures plain { IfOk result IsPlain }
 {
+    words_spell_no_end();
     let asked = asked_words(from_call(words));
     let Some(tries) = read_tries(words) else {
         return Err(malformed(number));

@@ -3,7 +3,10 @@ ghost use Rattle.std.specs.Prelude.{◌≡◌, ◌<◌};
 use crate::{
     Cursor, Halted, RunOutcome, Script, ScriptFault, ScriptLine, Scripts, read_world, split_input,
 };
-use gaspi_types::{Call, CallerId, NoMemory, RankId, Reply, Rows, Shape, ThreadId, Timeout};
+use gaspi_types::{
+    Call, CallerId, Load, NoMemory, RankId, Reply, Reset, Rows, Shape, Store, ThreadId, Timeout, Wait, Waitsome,
+    WriteNotify,
+};
 use std::alloc::Global;
 use std::process::Abort;
 use std::test::Fail;
@@ -296,12 +299,12 @@ fn assert_present(
 fn a_run_is_stuck(rt: HostRuntime) -> Result<(), Fail> {
     let alloc = rt.alloc();
     let (_shape, scripts) = read(alloc, TWO_RANKS)?;
-    let store = Call::Store {
+    let store = Call::Store(Store {
         seg: 0,
         offset: 0,
         bytes: Rows::copied_from(alloc, &[1, 2])?,
-    };
-    let post = Call::WriteNotify {
+    });
+    let post = Call::WriteNotify(WriteNotify {
         seg: 0,
         offset: 0,
         rank: 1,
@@ -311,7 +314,7 @@ fn a_run_is_stuck(rt: HostRuntime) -> Result<(), Fail> {
         note: 3,
         value: 7,
         queue: 0,
-    };
+    });
     let one = Timeout::Looks(1);
     let mut run = first_thread(&rt, &scripts, 0);
     assert_present(&rt, &mut run, 5, &store, one, &Reply::Done);
@@ -320,7 +323,7 @@ fn a_run_is_stuck(rt: HostRuntime) -> Result<(), Fail> {
         &rt,
         &mut run,
         7,
-        &Call::Wait { queue: 0 },
+        &Call::Wait(Wait { queue: 0 }),
         Timeout::Block,
         &Reply::Timeout,
     );
@@ -332,17 +335,17 @@ fn a_run_is_stuck(rt: HostRuntime) -> Result<(), Fail> {
 fn a_run_ends(rt: HostRuntime) -> Result<(), Fail> {
     let alloc = rt.alloc();
     let (_shape, scripts) = read(alloc, TWO_RANKS)?;
-    let waitsome = Call::Waitsome {
+    let waitsome = Call::Waitsome(Waitsome {
         seg: 0,
         begin: 0,
         num: 8,
-    };
-    let reset = Call::Reset { seg: 0, note: 3 };
-    let load = Call::Load {
+    });
+    let reset = Call::Reset(Reset { seg: 0, note: 3 });
+    let load = Call::Load(Load {
         seg: 0,
         offset: 4,
         size: 2,
-    };
+    });
     let one = Timeout::Looks(1);
     let mut run = first_thread(&rt, &scripts, 1);
     assert_present(&rt, &mut run, 9, &waitsome, Timeout::Block, &Reply::Id(3));
@@ -372,14 +375,14 @@ fn waiting(alloc: Global, tries: u32, expected: Option<Reply>) -> Result<Script,
     let mut lines = Rows::new(alloc);
     lines.push(ScriptLine {
         number: 3,
-        call: Call::Wait { queue: 0 },
+        call: Call::Wait(Wait { queue: 0 }),
         timeout: Timeout::Looks(1),
         tries,
         expected,
     })?;
     lines.push(ScriptLine {
         number: 5,
-        call: Call::Reset { seg: 0, note: 1 },
+        call: Call::Reset(Reset { seg: 0, note: 1 }),
         timeout: Timeout::Looks(1),
         tries: 1,
         expected: None,

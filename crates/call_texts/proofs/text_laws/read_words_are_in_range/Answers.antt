@@ -1,4 +1,5 @@
-use Rattle.call_texts.proofs.InRange.{number_of-range, value_of-range, bytes_of-range, recorded_call_of-range}
+use Rattle.call_texts.proofs.CallTexts.{recorded_call_of-range}
+use Rattle.call_texts.proofs.WordRanges.{number_of-range, value_of-range, bytes_of-range}
 use Rattle.call_texts.proofs.text_laws.read_words_are_in_range.Goals as goal
 
 pub returns-clause-number : goal.returns-clause-number

@@ -51,5 +51,5 @@ returns-clause-settled c =
     (over-settled c.args.shape.now c.args.scripts.now c.args.seed c.args.limit c.loop-turns.turns
     (known _ _ (laws c.soundness.ensures.steps c.soundness.ensures.limits c.soundness.ensures.active c.enabled.ensures.call c.runs.ensures.onward c.runs.ensures.ended c.runs.ensures.stopped)
     c.soundness.ensures.counts c.enabled.ensures.transfer c.soundness.ensures.opens c.limits-limits.ensures.world c.requires.scripts c.len-count.ensures.plain)
-    (end_laws c.settling.ensures c.endings.ensures)
+    (end_laws c.settling.ensures.empties c.endings.ensures)
     c.loop-turns.invariant over.0)

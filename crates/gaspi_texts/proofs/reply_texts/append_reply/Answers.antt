@@ -2,7 +2,9 @@ use Rattle.std.proofs.Common.{arith}
 use Rattle.std.proofs.lemmas.Grind.{common_steps}
 use Rattle.std.specs.Fmt.{decimal, signed_decimal}
 use Rattle.gaspi_types.specs.Replies.{refusal_number}
-use Rattle.gaspi_texts.specs.ReplyText.{type_word, field_words, words_of_reply}
+use Rattle.gaspi_texts.specs.CollectiveText.{type_word}
+use Rattle.gaspi_texts.specs.RefusalText.{field_words}
+use Rattle.gaspi_texts.specs.ReplyText.{words_of_reply}
 use Rattle.gaspi_texts.proofs.JoinedWords.{join_spaced, join_map}
 use Rattle.gaspi_texts.proofs.reply_texts.append_reply.Goals as goal
 

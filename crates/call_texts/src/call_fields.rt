@@ -1,0 +1,158 @@
+//! Calls put together from the fields that words spell.
+#![tactic(auto, unfolding(crate::specs::CallText::call_taken))]
+
+ghost use Rattle.std.specs.Prelude.{◌≡◌, IfOk};
+ghost use Rattle.std.specs.Option.{option_map};
+ghost use Rattle.call_texts.specs.CallText.{call_taken};
+ghost use Rattle.call_texts.specs.FieldWords.{words_in};
+ghost use Rattle.call_texts.specs.declared.call_words.CallWord.TheVariants as call_words;
+
+use crate::field_words::FieldWords;
+use gaspi_types::{
+    Alloc, Call, CompareSwap, Delete, FetchAdd, Load, NoMemory, Notify, Register, Reset, Store,
+    Wait, Waitsome, Write, WriteNotify,
+};
+use std::alloc::Global;
+
+pub(crate) fn take_alloc(fields: &mut FieldWords) -> Option<Call>
+    ensures { option_map (λ call. (call, words_in fields.new)) result ≡ call_taken call_words.Alloc (words_in fields.old) }
+{
+    Some(Call::Alloc(Alloc {
+        seg: fields.number()?,
+        size: fields.number()?,
+    }))
+}
+
+pub(crate) fn take_register(fields: &mut FieldWords) -> Option<Call>
+    ensures { option_map (λ call. (call, words_in fields.new)) result ≡ call_taken call_words.Register (words_in fields.old) }
+{
+    Some(Call::Register(Register {
+        seg: fields.number()?,
+        rank: fields.number()?,
+    }))
+}
+
+pub(crate) fn take_delete(fields: &mut FieldWords) -> Option<Call>
+    ensures { option_map (λ call. (call, words_in fields.new)) result ≡ call_taken call_words.Delete (words_in fields.old) }
+{
+    Some(Call::Delete(Delete {
+        seg: fields.number()?,
+    }))
+}
+
+pub(crate) fn take_store(alloc: Global, fields: &mut FieldWords) -> Result<Option<Call>, NoMemory>
+    ensures { IfOk result (λ call. option_map (λ c. (c, words_in fields.new)) call ≡ call_taken call_words.Store (words_in fields.old)) }
+{
+    let Some(seg) = fields.number() else {
+        return Ok(None);
+    };
+    let Some(offset) = fields.number() else {
+        return Ok(None);
+    };
+    let Some(bytes) = fields.bytes(alloc)? else {
+        return Ok(None);
+    };
+    Ok(Some(Call::Store(Store { seg, offset, bytes })))
+}
+
+pub(crate) fn take_load(fields: &mut FieldWords) -> Option<Call>
+    ensures { option_map (λ call. (call, words_in fields.new)) result ≡ call_taken call_words.Load (words_in fields.old) }
+{
+    Some(Call::Load(Load {
+        seg: fields.number()?,
+        offset: fields.number()?,
+        size: fields.number()?,
+    }))
+}
+
+pub(crate) fn take_write(fields: &mut FieldWords) -> Option<Call>
+    ensures { option_map (λ call. (call, words_in fields.new)) result ≡ call_taken call_words.Write (words_in fields.old) }
+{
+    Some(Call::Write(Write {
+        seg: fields.number()?,
+        offset: fields.number()?,
+        rank: fields.number()?,
+        rseg: fields.number()?,
+        roffset: fields.number()?,
+        size: fields.number()?,
+        queue: fields.number()?,
+    }))
+}
+
+pub(crate) fn take_notify(fields: &mut FieldWords) -> Option<Call>
+    ensures { option_map (λ call. (call, words_in fields.new)) result ≡ call_taken call_words.Notify (words_in fields.old) }
+{
+    Some(Call::Notify(Notify {
+        rseg: fields.number()?,
+        rank: fields.number()?,
+        note: fields.number()?,
+        value: fields.value()?,
+        queue: fields.number()?,
+    }))
+}
+
+pub(crate) fn take_write_notify(fields: &mut FieldWords) -> Option<Call>
+    ensures { option_map (λ call. (call, words_in fields.new)) result ≡ call_taken call_words.WriteNotify (words_in fields.old) }
+{
+    Some(Call::WriteNotify(WriteNotify {
+        seg: fields.number()?,
+        offset: fields.number()?,
+        rank: fields.number()?,
+        rseg: fields.number()?,
+        roffset: fields.number()?,
+        size: fields.number()?,
+        note: fields.number()?,
+        value: fields.value()?,
+        queue: fields.number()?,
+    }))
+}
+
+pub(crate) fn take_wait(fields: &mut FieldWords) -> Option<Call>
+    ensures { option_map (λ call. (call, words_in fields.new)) result ≡ call_taken call_words.Wait (words_in fields.old) }
+{
+    Some(Call::Wait(Wait {
+        queue: fields.number()?,
+    }))
+}
+
+pub(crate) fn take_waitsome(fields: &mut FieldWords) -> Option<Call>
+    ensures { option_map (λ call. (call, words_in fields.new)) result ≡ call_taken call_words.Waitsome (words_in fields.old) }
+{
+    Some(Call::Waitsome(Waitsome {
+        seg: fields.number()?,
+        begin: fields.number()?,
+        num: fields.number()?,
+    }))
+}
+
+pub(crate) fn take_reset(fields: &mut FieldWords) -> Option<Call>
+    ensures { option_map (λ call. (call, words_in fields.new)) result ≡ call_taken call_words.Reset (words_in fields.old) }
+{
+    Some(Call::Reset(Reset {
+        seg: fields.number()?,
+        note: fields.number()?,
+    }))
+}
+
+pub(crate) fn take_fetch_add(fields: &mut FieldWords) -> Option<Call>
+    ensures { option_map (λ call. (call, words_in fields.new)) result ≡ call_taken call_words.FetchAdd (words_in fields.old) }
+{
+    Some(Call::FetchAdd(FetchAdd {
+        seg: fields.number()?,
+        offset: fields.number()?,
+        rank: fields.number()?,
+        value: fields.number()?,
+    }))
+}
+
+pub(crate) fn take_compare_swap(fields: &mut FieldWords) -> Option<Call>
+    ensures { option_map (λ call. (call, words_in fields.new)) result ≡ call_taken call_words.CompareSwap (words_in fields.old) }
+{
+    Some(Call::CompareSwap(CompareSwap {
+        seg: fields.number()?,
+        offset: fields.number()?,
+        rank: fields.number()?,
+        comparator: fields.number()?,
+        new: fields.number()?,
+    }))
+}

@@ -1,0 +1,12 @@
+//! The kinds of what follows a call's word.
+
+/// A kind of field.
+#[derive(Clone, Copy, Debug, PartialEq, Eq)]
+pub enum Field {
+    /// A number below 2 ^ 64.
+    Number,
+    /// A notification value, below 2 ^ 32. (GASPI: notifications)
+    Value,
+    /// Bytes in hex.
+    Bytes,
+}
