@@ -1,6 +1,5 @@
 -- The step of the whole state from that of a rank's posts and the memory that is lent.
 use Rattle.std.proofs.Common.{◌≡◌, ℕ, ◌+◌, ◌^◌, ◌<◌, true, Option, None, Some, Result, Ok, Err, length, slice_get, slice_set, refl, sym, ap, subst, ◌∙◌, arith, List}
-use Rattle.std.proofs.lemmas.List.{length-set}
 use Rattle.std.proofs.lemmas.Bool.Decides.{nat_tests}
 use Rattle.gaspi_types.specs.Checks.{◌>>=◌, found}
 use Rattle.gaspi_types.specs.Touches.{take_touch, put_touch}

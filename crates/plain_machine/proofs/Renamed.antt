@@ -1,5 +1,5 @@
 -- What a step does to the names of the lanes that have an entry.
-use Rattle.std.proofs.Common.{◌≡◌, ℕ, zero, suc, ◌+◌, ◌<◌, ◌≤◌, Bool, true, false, ◌&&◌, nat_le, nat_lt, List, [], ◌∷◌, ◌++◌, Option, None, Some, Result, Ok, Err, length, slice_get, slice_set, remove, is_none, refl, sym, ap, ◌∙◌, arith, if◌then◌else◌}
+use Rattle.std.proofs.Common.{◌≡◌, ℕ, zero, suc, ◌+◌, ◌<◌, ◌≤◌, Bool, true, false, ◌&&◌, nat_le, nat_lt, List, [], ◌∷◌, ◌++◌, Option, None, Some, Result, Ok, Err, length, slice_get, slice_set, remove, is_none, refl, sym, ap, inl, inr, ◌∙◌, arith, if◌then◌else◌}
 use Rattle.std.specs.List.{flat_map, enumerate_from, prefix_len, insert}
 use Rattle.std.proofs.lemmas.Bool.{lt-ltb}
 use Rattle.std.proofs.lemmas.Bool.Decides.{nat_tests}
@@ -10,7 +10,6 @@ use Rattle.gaspi_types.specs.Lanes.{may_take, may_put, posted_entries}
 use Rattle.gaspi_types.specs.Replies.{same_reply, is_idle}
 use Rattle.gaspi_types.specs.World.{are_limits}
 use Rattle.gaspi_types.specs.declared.calls.Call.{Call}
-use Rattle.gaspi_types.specs.declared.calls.Call.TheVariants.{Wait}
 use Rattle.gaspi_types.specs.declared.call_rows.Posting.{Posting}
 use Rattle.gaspi_types.specs.declared.entries.Entry.{Entry}
 use Rattle.gaspi_types.specs.declared.entries.Kind.{Kind}
@@ -43,10 +42,11 @@ use Rattle.plain_machine.specs.Machine.{IsFitting}
 use Rattle.plain_machine.specs.Reaching.{call_reach, with_peer_at}
 use Rattle.plain_machine.specs.Standing.{lane_id, lane_named, queue_named, rank_named, standing_lanes, lane_entries, is_before, post_lane, posting_lane, call_lane, event_lane, is_put}
 use Rattle.plain_machine.specs.declared.standing.LaneId.{LaneId}
-use Rattle.plain_calls.proofs.Chains.{passed, found_there, check_holds, changed_there}
+use Rattle.plain_calls.proofs.Chains.{passed, check_holds, changed_there}
 use Rattle.plain_machine.proofs.Kept.{IsAt, found_at}
 use Rattle.plain_calls.proofs.CallRoom.{found_by, posted}
 use Rattle.plain_calls.proofs.Postings.{HasLength, IsPost, posting_of}
+use Rattle.plain_calls.proofs.Queues.{plain_queues}
 use Rattle.plain_calls.proofs.Items.{length-posted_entries}
 use Rattle.plain_machine.proofs.Lists.{same_in, same_changed}
 use Rattle.plain_machine.proofs.Reached.{called_back, taken_back, put_back, told_by}
@@ -199,8 +199,13 @@ post_has_lane limits me posts rank queue asked reply limited few p lane =
 -- a call that posts nothing keeps the names of its rank
 quiet_plain : (limits : Limits) (me : ℕ) (posts : Posts) (thread : ℕ) (call : Call) (j : ℕ) → (row_of call).posting ≡ None
     → rank_named (j, posts_done limits me posts thread call) ≡ rank_named (j, posts)
-quiet_plain limits me posts thread (Wait call) j is = same_changed (queue_named j) 0 call.queue posts.queues (λ (q : Queue). record q { open_count = 0 }) (λ k q. refl)
-quiet_plain limits me posts thread call j is = cc
+quiet_plain limits me posts thread call j is =
+    elim (plain_queues limits me posts thread call is) [
+      | inl same ↦ ap (λ (qs : List Queue). flat_map (queue_named j) (enumerate_from 0 qs)) same
+      | inr at ↦
+          ap (λ (qs : List Queue). flat_map (queue_named j) (enumerate_from 0 qs)) at.1
+          ∙ same_changed (queue_named j) 0 at.0 posts.queues (λ (q : Queue). record q { open_count = 0 }) (λ k q. refl)
+    ]
 
 -- so does one that posts to no lane
 quiet_call : (limits : Limits) (me : ℕ) (posts : Posts) (memory : Memory) (thread : ℕ) (call : Call) (reply : Reply) (j : ℕ) → are_limits limits ≡ true → length posts.queues ≤ 8

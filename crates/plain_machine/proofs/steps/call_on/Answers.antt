@@ -1,4 +1,4 @@
-use Rattle.std.proofs.Common.{sym, ap, ◌∙◌}
+use Rattle.std.proofs.Common.{sym}
 use Rattle.std.proofs.lemmas.List.{map-set}
 use Rattle.gaspi_model.specs.Step.{called}
 use Rattle.gaspi_model.specs.declared.states.Why.TheVariants as whys

@@ -1,4 +1,4 @@
-use Rattle.std.proofs.Common.{sym, ap, refl, ◌∙◌}
+use Rattle.std.proofs.Common.{sym, ap, ◌∙◌}
 use Rattle.plain_machine.specs.Machine.{state_of, taken_of}
 use Rattle.plain_machine.proofs.Lifted.{called_telling, called_untold, told_taken}
 use Rattle.plain_machine.proofs.Lists.{map_kept}
