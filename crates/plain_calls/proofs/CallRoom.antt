@@ -22,7 +22,7 @@ use Rattle.gaspi_types.specs.declared.replies.Reply.TheVariants as replies
 use Rattle.gaspi_types.specs.declared.replies.Ready.TheVariants as ready
 use Rattle.gaspi_types.specs.declared.replies.Refusal.TheVariants.{CallerEnded}
 use Rattle.gaspi_model.specs.State.{thread_at, is_running, owed, queue_owed}
-use Rattle.gaspi_model.specs.Calls.{call_finds, answer, ready_of, recorded_reply, posts_done, posts_after, charge}
+use Rattle.gaspi_model.specs.Calls.{call_asks, call_finds, answer, ready_of, recorded_reply, posts_done, posts_after, charge}
 use Rattle.gaspi_model.specs.Posting.{with_entries, with_post, changed_at}
 use Rattle.gaspi_model.specs.SegmentCalls.{alloc_finds}
 use Rattle.gaspi_model.specs.Sound.{IsSoundPosts}
@@ -120,8 +120,8 @@ alloc_room limits posts call reply limited sound is =
 
 -- the post of a call that was found
 pub posted : (limits : Limits) (me : ℕ) (posts : Posts) (memory : Memory) (thread : ℕ) (call : Call) (reply : Reply) (posting : Posting)
-    → (p : IsPosting limits me posts call posting) → (f : IsFound limits me posts memory thread call reply) → IsPost limits posts posting.rank posting.queue p.asked f.reply_found
-posted limits me posts memory thread call reply posting p f = post_by limits posts posting.rank posting.queue p.asked f.reply_found (sym (p.finds memory) ∙ f.finds)
+    → (p : IsPosting limits me posts call posting) → (f : IsFound limits me posts memory thread call reply) → IsPost limits posts posting.rank posting.queue (call_asks limits me posts call) f.reply_found
+posted limits me posts memory thread call reply posting p f = post_by limits posts posting.rank posting.queue (call_asks limits me posts call) f.reply_found (sym (p.finds memory) ∙ f.finds)
 
 -- the numbers and the open count of a post that may be recorded fit
 posting_room : (limits : Limits) (me : ℕ) (posts : Posts) (memory : Memory) (thread : ℕ) (call : Call) (reply : Reply) (posting : Option Posting)
@@ -129,7 +129,7 @@ posting_room : (limits : Limits) (me : ℕ) (posts : Posts) (memory : Memory) (t
 posting_room limits me posts memory thread call reply None is limited sound f = tt
 posting_room limits me posts memory thread call reply (Some posting) is limited sound f =
     let p = posting_of limits me posts call posting is in
-    post_room limits posts posting.rank posting.queue p.asked f.reply_found posting.entries p.few limited sound (posted limits me posts memory thread call reply posting p f) p.long
+    post_room limits posts posting.rank posting.queue (call_asks limits me posts call) f.reply_found posting.entries p.few limited sound (posted limits me posts memory thread call reply posting p f) p.long
 
 pub room_by : (limits : Limits) (me : ℕ) (posts : Posts) (memory : Memory) (thread : ℕ) (call : Call) (reply : Reply)
     → are_limits limits ≡ true → IsSoundPosts limits posts → IsFound limits me posts memory thread call reply → HasCallRoom posts call
@@ -247,7 +247,7 @@ busy_taken limits me posts memory thread call reply sound f = by_posting (row_of
     by_posting (Some posting) is =
         let p = posting_of limits me posts call posting is in
         rw (p.leaves thread, p.charged (thread_at posts thread) reply)
-        (post_taken limits posts posting.rank posting.queue p.asked reply f.reply_found posting.entries sound
+        (post_taken limits posts posting.rank posting.queue (call_asks limits me posts call) reply f.reply_found posting.entries sound
         (posted limits me posts memory thread call reply posting p f) f.done p.long)
 
 -- no call that is not idle counts itself
@@ -266,7 +266,7 @@ done_events limits me posts thread call = by_posting (row_of call).posting refl
     by_posting None is = of_plain call is
     by_posting (Some posting) is =
         let p = posting_of limits me posts call posting is in
-        rw (p.leaves thread) (of_post posting.queue posting.rank p.asked)
+        rw (p.leaves thread) (of_post posting.queue posting.rank (call_asks limits me posts call))
 
 -- what a rank has taken grows by the charge of its call
 pub taken_by : (limits : Limits) (me : ℕ) (posts : Posts) (memory : Memory) (thread : ℕ) (call : Call) (reply : Reply)

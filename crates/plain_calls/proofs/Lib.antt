@@ -4,3 +4,4 @@ pub mod Chains
 pub mod Items
 pub mod Owed
 pub mod Postings
+pub mod Queues

@@ -1,6 +1,6 @@
 -- A call that posts: what it asks for, what it finds and what it leaves, as its row says.
 use Rattle.std.proofs.Common.{◌≡◌, ℕ, ◌+◌, ◌*◌, ◌≤◌, true, not, ◌==◌, nat_le, nat_lt, List, [], ◌∷◌, Option, Some, Result, Ok, if◌then◌else◌, length, slice_get, refl, sym, ap, arith}
-use Rattle.gaspi_types.specs.CallRows.{row_of}
+use Rattle.gaspi_types.specs.CallRows.{row_of, entries_of, is_post}
 use Rattle.gaspi_types.specs.Checks.{check, found, absent}
 use Rattle.gaspi_types.specs.Posts.{write_kinds, notify_kinds, write_notify_kinds}
 use Rattle.gaspi_types.specs.Replies.{is_done}
@@ -18,8 +18,8 @@ use Rattle.gaspi_types.specs.declared.shapes.Limits.{Limits}
 use Rattle.gaspi_types.specs.declared.replies.Refusal.{Refusal}
 use Rattle.gaspi_types.specs.declared.replies.Reply.{Reply}
 use Rattle.gaspi_types.specs.declared.replies.Reply.TheVariants as replies
-use Rattle.gaspi_model.specs.Calls.{call_finds, posts_done, charge}
-use Rattle.gaspi_model.specs.PostCalls.{asked_finds, write_asks, notify_asks, write_notify_asks}
+use Rattle.gaspi_model.specs.Calls.{call_asks, call_finds, posts_done, charge}
+use Rattle.gaspi_model.specs.PostCalls.{asked_finds}
 use Rattle.gaspi_model.specs.Posting.{with_post}
 use Rattle.gaspi_model.specs.declared.states.Queue.{Queue}
 use Rattle.gaspi_model.specs.declared.states.Posts.{Posts}
@@ -84,48 +84,40 @@ two_kinds notes me own known call kinds is =
     passed (check (nat_lt call.note notes) _) _ _ more (λ u a more.
     passed (check (not (call.value == 0)) _) _ _ more (λ u a more. same_length (_ ∷ _ ∷ []) kinds more)))))))
 
--- what a call that posts asks for, and that it does what its row says
+-- a call that posts asks for as many entries as its row says, one or two, and owes as many where it is done
+record IsCounted (limits : Limits) (me : ℕ) (posts : Posts) (call : Call) (entries : ℕ) : Type 0 where
+  long : HasLength (call_asks limits me posts call) entries
+  few : entries ≤ 2
+  some : 1 ≤ entries
+  charged : (t : ThreadState) (reply : Reply) → charge t call reply ≡ (if is_done reply then 1 + 2 * entries else 1)
+
+counted_of : (limits : Limits) (me : ℕ) (posts : Posts) (call : Call) → is_post call ≡ true → IsCounted limits me posts call (entries_of call)
+counted_of limits me posts (Write call) is =
+    record { long = one_write me posts.own posts.known call; few = omega arith; some = omega arith; charged = λ t reply. refl }
+counted_of limits me posts (Notify call) is =
+    record { long = one_notify limits.notes me posts.own posts.known call; few = omega arith; some = omega arith; charged = λ t reply. refl }
+counted_of limits me posts (WriteNotify call) is =
+    record { long = two_kinds limits.notes me posts.own posts.known call; few = omega arith; some = omega arith; charged = λ t reply. refl }
+counted_of limits me posts call is = absurd (let no : ⊥ = cc in no)
+
+-- a call that posts does what its row says
 pub record IsPosting (limits : Limits) (me : ℕ) (posts : Posts) (call : Call) (posting : Posting) : Type 0 where
-  pub asked : Result (List Kind) Refusal
-  pub long : HasLength asked posting.entries
+  pub long : HasLength (call_asks limits me posts call) posting.entries
   pub few : posting.entries ≤ 2
   pub some : 1 ≤ posting.entries
-  pub finds : (memory : Memory) → call_finds limits me posts memory call ≡ asked_finds limits posts posting.rank posting.queue asked
-  pub leaves : (thread : ℕ) → posts_done limits me posts thread call ≡ with_post posts posting.queue posting.rank asked
+  pub finds : (memory : Memory) → call_finds limits me posts memory call ≡ asked_finds limits posts posting.rank posting.queue (call_asks limits me posts call)
+  pub leaves : (thread : ℕ) → posts_done limits me posts thread call ≡ with_post posts posting.queue posting.rank (call_asks limits me posts call)
   pub charged : (t : ThreadState) (reply : Reply) → charge t call reply ≡ (if is_done reply then 1 + 2 * posting.entries else 1)
 
 pub posting_of : (limits : Limits) (me : ℕ) (posts : Posts) (call : Call) (posting : Posting) → (row_of call).posting ≡ Some posting → IsPosting limits me posts call posting
-posting_of limits me posts (Write call) posting is =
-    let same : record { entries = 1; rank = call.rank; queue = call.queue } ≡ posting = cc in
-    rw (← same) (record {
-      asked = write_asks me posts call;
-      long = one_write me posts.own posts.known call;
-      few = omega arith;
-      some = omega arith;
-      finds = λ memory. refl;
-      leaves = λ thread. refl;
-      charged = λ t reply. refl;
-    })
-posting_of limits me posts (Notify call) posting is =
-    let same : record { entries = 1; rank = call.rank; queue = call.queue } ≡ posting = cc in
-    rw (← same) (record {
-      asked = notify_asks limits me posts call;
-      long = one_notify limits.notes me posts.own posts.known call;
-      few = omega arith;
-      some = omega arith;
-      finds = λ memory. refl;
-      leaves = λ thread. refl;
-      charged = λ t reply. refl;
-    })
-posting_of limits me posts (WriteNotify call) posting is =
-    let same : record { entries = 2; rank = call.rank; queue = call.queue } ≡ posting = cc in
-    rw (← same) (record {
-      asked = write_notify_asks limits me posts call;
-      long = two_kinds limits.notes me posts.own posts.known call;
-      few = omega arith;
-      some = omega arith;
-      finds = λ memory. refl;
-      leaves = λ thread. refl;
-      charged = λ t reply. refl;
-    })
-posting_of limits me posts call posting is = absurd (let no : ⊥ = cc in no)
+posting_of limits me posts call posting is =
+    let post : is_post call ≡ true = rw is refl in
+    let n = rw is at (counted_of limits me posts call post) in
+    record {
+      long = n.long;
+      few = n.few;
+      some = n.some;
+      finds = λ memory. rw is refl;
+      leaves = λ thread. rw is refl;
+      charged = n.charged;
+    }

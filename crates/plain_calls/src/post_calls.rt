@@ -72,34 +72,6 @@ pub fn notify_asks(
     }])
 }
 
-/// The write of a write with its notification.
-fn write_in(call: &WriteNotify) -> Write
-    ensures { result ≡ record { seg = call.now.seg; offset = call.now.offset; rank = call.now.rank; rseg = call.now.rseg; roffset = call.now.roffset; size = call.now.size; queue = call.now.queue } }
-{
-    Write {
-        seg: call.seg,
-        offset: call.offset,
-        rank: call.rank,
-        rseg: call.rseg,
-        roffset: call.roffset,
-        size: call.size,
-        queue: call.queue,
-    }
-}
-
-/// The notification behind it.
-fn notify_in(call: &WriteNotify) -> Notify
-    ensures { result ≡ record { rseg = call.now.rseg; rank = call.now.rank; note = call.now.note; value = call.now.value; queue = call.now.queue } }
-{
-    Notify {
-        rseg: call.rseg,
-        rank: call.rank,
-        note: call.note,
-        value: call.value,
-        queue: call.queue,
-    }
-}
-
 /// The entries of a write and the notification behind it, or the first refusal up to the notification value.
 /// (GASPI: write_notify)
 #[tactic(auto, using(crate::proofs::Both::both_kinds))]
@@ -111,8 +83,24 @@ pub fn write_notify_asks(
 ) -> Result<[Kind; 2], Refusal>
     ensures { result ≡ write_notify_asks limits.now me posts.now call.now }
 {
-    let [write] = write_asks(me, posts, &write_in(call))?;
-    let [notify] = notify_asks(limits, me, posts, &notify_in(call))?;
+    let first = Write {
+        seg: call.seg,
+        offset: call.offset,
+        rank: call.rank,
+        rseg: call.rseg,
+        roffset: call.roffset,
+        size: call.size,
+        queue: call.queue,
+    };
+    let second = Notify {
+        rseg: call.rseg,
+        rank: call.rank,
+        note: call.note,
+        value: call.value,
+        queue: call.queue,
+    };
+    let [write] = write_asks(me, posts, &first)?;
+    let [notify] = notify_asks(limits, me, posts, &second)?;
     Ok([write, notify])
 }
 

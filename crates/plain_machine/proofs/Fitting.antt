@@ -8,13 +8,12 @@ use Rattle.gaspi_types.specs.declared.call_rows.Posting.{Posting}
 use Rattle.gaspi_types.specs.declared.entries.Kind.{Kind}
 use Rattle.gaspi_types.specs.declared.shapes.Limits.{Limits}
 use Rattle.gaspi_types.specs.declared.calls.Call.{Call}
-use Rattle.gaspi_types.specs.declared.calls.Call.TheVariants.{Wait}
 use Rattle.gaspi_types.specs.declared.replies.Refusal.{Refusal}
 use Rattle.gaspi_types.specs.declared.replies.Reply.{Reply}
 use Rattle.gaspi_types.specs.declared.events.Event.{Event}
 use Rattle.gaspi_types.specs.declared.events.Event.TheVariants.{Called, Take, Put}
 use Rattle.gaspi_model.specs.State.{owed, thread_at}
-use Rattle.gaspi_model.specs.Calls.{answer, recorded_reply, charge, posts_done, posts_after, memory_after}
+use Rattle.gaspi_model.specs.Calls.{call_asks, answer, recorded_reply, charge, posts_done, posts_after, memory_after}
 use Rattle.gaspi_model.specs.Posting.{with_post, changed_at}
 use Rattle.gaspi_model.specs.Step.{step, called, is_there}
 use Rattle.gaspi_model.specs.Transfers.{Worked}
@@ -26,6 +25,7 @@ use Rattle.plain_machine.specs.Machine.{IsFitting}
 use Rattle.plain_machine.specs.Reaching.{call_reach}
 use Rattle.plain_calls.proofs.Chains.{passed, changed_there}
 use Rattle.plain_calls.proofs.Postings.{posting_of}
+use Rattle.plain_calls.proofs.Queues.{plain_queues}
 use Rattle.plain_machine.proofs.Reached.{called_back, taken_back, put_back, told_by}
 use Rattle.plain_machine.proofs.Kept.{take_keeps, put_keeps}
 
@@ -51,15 +51,15 @@ queues-post posts queue rank (Err refusal) = refl
 queues-done : (limits : Limits) (me : ℕ) (posts : Posts) (thread : ℕ) (call : Call) → length (posts_done limits me posts thread call).queues ≡ length posts.queues
 queues-done limits me posts thread call = by_posting (row_of call).posting refl
   where
-    of_plain : (call : Call) → (row_of call).posting ≡ None → length (posts_done limits me posts thread call).queues ≡ length posts.queues
-    of_plain (Wait call) is = length-changed_at posts.queues call.queue _
-    of_plain call is = cc
-
     by_posting : (posting : Option Posting) → (row_of call).posting ≡ posting → length (posts_done limits me posts thread call).queues ≡ length posts.queues
-    by_posting None is = of_plain call is
+    by_posting None is =
+        elim (plain_queues limits me posts thread call is) [
+          | inl same ↦ ap length same
+          | inr at ↦ ap length at.1 ∙ length-changed_at posts.queues at.0 _
+        ]
     by_posting (Some posting) is =
         let p = posting_of limits me posts call posting is in
-        rw (p.leaves thread) (queues-post posts posting.queue posting.rank p.asked)
+        rw (p.leaves thread) (queues-post posts posting.queue posting.rank (call_asks limits me posts call))
 
 queues-after : (limits : Limits) (me : ℕ) (posts : Posts) (thread : ℕ) (call : Call) (reply : Reply) → length (posts_after limits me posts thread call reply).queues ≡ length posts.queues
 queues-after limits me posts thread call reply = by_idle (is_idle reply) refl

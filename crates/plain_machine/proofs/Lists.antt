@@ -35,3 +35,8 @@ pub item_at : {X : Type 0} (xs : List X) (i : ℕ) → i < length xs → (x : X)
 item_at [] i within = absurd (let no : ⊥ = omega (arith, within) in no)
 item_at (x ∷ xs) zero within = (x, refl)
 item_at (x ∷ xs) (suc i) within = item_at xs i (omega arith)
+
+-- the item of a mapped list
+pub mapped : {X : Type 0} (f : X → ℕ) (xs : List X) (i : ℕ) (x : X) (y : ℕ) → slice_get xs i ≡ Some x → slice_get (map f xs) i ≡ Some y → y ≡ f x
+mapped {X} f xs i x y there is =
+    let both : slice_get (map f xs) i ≡ Some (f x) = slice_get-map f xs i ∙ rw there refl in cc

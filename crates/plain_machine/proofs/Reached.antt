@@ -5,9 +5,7 @@ use Rattle.std.proofs.lemmas.List.{length-set}
 use Rattle.std.specs.Option.{option_map}
 use Rattle.gaspi_types.specs.Checks.{◌>>=◌, found}
 use Rattle.gaspi_types.specs.Touches.{reach_of, take_touch, put_touch}
-use Rattle.gaspi_types.specs.Replies.{is_idle}
 use Rattle.gaspi_types.specs.declared.calls.Call.{Call}
-use Rattle.gaspi_types.specs.declared.calls.Call.TheVariants.{End}
 use Rattle.gaspi_types.specs.declared.events.Event.TheVariants.{Called, Take, Put}
 use Rattle.gaspi_types.specs.declared.events.Outcome.{Outcome}
 use Rattle.gaspi_types.specs.declared.replies.Reply.{Reply}
@@ -16,7 +14,7 @@ use Rattle.gaspi_types.specs.declared.touches.Touch.{Touch}
 use Rattle.gaspi_types.specs.declared.touches.Touch.TheVariants as touches
 use Rattle.gaspi_types.specs.declared.touches.Reach.{Reach}
 use Rattle.gaspi_types.specs.declared.touches.Reach.TheVariants.{Alone, OwnMemory, PeerMemory, PeerPosts}
-use Rattle.gaspi_model.specs.Calls.{peer_after, peer_done}
+use Rattle.gaspi_model.specs.Calls.{peer_after}
 use Rattle.gaspi_model.specs.Parts.{touched_of, parts_of, part_at, with_part, worked_memory}
 use Rattle.gaspi_model.specs.Posting.{changed_at}
 use Rattle.gaspi_model.specs.Step.{step, called}
@@ -30,6 +28,7 @@ use Rattle.gaspi_model.proofs.Tables.{slice_get-set_other}
 use Rattle.plain_machine.specs.Reaching.{call_reach, entry_reach, memory_at, with_memory_at, with_peer_at, Lent, call_lent, put_lent}
 use Rattle.plain_calls.proofs.Chains.{passed, found_there}
 use Rattle.plain_calls.proofs.Items.{set_there}
+use Rattle.plain_calls.proofs.Queues.{peer_queues}
 
 pub record IsPeer (ranks me rank : ℕ) : Type 0 where
   pub apart : (rank == me) ≡ false
@@ -283,19 +282,6 @@ put_back s t origin queue target number outcome is =
         (rw there at (sym (put_as s origin queue target number outcome p reach there refl) ∙ is)) (λ w lent more.
         passed (put p (memory_at s.memories origin reach) queue target number outcome) _ _ lent (λ after steps done.
         same p reach after w done more there steps))
-
--- What a peer is told changes none of its queues.
-
-peer_queues : (me : ℕ) (p : Posts) (call : Call) (reply : Reply) (peer : Posts) → (peer_after me p call reply peer).queues ≡ peer.queues
-peer_queues me p call reply peer = by_idle (is_idle reply) (of_call call)
-  where
-    of_call : (call : Call) → (peer_done me p call peer).queues ≡ peer.queues
-    of_call End = refl
-    of_call call = refl
-
-    by_idle : (idle : Bool) → (peer_done me p call peer).queues ≡ peer.queues → (if idle then peer else peer_done me p call peer).queues ≡ peer.queues
-    by_idle true kept = refl
-    by_idle false kept = kept
 
 -- what holds of the posts of all ranks, and with a peer's so changed that its queues stay, holds where a call has told its peer
 pub told_by : (P : List Posts → Type 0) (reach : Reach) (me : ℕ) (p : Posts) (call : Call) (reply : Reply) (all : List Posts) → P all

@@ -1,5 +1,5 @@
 -- What a step does to the names of the lanes that have an entry.
-use Rattle.std.proofs.Common.{◌≡◌, ℕ, zero, suc, ◌+◌, ◌<◌, ◌≤◌, Bool, true, false, ◌&&◌, nat_le, nat_lt, List, [], ◌∷◌, ◌++◌, Option, None, Some, Result, Ok, Err, length, slice_get, slice_set, remove, is_none, refl, sym, ap, ◌∙◌, arith, if◌then◌else◌}
+use Rattle.std.proofs.Common.{◌≡◌, ℕ, zero, suc, ◌+◌, ◌<◌, ◌≤◌, Bool, true, false, ◌&&◌, nat_le, nat_lt, List, [], ◌∷◌, ◌++◌, Option, None, Some, Result, Ok, Err, length, slice_get, slice_set, remove, is_none, refl, sym, ap, inl, inr, ◌∙◌, arith, if◌then◌else◌}
 use Rattle.std.specs.List.{flat_map, enumerate_from, prefix_len, insert}
 use Rattle.std.proofs.lemmas.Bool.{lt-ltb}
 use Rattle.std.proofs.lemmas.Bool.Decides.{nat_tests}
@@ -10,7 +10,6 @@ use Rattle.gaspi_types.specs.Lanes.{may_take, may_put, posted_entries}
 use Rattle.gaspi_types.specs.Replies.{same_reply, is_idle}
 use Rattle.gaspi_types.specs.World.{are_limits}
 use Rattle.gaspi_types.specs.declared.calls.Call.{Call}
-use Rattle.gaspi_types.specs.declared.calls.Call.TheVariants.{Wait}
 use Rattle.gaspi_types.specs.declared.call_rows.Posting.{Posting}
 use Rattle.gaspi_types.specs.declared.entries.Entry.{Entry}
 use Rattle.gaspi_types.specs.declared.entries.Kind.{Kind}
@@ -26,7 +25,7 @@ use Rattle.gaspi_types.specs.declared.touches.Reach.{Reach}
 use Rattle.gaspi_types.specs.declared.shapes.CallerId.{CallerId}
 use Rattle.gaspi_model.proofs.Tables.{slice_get-set_same, past-none}
 use Rattle.gaspi_model.specs.State.{owed, thread_at}
-use Rattle.gaspi_model.specs.Calls.{answer, recorded_reply, charge, posts_done, posts_after, memory_after, peer_after}
+use Rattle.gaspi_model.specs.Calls.{call_asks, answer, recorded_reply, charge, posts_done, posts_after, memory_after, peer_after}
 use Rattle.gaspi_model.specs.Posting.{with_post, with_entries, counted}
 use Rattle.gaspi_model.specs.Sound.{IsSound, IsSoundPosts}
 use Rattle.gaspi_model.specs.Step.{step, called, is_there, Steps}
@@ -47,6 +46,7 @@ use Rattle.plain_calls.proofs.Chains.{passed, check_holds, changed_there}
 use Rattle.plain_machine.proofs.Kept.{IsAt, found_at}
 use Rattle.plain_calls.proofs.CallRoom.{found_by, posted}
 use Rattle.plain_calls.proofs.Postings.{HasLength, IsPost, posting_of}
+use Rattle.plain_calls.proofs.Queues.{plain_queues}
 use Rattle.plain_calls.proofs.Items.{length-posted_entries}
 use Rattle.plain_machine.proofs.Lists.{same_in, same_changed}
 use Rattle.plain_machine.proofs.Reached.{called_back, taken_back, put_back, told_by}
@@ -199,8 +199,13 @@ post_has_lane limits me posts rank queue asked reply limited few p lane =
 -- a call that posts nothing keeps the names of its rank
 quiet_plain : (limits : Limits) (me : ℕ) (posts : Posts) (thread : ℕ) (call : Call) (j : ℕ) → (row_of call).posting ≡ None
     → rank_named (j, posts_done limits me posts thread call) ≡ rank_named (j, posts)
-quiet_plain limits me posts thread (Wait call) j is = same_changed (queue_named j) 0 call.queue posts.queues (λ (q : Queue). record q { open_count = 0 }) (λ k q. refl)
-quiet_plain limits me posts thread call j is = cc
+quiet_plain limits me posts thread call j is =
+    elim (plain_queues limits me posts thread call is) [
+      | inl same ↦ ap (λ (qs : List Queue). flat_map (queue_named j) (enumerate_from 0 qs)) same
+      | inr at ↦
+          ap (λ (qs : List Queue). flat_map (queue_named j) (enumerate_from 0 qs)) at.1
+          ∙ same_changed (queue_named j) 0 at.0 posts.queues (λ (q : Queue). record q { open_count = 0 }) (λ k q. refl)
+    ]
 
 -- so does one that posts to no lane
 quiet_call : (limits : Limits) (me : ℕ) (posts : Posts) (memory : Memory) (thread : ℕ) (call : Call) (reply : Reply) (j : ℕ) → are_limits limits ≡ true → length posts.queues ≤ 8
@@ -215,7 +220,7 @@ quiet_call limits me posts memory thread call reply j limited few same busy lane
         let f = found_by limits me posts memory thread call reply same busy in
         let post = posted limits me posts memory thread call reply posting p f in
         let none : post_lane me posting.rank posting.queue ≡ None = rw is at lane in
-        absurd (post_has_lane limits me posts posting.rank posting.queue p.asked f.reply_found limited few post none)
+        absurd (post_has_lane limits me posts posting.rank posting.queue (call_asks limits me posts call) f.reply_found limited few post none)
 
 -- what a recorded call has passed
 record IsAnswered (limits : Limits) (me : ℕ) (posts : Posts) (memory : Memory) (thread : ℕ) (call : Call) (reply : Reply) (after : Posts) : Type 0 where
@@ -287,9 +292,9 @@ posting s t (Called c call reply) id sound lane puts is =
         let p = posting_of s.limits c.rank done.p call posting row in
         let f = found_by s.limits c.rank done.p done.by.0 c.thread call reply done.by.1.replied busy in
         let post = posted s.limits c.rank done.p done.by.0 c.thread call reply posting p f in
-        let after : counted (with_post done.p posting.queue posting.rank p.asked) ≡ done.p' = ap counted (sym (p.leaves c.thread)) ∙ (rw busy at done.by.1.after_is) in
+        let after : counted (with_post done.p posting.queue posting.rank (call_asks s.limits c.rank done.p call)) ≡ done.p' = ap counted (sym (p.leaves c.thread)) ∙ (rw busy at done.by.1.after_is) in
         rw (← lane_of_post (nat_lt posting.rank 16 && nat_lt posting.queue 8) (lane_id c.rank posting.queue posting.rank) id lane, done.is, ← after)
-        (post_names s.posts c.rank s.limits done.p posting.queue posting.rank p.asked f.reply_found posting.entries done.there (sound.posts c.rank done.p done.there) post p.long p.some)
+        (post_names s.posts c.rank s.limits done.p posting.queue posting.rank (call_asks s.limits c.rank done.p call) f.reply_found posting.entries done.there (sound.posts c.rank done.p done.there) post p.long p.some)
 
 -- a put
 pub leaving : (s t : State) (e : Event) (id : LaneId) → event_lane e ≡ Some id → is_put e ≡ true → step s e ≡ Ok t

@@ -4,12 +4,14 @@ use Rattle.gaspi_model.specs.Step.{called}
 use Rattle.gaspi_model.specs.declared.states.Why.TheVariants as whys
 use Rattle.plain_machine.specs.Machine.{taken_of}
 use Rattle.plain_machine.proofs.Lifted.{lent_steps}
+use Rattle.plain_machine.proofs.Lists.{mapped}
 use Rattle.plain_machine.proofs.steps.call_on.Goals as goal
 
 pub called-requires-clause-sound : goal.called-requires-clause-sound
-called-requires-clause-sound c =
-    let there = rw c.index-rank.ensures.value at c.at_mut.ensures.value in
-    c.requires.ranks.sound c.args.caller.rank c.at_mut.result.now there
+called-requires-clause-sound c = c.requires.ranks.sound _ _ c.at_mut.ensures.value
+
+pub called-requires-clause-taken : goal.called-requires-clause-taken
+called-requires-clause-taken c = mapped taken_of c.args.posts.now c.index-rank.result _ _ c.at_mut.ensures.value (rw c.requires.taken at c.at_mut-2.ensures.value)
 
 pub returns-clause-step : goal.returns-clause-step
 returns-clause-step c =

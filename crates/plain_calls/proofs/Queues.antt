@@ -1,0 +1,33 @@
+-- What calls do to queues beside their posts.
+use Rattle.std.proofs.Common.{◌≡◌, ℕ, Bool, true, false, List, None, if◌then◌else◌, ◌⊎◌, inl, inr, refl}
+use Rattle.gaspi_types.specs.CallRows.{row_of}
+use Rattle.gaspi_types.specs.Replies.{is_idle}
+use Rattle.gaspi_types.specs.declared.calls.Call.{Call}
+use Rattle.gaspi_types.specs.declared.calls.Call.TheVariants.{Wait, End}
+use Rattle.gaspi_types.specs.declared.replies.Reply.{Reply}
+use Rattle.gaspi_types.specs.declared.shapes.Limits.{Limits}
+use Rattle.gaspi_model.specs.Calls.{posts_done, peer_done, peer_after}
+use Rattle.gaspi_model.specs.Posting.{changed_at}
+use Rattle.gaspi_model.specs.declared.states.Queue.{Queue}
+use Rattle.gaspi_model.specs.declared.states.Posts.{Posts}
+
+-- queues stay, but that the open count of one is cleared
+abbrev pub AreClosed : List Queue → List Queue → Type 0
+AreClosed old new = (new ≡ old) ⊎ ((queue : ℕ) × (new ≡ changed_at old queue (λ (q : Queue). record q { open_count = 0 })))
+
+-- a call that posts nothing does no more to the queues of its rank
+pub plain_queues : (limits : Limits) (me : ℕ) (posts : Posts) (thread : ℕ) (call : Call) → (row_of call).posting ≡ None → AreClosed posts.queues (posts_done limits me posts thread call).queues
+plain_queues limits me posts thread (Wait call) is = inr (call.queue, refl)
+plain_queues limits me posts thread call is = inl (cc)
+
+-- what a peer is told changes none of its queues
+pub peer_queues : (me : ℕ) (posts : Posts) (call : Call) (reply : Reply) (peer : Posts) → (peer_after me posts call reply peer).queues ≡ peer.queues
+peer_queues me posts call reply peer = by_idle (is_idle reply) (of_call call)
+  where
+    of_call : (call : Call) → (peer_done me posts call peer).queues ≡ peer.queues
+    of_call End = refl
+    of_call call = refl
+
+    by_idle : (idle : Bool) → (peer_done me posts call peer).queues ≡ peer.queues → (if idle then peer else peer_done me posts call peer).queues ≡ peer.queues
+    by_idle true kept = refl
+    by_idle false kept = kept
