@@ -1,7 +1,7 @@
 //! What a call answers and what it leaves, by the kinds of calls.
 
 ghost use Rattle.std.specs.Prelude.{◌≡◌, ◌≤◌, length, IfOk, IsOk, OnOk, OnErr, false};
-ghost use Rattle.gaspi_model.specs.Calls.{call_finds, answer, posts_done, memory_done, peer_after};
+ghost use Rattle.gaspi_model.specs.Calls.{plain_finds, call_finds, answer, posts_done, memory_done, peer_after};
 ghost use Rattle.gaspi_model.specs.declared.states.Posts.{Posts};
 ghost use Rattle.plain_calls.specs.Memory.{is_load, keeps_memory};
 ghost use Rattle.plain_calls.specs.Room.{HasCallRoom};
@@ -20,8 +20,52 @@ use crate::segment_calls::{
 };
 use crate::threads::{end_thread, is_running, thread_at};
 use gaspi_model::{Memory, Posts};
-use gaspi_types::{Call, Limits, NoMemory, RankId, Ready, Refusal, Reply, ThreadId};
+use gaspi_types::{
+    Call, CompareSwap, FetchAdd, Limits, NoMemory, RankId, Ready, Refusal, Reply, ThreadId,
+};
 use std::alloc::Global;
+
+/// What a call finds that posts nothing. Only a load takes memory.
+fn plain_finds(
+    alloc: Global,
+    limits: &Limits,
+    me: RankId,
+    posts: &Posts,
+    memory: &Memory,
+    call: &Call,
+) -> Result<Result<Option<Reply>, Refusal>, NoMemory>
+    requires { length posts.now.queues ≤ 8 }
+    ensures finds { IfOk result (λ finds. finds ≡ plain_finds limits.now me posts.now memory.now call.now) }
+    ensures ample { is_load call.now ≡ false → IsOk result }
+{
+    Ok(match call {
+        Call::Alloc(call) => alloc_finds(posts, call),
+        Call::Register(call) => register_finds(limits, posts, call),
+        Call::Delete(call) => delete_finds(posts, call),
+        Call::Store(call) => store_finds(posts, call),
+        Call::Load(call) => load_finds(alloc, posts, memory, call)?,
+        Call::Wait(call) => wait_finds(posts, call),
+        Call::Waitsome(call) => waitsome_finds(limits, posts, memory, call),
+        Call::Reset(call) => reset_finds(limits, posts, memory, call),
+        Call::FetchAdd(
+            FetchAdd {
+                seg,
+                offset,
+                rank,
+                ..
+            },
+        )
+        | Call::CompareSwap(
+            CompareSwap {
+                seg,
+                offset,
+                rank,
+                ..
+            },
+        ) => { word_finds(limits, me, posts, memory, *seg, *offset, *rank) }
+        _ => Ok(Some(Reply::Done)),
+    })
+}
 
 /// What a call finds: its refusal, or a reply, or that it is not ready. The memory is that which the call works on. Only a
 /// load takes memory.
@@ -37,63 +81,21 @@ fn call_finds(
     ensures finds { IfOk result (λ finds. finds ≡ call_finds limits.now me posts.now memory.now call.now) }
     ensures ample { is_load call.now ≡ false → IsOk result }
 {
-    let finds = match call {
-        Call::Alloc(call) => alloc_finds(posts, call),
-        Call::Register(call) => register_finds(limits, posts, call),
-        Call::Delete(call) => delete_finds(posts, call),
-        Call::Store(call) => store_finds(posts, call),
-        Call::Load(call) => load_finds(alloc, posts, memory, call)?,
+    match call {
         Call::Write(call) => {
-            asked_finds(
-                limits,
-                posts,
-                call.rank,
-                call.queue,
-                write_asks(me, posts, call),
-            )
+            let asked = write_asks(me, posts, call);
+            Ok(asked_finds(limits, posts, call.rank, call.queue, asked))
         }
         Call::Notify(call) => {
-            asked_finds(
-                limits,
-                posts,
-                call.rank,
-                call.queue,
-                notify_asks(limits, me, posts, call),
-            )
+            let asked = notify_asks(limits, me, posts, call);
+            Ok(asked_finds(limits, posts, call.rank, call.queue, asked))
         }
         Call::WriteNotify(call) => {
-            asked_finds(
-                limits,
-                posts,
-                call.rank,
-                call.queue,
-                write_notify_asks(limits, me, posts, call),
-            )
+            let asked = write_notify_asks(limits, me, posts, call);
+            Ok(asked_finds(limits, posts, call.rank, call.queue, asked))
         }
-        Call::Wait(call) => wait_finds(posts, call),
-        Call::Waitsome(call) => waitsome_finds(limits, posts, memory, call),
-        Call::Reset(call) => reset_finds(limits, posts, memory, call),
-        Call::FetchAdd(call) => word_finds(
-            limits,
-            me,
-            posts,
-            memory,
-            call.seg,
-            call.offset,
-            call.rank,
-        ),
-        Call::CompareSwap(call) => word_finds(
-            limits,
-            me,
-            posts,
-            memory,
-            call.seg,
-            call.offset,
-            call.rank,
-        ),
-        Call::End => Ok(Some(Reply::Done)),
-    };
-    Ok(finds)
+        _ => plain_finds(alloc, limits, me, posts, memory, call),
+    }
 }
 
 /// What a look at a call answers. The memory is that which the call works on: its rank's or, of an atomic, that of the
