@@ -1,0 +1,5 @@
+pub mod Lists
+pub mod Moves
+pub mod Holds
+pub mod History
+pub mod Seats

@@ -1,0 +1,74 @@
+-- Beginnings of one history, the events of a party, what is held of a shard, and lists read by `get_elem?`.
+use Rattle.std.proofs.Common.{◌≡◌, ◌≢◌, ℕ, zero, suc, ◌+◌, ◌<◌, ◌≤◌, ◌⊎◌, inl, inr, ⊎_elim, Bool, true, false, cond, eqb, eq-eqb, ne_eqb, List, [], ◌∷◌, ◌++◌, length, set, Option, None, Some, refl, ap, sym, subst, ◌∙◌, arith, append_assoc, length-append}
+use mathlib.Core.Logic.{dite}
+use mathlib.Core.Option.{some, some-injective, some-ne-none}
+use mathlib.Core.List.{IsPrefix}
+use native.Mathlib.Decide.{ℕ_discrete}
+use lib.ListN.{get_elem?}
+use Rattle.commit_table.specs.Machine.{is_among, is_party, events_by}
+use Rattle.commit_table.specs.Views.{held_at, holds_all}
+
+module _ {A : Type 0} where
+  pub prefix_self : (xs : List A) → IsPrefix xs xs
+  prefix_self [] = ([], refl)
+  prefix_self (x ∷ xs) = (let r = prefix_self xs in r.0, ap (λ ys. x ∷ ys) (prefix_self xs).1)
+
+  pub prefix_none : (xs : List A) → IsPrefix [] xs
+  prefix_none xs = (xs, refl)
+
+  pub prefix_trans : (xs ys zs : List A) → IsPrefix xs ys → IsPrefix ys zs → IsPrefix xs zs
+  prefix_trans xs ys zs p q = (p.0 ++ q.0, sym (append_assoc xs p.0 q.0) ∙ (ap (λ w. w ++ q.0) p.1 ∙ q.1))
+
+  pub prefix_more : (xs ys zs : List A) → IsPrefix xs ys → IsPrefix xs (ys ++ zs)
+  prefix_more xs ys zs p = prefix_trans xs ys (ys ++ zs) p (zs, refl)
+
+  pub prefix_length : (xs ys : List A) → IsPrefix xs ys → length xs ≤ length ys
+  prefix_length xs ys p = omega (arith, sym (ap length p.1) ∙ length-append xs p.0)
+
+  -- where something stands, it can be replaced
+  pub at_here : (l : List A) (i : ℕ) (a b : A) → get_elem? l i ≡ some b → get_elem? (set l i a) i ≡ some a
+  at_here [] i a b e = absurd (some-ne-none b (sym e))
+  at_here (x ∷ xs) zero a b e = refl
+  at_here (x ∷ xs) (suc i) a b e = at_here xs i a b e
+
+  pub at_below : (l : List A) (i : ℕ) (a : A) → get_elem? l i ≡ some a → i < length l
+  at_below [] i a e = absurd (some-ne-none a (sym e))
+  at_below (x ∷ xs) zero a e = omega arith
+  at_below (x ∷ xs) (suc i) a e = let r = at_below xs i a e in omega arith
+
+  pub one_there : (l : List A) (i : ℕ) (a b : A) → get_elem? l i ≡ some a → get_elem? l i ≡ some b → a ≡ b
+  one_there l i a b p q = some-injective a b (sym p ∙ q)
+
+  -- what stands in a list with one more at its end
+  pub at_end : (l : List A) (a b : A) (j : ℕ) → get_elem? (l ++ a ∷ []) j ≡ some b → (get_elem? l j ≡ some b) ⊎ ((j ≡ length l) × (a ≡ b))
+  at_end [] a b zero e = inr (refl, some-injective a b e)
+  at_end [] a b (suc j) e = absurd (some-ne-none b (sym e))
+  at_end (x ∷ xs) a b zero e = inl e
+  at_end (x ∷ xs) a b (suc j) e = ⊎_elim (λ t. inl t) (λ t. inr (ap suc t.0, t.1)) (at_end xs a b j e)
+
+module _ {E : Type 0} (party : E → Option ℕ) (p : ℕ) where
+  pub events_by-append : (xs ys : List E) → events_by party p (xs ++ ys) ≡ events_by party p xs ++ events_by party p ys
+  events_by-append [] ys = refl
+  events_by-append (x ∷ xs) ys =
+      let r = events_by-append xs ys in
+      let P : Bool → Type 0 = λ b. cond b (x ∷ events_by party p (xs ++ ys)) (events_by party p (xs ++ ys)) ≡ cond b (x ∷ events_by party p xs) (events_by party p xs) ++ events_by party p ys in
+      elim (is_party p (party x)) as P [ true ↦ ap (λ l. x ∷ l) r | false ↦ r ]
+
+module _ {E : Type 0} where
+  pub held_here : (held : List (ℕ × Option (List E))) (i : ℕ) (g : Option (List E)) → held_at ((i, g) ∷ held) i ≡ g
+  held_here held i g = subst (λ b. cond b g (held_at held i) ≡ g) (sym (eq-eqb i i refl)) refl
+
+  pub held_else : (held : List (ℕ × Option (List E))) (i j : ℕ) (g : Option (List E)) → j ≢ i → held_at ((i, g) ∷ held) j ≡ held_at held j
+  held_else held i j g ne = subst (λ b. cond b g (held_at held j) ≡ held_at held j) (sym (ne_eqb j i ne)) refl
+
+  pub held_among : (is : List ℕ) (g : List E) (held : List (ℕ × Option (List E))) (j : ℕ) → is_among is j ≡ true → held_at (holds_all is g held) j ≡ Some g
+  held_among [] g held j e = absurd (cc)
+  held_among (i ∷ is) g held j e = dite (ℕ_discrete j i)
+      (λ same. subst (λ b. cond b (Some g) (held_at (holds_all is g held) j) ≡ Some g) (sym (eq-eqb j i same)) refl)
+      (λ ne. subst (λ b. cond b (Some g) (held_at (holds_all is g held) j) ≡ Some g) (sym (ne_eqb j i ne)) (held_among is g held j (simp (ne_eqb j i ne) at e)))
+
+  pub held_apart : (is : List ℕ) (g : List E) (held : List (ℕ × Option (List E))) (j : ℕ) → is_among is j ≡ false → held_at (holds_all is g held) j ≡ held_at held j
+  held_apart [] g held j e = refl
+  held_apart (i ∷ is) g held j e = dite (ℕ_discrete j i)
+      (λ same. absurd (let b = eq-eqb j i same in cc (simp b at e)))
+      (λ ne. subst (λ b. cond b (Some g) (held_at (holds_all is g held) j) ≡ held_at held j) (sym (ne_eqb j i ne)) (held_apart is g held j (simp (ne_eqb j i ne) at e)))
