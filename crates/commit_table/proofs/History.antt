@@ -16,10 +16,10 @@ use Rattle.commit_table.specs.declared.views.View.{View}
 use Rattle.commit_table.specs.Machine.{Machine, Laws, is_among, is_party, events_by}
 use Rattle.commit_table.specs.Views.{held_at, holds_all, mine_after, looked, committed, at_rest, hearing}
 use Rattle.commit_table.specs.Rule.{Free, Held, IsShard, Remembers, Answers, IsParty, Gathered, Fits, Rule}
-use Rattle.commit_table.specs.Steps.{Of, IsOwn, Sees, Adds, Commits, looks, adds}
+use Rattle.commit_table.specs.Steps.{Of, Sees, Adds, Commits, looks, adds}
 use Rattle.commit_table.proofs.Lists.{prefix_self, prefix_none, prefix_trans, prefix_more, prefix_length, at_here, one_there, events_by-append, held_among, held_apart}
 use Rattle.commit_table.proofs.Moves.{with_view, still}
-use Rattle.commit_table.proofs.Holds.{m, K, St, R, Mine, rest_fits, told, own_shard}
+use Rattle.commit_table.proofs.Holding.{m, K, St, R, Mine, rest_fits, told, own_shard}
 
 either_way : (b : Bool) → (b ≡ true) ⊎ (b ≡ false)
 either_way true = inl refl

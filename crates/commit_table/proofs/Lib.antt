@@ -1,5 +1,7 @@
 pub mod Lists
 pub mod Moves
-pub mod Holds
+pub mod Holding
 pub mod History
-pub mod Seats
+pub mod Joining
+pub mod Slots
+pub mod Counting

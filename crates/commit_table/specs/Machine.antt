@@ -51,3 +51,7 @@ is_party p (Some q) = eqb p q
 abbrev pub events_by : {E : Type 0} → (E → Option ℕ) → ℕ → List E → List E
 events_by party p [] = []
 events_by party p (e ∷ es) = cond (is_party p (party e)) (e ∷ events_by party p es) (events_by party p es)
+
+-- the events of a pass's party are the pass's own; a pass that has none says nothing
+abbrev pub IsOwn : {X E : Type 0} → Machine X E → Option ℕ → List E → List E → Type 0
+IsOwn m party seen mine = (p : ℕ) → party ≡ Some p → events_by m.party p seen ≡ mine

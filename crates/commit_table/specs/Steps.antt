@@ -7,17 +7,13 @@ use lib.ListN.{get_elem?}
 use Rattle.atomic_table.specs.Table.{Me, Step}
 use Rattle.commit_table.specs.declared.views.Known.{Known}
 use Rattle.commit_table.specs.declared.views.View.{View}
-use Rattle.commit_table.specs.Machine.{Machine, is_among, events_by}
+use Rattle.commit_table.specs.Machine.{Machine, is_among, events_by, IsOwn}
 use Rattle.commit_table.specs.Views.{held_at, took, missed, gave_back, looked, committed, at_rest, reaching, closer}
 
 module _ {S X E : Type 0} (of : S → Machine X E) where
   -- a fact about the machine of a view's start
   abbrev pub Of : Known S E → (Machine X E → Type 0) → Type 0
   Of v P = (s : S) → v.start ≡ Some s → P (of s)
-
-  -- of its party, a pass has seen just its own events
-  abbrev pub IsOwn : Machine X E → Option ℕ → List E → List E → Type 0
-  IsOwn m party seen mine = (p : ℕ) → party ≡ Some p → events_by m.party p seen ≡ mine
 
   -- A compare-exchange of a shard's word: it was free, and is now held with its value; or it was held, and missed
   abbrev pub Takes : ℕ → Known S E → ℕ → Me (Option X) (View S E) → Type 0

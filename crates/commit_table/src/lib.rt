@@ -2,10 +2,14 @@
 #![tactic(auto)]
 
 mod board;
+mod holds;
+mod pass;
 mod plays;
+mod seats;
 mod sharded;
 mod steps;
 mod views;
 
+pub use pass::{Note, Pass};
 pub use sharded::Sharded;
 pub use views::{Known, View};

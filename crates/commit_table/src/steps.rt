@@ -74,7 +74,7 @@ pub fn look_word<M: Sharded>(board: &Board<M>, seat: &mut Place<M>) -> u64
 }
 
 // Commit: an addition of 1 to the journal word.
-fn add_told<M: Sharded, J: Told<M::Event>>(
+pub fn add_told<M: Sharded, J: Told<M::Event>>(
     board: &Board<M>,
     seat: &mut Place<M>,
     event: &M::Event,

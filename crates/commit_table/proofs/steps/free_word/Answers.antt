@@ -1,5 +1,5 @@
 use Rattle.std.proofs.Common.{rules, arith}
-use Rattle.commit_table.proofs.Holds.{free_allowed}
+use Rattle.commit_table.proofs.Holding.{free_allowed}
 use Rattle.commit_table.proofs.steps.free_word.Goals as goal
 
 pub store-requires : goal.store-requires

@@ -1,5 +1,5 @@
 use Rattle.std.proofs.Common.{rules, arith}
-use Rattle.commit_table.proofs.Holds.{park_allowed}
+use Rattle.commit_table.proofs.Holding.{park_allowed}
 use Rattle.commit_table.proofs.steps.park_slot.Goals as goal
 
 pub load-requires : goal.load-requires

@@ -1,5 +1,5 @@
 use Rattle.std.proofs.Common.{rules, arith}
-use Rattle.commit_table.proofs.Holds.{take_allowed}
+use Rattle.commit_table.proofs.Holding.{take_allowed}
 use Rattle.commit_table.proofs.steps.take_word.Goals as goal
 
 pub compare_exchange-requires : goal.compare_exchange-requires

@@ -17,10 +17,10 @@ use Rattle.commit_table.specs.declared.views.View.{View}
 use Rattle.commit_table.specs.Machine.{Machine, Laws, is_among, is_party, events_by}
 use Rattle.commit_table.specs.Views.{held_at, new_pass, noted, at_rest, hearing, maker, gatherer, closer, tally_of, spent}
 use Rattle.commit_table.specs.Rule.{Free, Held, IsShard, Remembers, Answers, IsParty, Gathered, Fits, Rule}
-use Rattle.commit_table.specs.Steps.{Of, IsOwn, Ends, opens, ends}
+use Rattle.commit_table.specs.Steps.{Of, Ends, opens, ends}
 use Rattle.commit_table.proofs.Lists.{prefix_self, prefix_none, prefix_length, at_here, at_below, one_there, at_end}
 use Rattle.commit_table.proofs.Moves.{with_view, shard_kept, party_kept, rebuild, still, updated, updated_here, updated_else}
-use Rattle.commit_table.proofs.Holds.{rest_fits, told}
+use Rattle.commit_table.proofs.Holding.{rest_fits, told}
 
 module _ {S X E : Type 0} (of : S → Machine X E) (laws : (s : S) → Laws (of s)) (start : S) (n : ℕ) where
   abbrev M : Machine X E
@@ -349,3 +349,23 @@ module _ {S X E : Type 0} (of : S → Machine X E) (laws : (s : S) → Laws (of 
     parties = λ p. party_first ws xs p (dec_lt p n);
     views = λ id v there. first_view ws id v there
   }
+
+  pub pass_allowed : (id k : ℕ) (me : Me (Option X) V) → me ≡ (maker start k n, []) → k < n
+      → Splits R id me.0 (record me.0 { gives = me.0.gives + 1 }) (at_rest (record (noted me.0.known) { party = Some me.0.gives }))
+  pass_allowed id k me ready lt = subst (λ (z : V). Splits R id z (record z { gives = z.gives + 1 }) (at_rest (record (noted z.known) { party = Some z.gives }))) (sym (ap (λ z. z.0) ready)) (pass_splits id k lt)
+
+  pub note_allowed : (id : ℕ) (me : Me (Option X) V) → me ≡ (at_rest me.0.known, []) → Splits R id me.0 me.0 (at_rest (noted me.0.known))
+  note_allowed id me ready = subst (λ (z : V). Splits R id z z (at_rest (noted z.known))) (sym (ap (λ z. z.0) ready)) (note_splits id me.0.known)
+
+  pub keep_allowed : (id : ℕ) (h : List E) (l : List (Known S E)) (me : Me (Option X) V) → me ≡ (closer start h l, []) → Splits R id me.0 me.0 (tally_of me.0)
+  keep_allowed id h l me ready = subst (λ (z : V). Splits R id z z (tally_of z)) (sym (ap (λ z. z.0) ready)) (tally_splits id h l)
+
+  pub hear_allowed : (id other : ℕ) (me you : Me (Option X) V) → me ≡ (at_rest me.0.known, []) → you ≡ (at_rest you.0.known, []) → you.0.known.party ≡ None
+      → Joins R id me.0 other you.0 (hearing me.0.known you.0.known.seen) spent
+  hear_allowed id other me you ready your bare = subst (λ (z : V). Joins R id z other you.0 (hearing z.known you.0.known.seen) spent) (sym (ap (λ z. z.0) ready))
+      (subst (λ (z : V). Joins R id (at_rest me.0.known) other z (hearing me.0.known z.known.seen) spent) (sym (ap (λ z. z.0) your)) (note_joins id other me.0.known you.0.known bare))
+
+  pub gather_allowed : (id other : ℕ) (l : List (Known S E)) (me you : Me (Option X) V) → me ≡ (gatherer start l, []) → you ≡ (at_rest you.0.known, []) → (p : ℕ) → you.0.known.party ≡ Some p
+      → ((i : ℕ) → held_at you.0.known.held i ≡ None) → Joins R id me.0 other you.0 (record me.0 { gathered = me.0.gathered ++ you.0.known ∷ [] }) spent
+  gather_allowed id other l me you ready your p party bare = subst (λ (z : V). Joins R id z other you.0 (record z { gathered = z.gathered ++ you.0.known ∷ [] }) spent) (sym (ap (λ z. z.0) ready))
+      (subst (λ (z : V). Joins R id (gatherer start l) other z (gatherer start (l ++ z.known ∷ [])) spent) (sym (ap (λ z. z.0) your)) (pass_joins id other l you.0.known p party bare))
