@@ -5,3 +5,4 @@ pub mod History
 pub mod Joining
 pub mod Slots
 pub mod Counting
+pub mod Looking

@@ -1,11 +1,14 @@
 //! What the holder of a pass has, and notes that passes send to one another.
 ghost use Rattle.std.specs.Prelude.{◌≡◌, ℕ, ◌+◌, ◌-◌, ◌^◌, ◌<◌, Option, Some, None, List, [], ◌∷◌, length, min, slice_index, slice_set, vec_len, IfOk, IfSome, IfNone};
-ghost use Rattle.commit_table.specs.Views.{at_rest, new_pass, took, missed};
-ghost use Rattle.commit_table.specs.Calls.{IsSized, Taken, misses_in};
+ghost use Rattle.commit_table.specs.Views.{at_rest, held_at, new_pass, noted, took, missed, gave_back};
+ghost use Rattle.commit_table.specs.Calls.{IsSized, Taken, Looked, MayCommit, Committed, misses_in};
+ghost use mathlib.Core.List.{IsPrefix};
 
 use crate::board::{Board, Place};
-use crate::holds::take;
+use crate::holds::{add, give, take};
+use crate::seats::{hear_note, part_note};
 use crate::sharded::Sharded;
+use crate::steps::look_word;
 use std::alloc::{AllocError, Global};
 use std::marker::Model;
 
@@ -111,5 +114,55 @@ impl<M: Sharded> Pass<M> {
             return None;
         };
         Some(value)
+    }
+
+    pub(crate) fn look(&mut self, board: &Board<M>) -> u64
+        requires table { (self.old.table ≡ board.now.table_id) × (self.old.known.start ≡ Some board.now.key.start) }
+        requires size { IsSized board.now.table_id (M.machine board.now.key.start).shards }
+        ensures table { self.new.table ≡ self.old.table }
+        ensures told { (h : List M.Event) × Looked (M.machine board.now.key.start) self.old.known result h self.new.known }
+    {
+        look_word(board, &mut self.seat)
+    }
+
+    pub(crate) fn commit(&mut self, board: &Board<M>, event: &M::Event) -> u64
+        requires table { (self.old.table ≡ board.now.table_id) × (self.old.known.start ≡ Some board.now.key.start) }
+        requires size { IsSized board.now.table_id (M.machine board.now.key.start).shards }
+        requires may { MayCommit (M.machine board.now.key.start) self.old.known event.now }
+        ensures table { self.new.table ≡ self.old.table }
+        ensures told { (h : List M.Event) × Committed (M.machine board.now.key.start) self.old.known event.now result h self.new.known }
+    {
+        add(board, &mut self.seat, event)
+    }
+
+    pub(crate) fn give_back(&mut self, board: &Board<M>, shard: u32, value: M::Shard)
+        requires table { self.old.table ≡ board.now.table_id }
+        requires size { IsSized board.now.table_id (M.machine board.now.key.start).shards }
+        requires shard { shard < (M.machine board.now.key.start).shards }
+        requires value { (g : List M.Event) × (held_at self.old.known.held shard ≡ Some g) × (M.machine board.now.key.start).Stands shard value g }
+        ensures { self.new ≡ record self.old { known = gave_back self.old.known shard } }
+    {
+        give(board, &mut self.seat, shard, value);
+    }
+
+    pub(crate) fn note(&mut self, board: &Board<M>) -> Note<M>
+        requires table { self.old.table ≡ board.now.table_id }
+        requires size { IsSized board.now.table_id (M.machine board.now.key.start).shards }
+        ensures same { self.new ≡ self.old }
+        ensures note { result ≡ record { table = self.old.table; known = noted self.old.known } }
+    {
+        let seat = part_note(board, &mut self.seat);
+        Note { seat }
+    }
+
+    pub(crate) fn learn(&mut self, board: &Board<M>, note: Note<M>)
+        requires table { (self.old.table ≡ board.now.table_id) × (self.old.known.start ≡ Some board.now.key.start) × (note.table ≡ board.now.table_id) }
+        requires size { IsSized board.now.table_id (M.machine board.now.key.start).shards }
+        ensures table { self.new.table ≡ self.old.table }
+        ensures told { (h : List M.Event) × Looked (M.machine board.now.key.start) self.old.known (length h) h self.new.known × IsPrefix note.known.seen h }
+    {
+        let Note { seat } = note;
+        hear_note(board, &mut self.seat, seat);
+        look_word(board, &mut self.seat);
     }
 }
