@@ -8,8 +8,10 @@ mod plays;
 mod seats;
 mod sharded;
 mod steps;
+mod table;
 mod views;
 
 pub use pass::{Note, Pass};
 pub use sharded::Sharded;
+pub use table::CommitTable;
 pub use views::{Known, View};
