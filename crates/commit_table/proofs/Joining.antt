@@ -1,5 +1,5 @@
 -- Making and joining seats keeps the rule, and so do the first state and the last look.
-use Rattle.std.proofs.Common.{◌≡◌, ◌≢◌, ℕ, zero, suc, ◌+◌, add-one, ◌<◌, ◌≤◌, ◌⊎◌, inl, inr, ⊎_elim, Bool, true, false, cond, eqb, eq-eqb, ne_eqb, List, [], ◌∷◌, ◌++◌, map, length, get_or, set, All, Option, None, Some, refl, ap, sym, subst, ◌∙◌, arith}
+use Rattle.std.proofs.Common.{◌≡◌, ◌≢◌, ℕ, zero, suc, ◌+◌, add-one, ◌<◌, ◌≤◌, ◌⊎◌, inl, inr, ⊎_elim, Bool, true, false, cond, eqb, eq-eqb, ne_eqb, List, [], ◌∷◌, ◌++◌, map, replicate, length, get_or, set, All, Option, None, Some, refl, ap, sym, subst, ◌∙◌, arith}
 use mathlib.Core.Logic.{dite}
 use mathlib.Core.Option.{Option as Maybe, some, none, some-injective, some-ne-none}
 use mathlib.Core.List.{IsPrefix}
@@ -10,6 +10,7 @@ use Rattle.std.proofs.Math.Decide.{dec_lt}
 use Rattle.std.proofs.lemmas.Bool.{lt-ltb, ltb-true, le-ltb}
 use Rattle.std.proofs.lemmas.List.Elements.{All-nil}
 use Rattle.std.proofs.Math.ListN.{length-set}
+use lib.ListN.{length-replicate}
 use Rattle.atomic_table.specs.Table.{State, Me, Act, keeps, Allows, Splits, Joins, Enters, Final, Seen, opening, step}
 use Rattle.atomic_table.proofs.Lists.{at_set, set_else, set_again, at_longer, at_last, at_map}
 use Rattle.commit_table.specs.declared.views.Known.{Known}
@@ -17,8 +18,9 @@ use Rattle.commit_table.specs.declared.views.View.{View}
 use Rattle.commit_table.specs.Machine.{Machine, Laws, is_among, is_party, events_by}
 use Rattle.commit_table.specs.Views.{held_at, new_pass, noted, at_rest, hearing, maker, gatherer, closer, tally_of, spent}
 use Rattle.commit_table.specs.Rule.{Free, Held, IsShard, Remembers, Answers, IsParty, Gathered, Fits, Rule}
+use Rattle.commit_table.specs.Calls.{AreShards}
 use Rattle.commit_table.specs.Steps.{Of, Ends, opens, ends}
-use Rattle.commit_table.proofs.Lists.{prefix_self, prefix_none, prefix_length, at_here, at_below, one_there, at_end}
+use Rattle.commit_table.proofs.Lists.{prefix_self, prefix_none, prefix_length, at_here, at_below, one_there, at_end, found_there}
 use Rattle.commit_table.proofs.Moves.{with_view, shard_kept, party_kept, rebuild, still, updated, updated_here, updated_else}
 use Rattle.commit_table.proofs.Holding.{rest_fits, told}
 
@@ -369,3 +371,18 @@ module _ {S X E : Type 0} (of : S → Machine X E) (laws : (s : S) → Laws (of 
       → ((i : ℕ) → held_at you.0.known.held i ≡ None) → Joins R id me.0 other you.0 (record me.0 { gathered = me.0.gathered ++ you.0.known ∷ [] }) spent
   gather_allowed id other l me you ready your p party bare = subst (λ (z : V). Joins R id z other you.0 (record z { gathered = z.gathered ++ you.0.known ∷ [] }) spent) (sym (ap (λ z. z.0) ready))
       (subst (λ (z : V). Joins R id (gatherer start l) other z (gatherer start (l ++ z.known ∷ [])) spent) (sym (ap (λ z. z.0) your)) (pass_joins id other l you.0.known p party bare))
+
+  zeros_at : (k i : ℕ) → ◌≡◌ {A = ℕ} (get_or (replicate k 0) i 0) 0
+  zeros_at zero i = refl
+  zeros_at (suc k) zero = refl
+  zeros_at (suc k) (suc i) = zeros_at k i
+
+  pub opens_with : (k : ℕ) (ws : List ℕ) (xs : List X) (slots : List (Option X)) → ws ≡ replicate k 0 → k ≡ M.shards + 1 → slots ≡ map (λ x. Some x) xs → AreShards M xs [] → R (opening ws slots (maker start 0 n))
+  opens_with k ws xs slots words size values shards =
+      let count = shards.count in
+      opens_ruled ws slots (ap length words ∙ (length-replicate k 0 ∙ size)) (λ i. ap (λ z. get_or z i 0) words ∙ zeros_at k i)
+      (λ i lt. let a = found_there xs i (omega arith) in (
+        a.0,
+        subst (λ z. get_elem? z i ≡ some (Some a.0)) (sym values) (at_map (λ (x : X). Some x) xs i a.0 a.2),
+        shards.stand i a.0 a.1,
+      ))

@@ -1,5 +1,5 @@
 -- Beginnings of one history, the events of a party, what is held of a shard, and lists read by `get_elem?`.
-use Rattle.std.proofs.Common.{◌≡◌, ◌≢◌, ℕ, zero, suc, ◌+◌, ◌<◌, ◌≤◌, ◌⊎◌, inl, inr, ⊎_elim, Bool, true, false, cond, eqb, eq-eqb, ne_eqb, List, [], ◌∷◌, ◌++◌, length, set, Option, None, Some, refl, ap, sym, subst, ◌∙◌, arith, append_assoc, length-append}
+use Rattle.std.proofs.Common.{◌≡◌, ◌≢◌, ℕ, zero, suc, ◌+◌, ◌<◌, ◌≤◌, ◌⊎◌, inl, inr, ⊎_elim, Bool, true, false, cond, eqb, eq-eqb, ne_eqb, List, [], ◌∷◌, ◌++◌, length, set, Option, None, Some, refl, ap, sym, subst, ◌∙◌, arith, append_assoc, length-append, slice_get}
 use mathlib.Core.Logic.{dite}
 use mathlib.Core.Option.{some, some-injective, some-ne-none}
 use mathlib.Core.List.{IsPrefix}
@@ -72,3 +72,20 @@ module _ {E : Type 0} where
   held_apart (i ∷ is) g held j e = dite (ℕ_discrete j i)
       (λ same. absurd (let b = eq-eqb j i same in cc (simp b at e)))
       (λ ne. subst (λ b. cond b (Some g) (held_at (holds_all is g held) j) ≡ held_at held j) (sym (ne_eqb j i ne)) (held_apart is g held j (simp (ne_eqb j i ne) at e)))
+
+module _ {A : Type 0} where
+  -- the two ways to read a list at a place
+  pub found_there : (xs : List A) (i : ℕ) → i < length xs → (x : A) × (slice_get xs i ≡ Some x) × (get_elem? xs i ≡ some x)
+  found_there [] i lt = absurd (omega arith)
+  found_there (x ∷ xs) zero lt = (x, refl, refl)
+  found_there (x ∷ xs) (suc i) lt = found_there xs i (omega arith)
+
+  pub get_some : (xs : List A) (i : ℕ) (x : A) → slice_get xs i ≡ Some x → get_elem? xs i ≡ some x
+  get_some [] i x e = absurd cc
+  get_some (y ∷ xs) zero x e = let a : y ≡ x = cc in ap (λ (z : A). some z) a
+  get_some (y ∷ xs) (suc i) x e = get_some xs i x e
+
+  pub some_get : (xs : List A) (i : ℕ) (x : A) → get_elem? xs i ≡ some x → slice_get xs i ≡ Some x
+  some_get [] i x e = absurd (some-ne-none x (sym e))
+  some_get (y ∷ xs) zero x e = ap (λ (z : A). Some z) (some-injective y x e)
+  some_get (y ∷ xs) (suc i) x e = some_get xs i x e

@@ -2,6 +2,7 @@
 #![tactic(auto)]
 
 mod board;
+mod close;
 mod holds;
 mod pass;
 mod plays;
@@ -11,6 +12,7 @@ mod steps;
 mod table;
 mod views;
 
+pub use close::{Ended, Tally};
 pub use pass::{Note, Pass};
 pub use sharded::Sharded;
 pub use table::CommitTable;
