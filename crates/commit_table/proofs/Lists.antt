@@ -1,5 +1,6 @@
 -- Beginnings of one history, the events of a party, what is held of a shard, and lists read by `get_elem?`.
-use Rattle.std.proofs.Common.{◌≡◌, ◌≢◌, ℕ, zero, suc, ◌+◌, ◌<◌, ◌≤◌, ◌⊎◌, inl, inr, ⊎_elim, Bool, true, false, cond, eqb, eq-eqb, ne_eqb, List, [], ◌∷◌, ◌++◌, length, set, Option, None, Some, refl, ap, sym, subst, ◌∙◌, arith, append_assoc, length-append, slice_get}
+use Rattle.std.proofs.Common.{◌≡◌, ◌≢◌, ℕ, zero, suc, ◌+◌, ◌<◌, ◌≤◌, ◌⊎◌, inl, inr, ⊎_elim, Bool, true, false, cond, eqb, eq-eqb, ne_eqb, List, [], ◌∷◌, ◌++◌, length, set, Option, None, Some, refl, ap, sym, subst, ◌∙◌, arith, append_assoc, length-append, map, slice_get}
+use Rattle.std.proofs.lemmas.List.{map-append}
 use mathlib.Core.Logic.{dite}
 use mathlib.Core.Option.{some, some-injective, some-ne-none}
 use mathlib.Core.List.{IsPrefix}
@@ -89,3 +90,14 @@ module _ {A : Type 0} where
   some_get [] i x e = absurd (some-ne-none x (sym e))
   some_get (y ∷ xs) zero x e = ap (λ (z : A). Some z) (some-injective y x e)
   some_get (y ∷ xs) (suc i) x e = some_get xs i x e
+
+module _ {A B : Type 0} (f : A → B) where
+  pub map_more : (xs : List A) (x : A) (l : List B) (b : B) → l ≡ map f xs → b ≡ f x → l ++ b ∷ [] ≡ map f (xs ++ x ∷ [])
+  map_more xs x l b is last = ap (λ z. z ++ b ∷ []) is ∙ (ap (λ z. map f xs ++ z ∷ []) last ∙ sym (map-append f xs (x ∷ [])))
+
+module _ {A : Type 0} where
+  pub left_first : (rest xs : List A) (x : A) → rest ≡ x ∷ xs → slice_get rest 0 ≡ Some x
+  left_first rest xs x e = subst (λ z. slice_get z 0 ≡ Some x) (sym e) refl
+
+  pub left_later : (rest xs : List A) (x y : A) (k : ℕ) → rest ≡ x ∷ xs → slice_get xs k ≡ Some y → slice_get rest (suc k) ≡ Some y
+  left_later rest xs x y k e there = subst (λ z. slice_get z (suc k) ≡ Some y) (sym e) there
