@@ -1,5 +1,5 @@
 -- Making and joining seats keeps the rule, and so do the first state and the last look.
-use Rattle.std.proofs.Common.{◌≡◌, ◌≢◌, ℕ, zero, suc, ◌+◌, add-one, ◌<◌, ◌≤◌, ◌⊎◌, inl, inr, ⊎_elim, Bool, true, false, cond, eqb, eq-eqb, ne_eqb, List, [], ◌∷◌, ◌++◌, map, replicate, length, get_or, set, All, Option, None, Some, refl, ap, sym, subst, ◌∙◌, arith}
+use Rattle.std.proofs.Common.{◌≡◌, ◌≢◌, ℕ, zero, suc, ◌+◌, add-one, ◌<◌, ◌≤◌, ◌⊎◌, inl, inr, ⊎_elim, Bool, true, false, cond, eqb, eq-eqb, ne_eqb, List, [], ◌∷◌, ◌++◌, map, replicate, slice_get, length, get_or, set, All, Option, None, Some, refl, ap, sym, subst, ◌∙◌, arith}
 use mathlib.Core.Logic.{dite}
 use mathlib.Core.Option.{Option as Maybe, some, none, some-injective, some-ne-none}
 use mathlib.Core.List.{IsPrefix}
@@ -9,6 +9,7 @@ use Rattle.std.proofs.Math.Dec.{ltb}
 use Rattle.std.proofs.Math.Decide.{dec_lt}
 use Rattle.std.proofs.lemmas.Bool.{lt-ltb, ltb-true, le-ltb}
 use Rattle.std.proofs.lemmas.List.Elements.{All-nil}
+use Rattle.std.proofs.lemmas.Option.{slice_get_within}
 use Rattle.std.proofs.Math.ListN.{length-set}
 use lib.ListN.{length-replicate}
 use Rattle.atomic_table.specs.Table.{State, Me, Act, keeps, Allows, Splits, Joins, Enters, Final, Seen, opening, step}
@@ -18,9 +19,9 @@ use Rattle.commit_table.specs.declared.views.View.{View}
 use Rattle.commit_table.specs.Machine.{Machine, Laws, is_among, is_party, events_by}
 use Rattle.commit_table.specs.Views.{held_at, new_pass, noted, at_rest, hearing, maker, gatherer, closer, tally_of, spent}
 use Rattle.commit_table.specs.Rule.{Free, Held, IsShard, Remembers, Answers, IsParty, Gathered, Fits, Rule}
-use Rattle.commit_table.specs.Calls.{AreShards}
+use Rattle.commit_table.specs.Calls.{AreShards, Closed, PassValue}
 use Rattle.commit_table.specs.Steps.{Of, Ends, opens, ends}
-use Rattle.commit_table.proofs.Lists.{prefix_self, prefix_none, prefix_length, at_here, at_below, one_there, at_end, found_there}
+use Rattle.commit_table.proofs.Lists.{prefix_self, prefix_none, prefix_length, at_here, at_below, one_there, at_end, found_there, get_some, some_get}
 use Rattle.commit_table.proofs.Moves.{with_view, shard_kept, party_kept, rebuild, still, updated, updated_here, updated_else}
 use Rattle.commit_table.proofs.Holding.{rest_fits, told}
 
@@ -386,3 +387,39 @@ module _ {S X E : Type 0} (of : S → Machine X E) (laws : (s : S) → Laws (of 
         subst (λ z. get_elem? z i ≡ some (Some a.0)) (sym values) (at_map (λ (x : X). Some x) xs i a.0 a.2),
         shards.stand i a.0 a.1,
       ))
+
+  -- the values of the slots, once the table is closed
+  pub final_values : (id : ℕ) (h : List E) (l : List (Known S E)) (v : V) (ws : List ℕ) (xs : List (Option X)) → v ≡ closer start h l → Final (Seen R id v) ws xs
+      → (i : ℕ) → i < M.shards → (x : X) × (get_elem? xs i ≡ some (Some x)) × M.Stands i x h
+  final_values id h l v ws xs is final i lt =
+      let s = final.0 in
+      let at = subst (λ (z : V). get_elem? s.views id ≡ some z) is final.1.1 in
+      let free = closed_shards s final.1.0 id h l at i lt in
+      (free.value, final.4 i (Some free.value) free.slot, free.stands)
+
+  pub final_shards : (id : ℕ) (h : List E) (l : List (Known S E)) (v : V) (ws : List ℕ) (xs : List (Option X)) (ys : List X) → v ≡ closer start h l → Final (Seen R id v) ws xs
+      → length ys ≡ M.shards → ((k : ℕ) (x : X) → slice_get ys k ≡ Some x → get_elem? xs k ≡ some (Some x)) → AreShards M ys h
+  final_shards id h l v ws xs ys is final count same = record {
+    count = count;
+    stand = λ i x there.
+        let lt : i < length ys = slice_get_within ys i x there in
+        let a = final_values id h l v ws xs is final i (omega arith) in
+        let b : ◌≡◌ {A = Option X} (Some a.0) (Some x) = one_there xs i (Some a.0) (Some x) a.1 (same i x there) in
+        let e : a.0 ≡ x = cc in subst (λ z. M.Stands i z h) e a.2
+  }
+
+  -- a list that has every party's pass remembers every party
+  pub all_remembered : (passes : List (PassValue S E)) (l : List (Known S E)) → l ≡ map (λ p. p.known) passes
+      → ((party : ℕ) → party < n → (k : ℕ) × (p : PassValue S E) × (slice_get passes k ≡ Some p) × (p.known.party ≡ Some party))
+      → (party : ℕ) → party < n → Remembers M start n l party
+  all_remembered passes l is all party lt = let a = all party lt in
+      (a.0, a.1.known, subst (λ z. get_elem? z a.0 ≡ some a.1.known) (sym is) (at_map (λ (p : PassValue S E). p.known) passes a.0 a.1 (get_some passes a.0 a.1 a.2)), a.3)
+
+  -- what the last look told, of the list as it is read by `get`
+  pub closed_there : (l k : List (Known S E)) (h : List E) → l ≡ k → Ends of M l h → Closed M h k
+  closed_there l k h is e = subst (λ z. Closed M h z) is (record {
+    legal = e.legal;
+    seen = λ i v there. e.seen i v (get_some l i v there);
+    own = λ i v there. e.own i v (get_some l i v there);
+    others = λ p apart. e.others p (λ i v there. apart i v (some_get l i v there))
+  })

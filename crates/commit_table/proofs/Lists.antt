@@ -1,6 +1,6 @@
 -- Beginnings of one history, the events of a party, what is held of a shard, and lists read by `get_elem?`.
-use Rattle.std.proofs.Common.{◌≡◌, ◌≢◌, ℕ, zero, suc, ◌+◌, ◌<◌, ◌≤◌, ◌⊎◌, inl, inr, ⊎_elim, Bool, true, false, cond, eqb, eq-eqb, ne_eqb, List, [], ◌∷◌, ◌++◌, length, set, Option, None, Some, refl, ap, sym, subst, ◌∙◌, arith, append_assoc, length-append, map, slice_get}
-use Rattle.std.proofs.lemmas.List.{map-append}
+use Rattle.std.proofs.Common.{◌≡◌, ◌≢◌, ℕ, zero, suc, ◌+◌, ◌<◌, ◌≤◌, ◌⊎◌, inl, inr, ⊎_elim, Bool, true, false, cond, eqb, eq-eqb, ne_eqb, List, [], ◌∷◌, ◌++◌, length, set, Option, None, Some, refl, ap, sym, subst, ◌∙◌, arith, append_assoc, length-append, map, get_or, slice_get}
+use Rattle.std.proofs.lemmas.List.{map-append, get_or-set_other}
 use mathlib.Core.Logic.{dite}
 use mathlib.Core.Option.{some, some-injective, some-ne-none}
 use mathlib.Core.List.{IsPrefix}
@@ -101,3 +101,18 @@ module _ {A : Type 0} where
 
   pub left_later : (rest xs : List A) (x y : A) (k : ℕ) → rest ≡ x ∷ xs → slice_get xs k ≡ Some y → slice_get rest (suc k) ≡ Some y
   left_later rest xs x y k e there = subst (λ z. slice_get z (suc k) ≡ Some y) (sym e) there
+
+  pub set_default : (xs : List A) (i : ℕ) (a : A) → get_or (set xs i a) i a ≡ a
+  set_default [] i a = refl
+  set_default (x ∷ xs) zero a = refl
+  set_default (x ∷ xs) (suc i) a = set_default xs i a
+
+  -- one more element, found where it belongs
+  pub same_more : {B : Type 0} (f : A → B) (xs : List A) (x : A) (l : List B) (n : ℕ) → length xs ≡ n → ((k : ℕ) (y : A) → slice_get xs k ≡ Some y → get_elem? l k ≡ some (f y)) → get_elem? l n ≡ some (f x)
+      → (k : ℕ) (y : A) → slice_get (xs ++ x ∷ []) k ≡ Some y → get_elem? l k ≡ some (f y)
+  same_more f xs x l n len old new k y e = ⊎_elim (λ t. old k y (some_get xs k y t)) (λ t. subst (λ z. get_elem? l z ≡ some (f y)) (sym (t.0 ∙ len)) (subst (λ z. get_elem? l n ≡ some (f z)) t.1 new)) (at_end xs x y k (get_some (xs ++ x ∷ []) k y e))
+
+pub emptied_more : (xs : List Bool) (i : ℕ) → ((k : ℕ) → k < i → get_or xs k false ≡ false) → (k : ℕ) → k < i + 1 → get_or (set xs i false) k false ≡ false
+emptied_more xs i before k below = dite (ℕ_discrete k i)
+    (λ same. subst (λ z. get_or (set xs i false) z false ≡ false) (sym same) (set_default xs i false))
+    (λ ne. get_or-set_other xs i k false false ne ∙ before k (omega arith))
