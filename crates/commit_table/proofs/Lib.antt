@@ -6,4 +6,3 @@ pub mod Joining
 pub mod Slots
 pub mod Counting
 pub mod Looking
-pub mod PartLaws

@@ -4,3 +4,6 @@ pub mod Rule
 pub mod Steps
 pub mod Calls
 pub mod Parts
+pub mod PartLaws
+pub mod Counters
+pub mod CounterLaws

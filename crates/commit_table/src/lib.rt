@@ -3,6 +3,7 @@
 
 mod board;
 mod close;
+mod counters;
 mod holds;
 mod pass;
 mod plays;
@@ -12,6 +13,7 @@ mod steps;
 mod table;
 mod views;
 
+pub use counters::{Counters, Deal};
 pub use close::{Ended, Tally};
 pub use pass::{Note, Pass};
 pub use sharded::Sharded;

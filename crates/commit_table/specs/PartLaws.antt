@@ -140,3 +140,63 @@ module _ {P X E : Type 0} (a : Parts P X E) where
     owned = λ h e legal. among_first (a.owner e) (peers_of a (part_of a (a.owner e) h) e);
     same_shards = λ h k e legal there agree. ap (λ o. a.owner e ∷ peers_of a o e) agree
   }
+
+  -- histories are bounded where each event adds weight, and what the parts can weigh is bounded
+  pub weighed : (Ok : List P → Type 0) (weight : List P → ℕ) → ((place : ℕ) (ps : List P) (e : E) (qs : List P) → Ok ps → stepped a place ps e ≡ Some qs → Ok qs × (weight ps < weight qs))
+      → (place : ℕ) (ps : List P) (h : List E) (after : List P) → Ok ps → run a place ps h ≡ Some after → Ok after × (weight ps + length h ≤ weight after)
+  weighed Ok weight grows place ps [] after ok e = let is : ps ≡ after = cc in (subst Ok is ok, subst (λ z. weight ps + 0 ≤ weight z) is (omega arith))
+  weighed Ok weight grows place ps (x ∷ h) after ok e =
+      let s = chained (λ qs. run a (suc place) qs h) (stepped a place ps x) after e in
+      let g = grows place ps x s.0 ok s.1 in
+      let r = weighed Ok weight grows (suc place) s.0 h after g.0 s.2 in
+      let lt = g.1 in let le = r.1 in (r.0, omega arith)
+
+  get_set_here : (ps : List P) (i : ℕ) (p q : P) → slice_get ps i ≡ Some p → slice_get (set ps i q) i ≡ Some q
+  get_set_here [] i p q e = absurd cc
+  get_set_here (x ∷ xs) zero p q e = refl
+  get_set_here (x ∷ xs) (suc i) p q e = get_set_here xs i p q e
+
+  -- after an event, its owner's part and that of its one peer are the new ones
+  pub new_own : (h : List E) (e : E) (own : P) (others : List P) (new : P × List P) → M.Legal (h ++ e ∷ []) → part_of a (a.owner e) h ≡ Some own
+      → ((ps : List P) → parts_of a h ≡ Some ps → parts_at ps (a.peers own e) ≡ Some others) → a.act e own others ≡ Some new → is_among (a.peers own e) (a.owner e) ≡ false
+      → part_of a (a.owner e) (h ++ e ∷ []) ≡ Some (a.noted (zero + length h) e new.0)
+  new_own h e own others new legal here there acts apart =
+      let d = last_did h e legal.0 legal.1 in
+      let r = d.2 in
+      let same : r.own ≡ own = (let x = r.own_there in let y = part_there h d.0 (a.owner e) d.1 in cc) in
+      let peers : a.peers r.own e ≡ a.peers own e = ap (λ z. a.peers z e) same in
+      let all : r.others ≡ others = (let x = r.others_there in let y = there d.0 d.1 in let z = ap (λ z. parts_at d.0 z) peers in cc) in
+      let is : r.new ≡ new = (let x = r.acts in let y : a.act e r.own r.others ≡ a.act e own others = ap (λ z. a.act e z r.others) same ∙ ap (λ z. a.act e own z) all in cc) in
+      let off : is_among (a.peers r.own e) (a.owner e) ≡ false = ap (λ z. is_among z (a.owner e)) peers ∙ apart in
+      part_there (h ++ e ∷ []) legal.0 (a.owner e) legal.1
+      ∙ (ap (λ z. slice_get z (a.owner e)) r.is
+      ∙ (with_apart (set d.0 (a.owner e) (a.noted (zero + length h) e r.new.0)) (a.peers r.own e) r.new.1 (a.owner e) off
+      ∙ (get_set_here d.0 (a.owner e) r.own (a.noted (zero + length h) e r.new.0) r.own_there ∙ ap (λ (z : P × List P). Some (a.noted (zero + length h) e z.0)) is)))
+
+  pub new_peer : (h : List E) (e : E) (own : P) (j : ℕ) (other other' : P) (own' : P) → M.Legal (h ++ e ∷ []) → part_of a (a.owner e) h ≡ Some own → a.peers own e ≡ j ∷ [] → part_of a j h ≡ Some other
+      → a.act e own (other ∷ []) ≡ Some (own', other' ∷ []) → j ≢ a.owner e → part_of a j (h ++ e ∷ []) ≡ Some other'
+  new_peer h e own j other other' own' legal here peers there acts ne =
+      let d = last_did h e legal.0 legal.1 in
+      let r = d.2 in
+      let same : r.own ≡ own = (let x = r.own_there in let y = part_there h d.0 (a.owner e) d.1 in cc) in
+      let is_j : a.peers r.own e ≡ j ∷ [] = ap (λ z. a.peers z e) same ∙ peers in
+      let at_j : slice_get d.0 j ≡ Some other = sym (part_there h d.0 j d.1) ∙ there in
+      let found : parts_at d.0 (j ∷ []) ≡ Some (other ∷ []) = ap (λ o. option_and_then (λ p. option_and_then (λ qs. Some (p ∷ qs)) (parts_at d.0 [])) o) at_j in
+      let all : r.others ≡ other ∷ [] = (let x = r.others_there in let z = ap (λ z. parts_at d.0 z) is_j in cc) in
+      let new : ◌≡◌ {A = P × List P} r.new (own', other' ∷ []) = (let x = r.acts in let y : a.act e r.own r.others ≡ a.act e own (other ∷ []) = ap (λ z. a.act e z r.others) same ∙ ap (λ z. a.act e own z) all in cc) in
+      let ps' : List P = set d.0 (a.owner e) (a.noted (zero + length h) e r.new.0) in
+      let kept : slice_get ps' j ≡ Some other = get_set_else d.0 (a.owner e) j (a.noted (zero + length h) e r.new.0) ne ∙ at_j in
+      part_there (h ++ e ∷ []) legal.0 j legal.1
+      ∙ (ap (λ z. slice_get z j) r.is
+      ∙ (ap (λ z. slice_get (with_parts ps' z r.new.1) j) is_j ∙ (ap (λ (z : P × List P). slice_get (with_parts ps' (j ∷ []) z.1) j) new ∙ get_set_here ps' j other other' kept)))
+
+  -- an event may follow where its parts let it
+  pub may_follow : (h : List E) (e : E) (own : P) (others : List P) (new : P × List P) → M.Legal h → part_of a (a.owner e) h ≡ Some own
+      → ((ps : List P) → parts_of a h ≡ Some ps → parts_at ps (a.peers own e) ≡ Some others) → a.act e own others ≡ Some new → M.Legal (h ++ e ∷ [])
+  may_follow h e own others new legal here there acts =
+      let at_own = sym (part_there h legal.0 (a.owner e) legal.1) ∙ here in
+      let s = may (zero + length h) legal.0 e own others new at_own (there legal.0 legal.1) acts in
+      (s.0, run_last zero a.first h e ∙ (chain_at (λ qs. stepped a (zero + length h) qs e) (parts_of a h) legal.0 legal.1 ∙ s.1))
+
+  pub one_peer : (h : List E) (j : ℕ) (other : P) (ps : List P) → part_of a j h ≡ Some other → parts_of a h ≡ Some ps → parts_at ps (j ∷ []) ≡ Some (other ∷ [])
+  one_peer h j other ps there at = ap (λ o. option_and_then (λ p. option_and_then (λ qs. Some (p ∷ qs)) (parts_at ps [])) o) (sym (part_there h ps j at) ∙ there)
