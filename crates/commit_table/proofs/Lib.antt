@@ -6,3 +6,4 @@ pub mod Joining
 pub mod Slots
 pub mod Counting
 pub mod Looking
+pub mod Raising

@@ -7,3 +7,5 @@ pub mod Parts
 pub mod PartLaws
 pub mod Counters
 pub mod CounterLaws
+pub mod Attempts
+pub mod Outcomes

@@ -1,9 +1,22 @@
 //! Two counters that threads raise: the smallest machine for a table, for tests and as an example.
-ghost use Rattle.std.specs.Prelude.{◌≡◌};
+ghost use Rattle.std.specs.Prelude.{◌≡◌, ◌≢◌, ℕ, ◌<◌, List, Some, None, MatchOption};
+ghost use Rattle.commit_table.specs.declared.counters.Deal.{Deal};
+ghost use Rattle.commit_table.specs.declared.counters.Deal.TheVariants.{Raise, Carry};
+ghost use Rattle.commit_table.specs.Views.{held_at};
+ghost use Rattle.commit_table.specs.Counters.{most, counters};
+ghost use Rattle.commit_table.specs.Calls.{IsOf, HoldsNone};
+ghost use Rattle.commit_table.specs.Attempts.{Recorded};
+ghost use Rattle.commit_table.specs.Outcomes.{Told};
 
+use crate::pass::Pass;
 use crate::sharded::Sharded;
+use crate::table::CommitTable;
+
+/// No counter goes beyond it.
+const MOST: u64 = 1_000_000;
 
 /// An event of the counters.
+#[derive(Drop)]
 pub enum Deal {
     /// A party raises a counter by 1.
     Raise(u32, u32),
@@ -25,4 +38,58 @@ impl Sharded for Counters {
     ghost machine = { λ start. counters };
 
     ghost lawful = { λ start. counters_lawful };
+}
+
+/// Raises a counter that the pass holds, and gives it back. The place of the event is answered.
+pub fn raise_held(
+    table: &CommitTable<Counters>,
+    pass: &mut Pass<Counters>,
+    counter: u32,
+    value: u64,
+) -> u64
+    requires pass { IsOf table.now pass.old }
+    requires counter { counter < 2 }
+    requires held { (g : List Deal) × (held_at pass.old.known.held counter ≡ Some g) × counters.Stands counter value g }
+    requires room { value < most }
+    ensures table { pass.new.table ≡ pass.old.table }
+    ensures told { (p : ℕ) × (pass.old.known.party ≡ Some p) × Recorded counters pass.old.known (Raise p counter) result pass.new.known }
+    ensures given { held_at pass.new.known.held counter ≡ None }
+    ensures others { (i : ℕ) → i ≢ counter → held_at pass.new.known.held i ≡ held_at pass.old.known.held i }
+{
+    table.look(pass);
+    let deal = Deal::Raise(CommitTable::number(pass), counter);
+    let place = table.commit(pass, &deal);
+    table.give_back(pass, counter, value + 1);
+    place
+}
+
+/// What an attempt came to.
+#[derive(Drop)]
+pub enum Outcome {
+    /// The event stands at this place.
+    Done(u64),
+    /// Another pass held a counter. Nothing was done.
+    Busy,
+    /// No such event may follow. Nothing was done but a look.
+    Stuck,
+}
+
+/// Raises a counter.
+pub fn raise(table: &CommitTable<Counters>, pass: &mut Pass<Counters>, counter: u32) -> Outcome
+    requires pass { IsOf table.now pass.old }
+    requires counter { counter < 2 }
+    requires free { HoldsNone pass.old.known }
+    ensures table { pass.new.table ≡ pass.old.table }
+    ensures free { HoldsNone pass.new.known }
+    ensures told { Told 2 (λ e. (p : ℕ) × (e ≡ Raise p counter) × (pass.old.known.party ≡ Some p)) pass.old.known result pass.new.known }
+{
+    let Some(value) = table.try_take(pass, counter) else {
+        return Outcome::Busy;
+    };
+    if value < MOST {
+        return Outcome::Done(raise_held(table, pass, counter, value));
+    }
+    table.look(pass);
+    table.give_back(pass, counter, value);
+    Outcome::Stuck
 }
