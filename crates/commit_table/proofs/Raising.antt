@@ -90,3 +90,70 @@ other_held v u w z number place c p i h k x l here t is ne =
 
 pub given : (w z : K) (c : ℕ) → z ≡ gave_back w c → held_at z.held c ≡ None
 given w z c is = ap (λ y. held_at y.held c) is ∙ held_here w.held c None
+
+-- the same for what is carried from the first counter to the second
+carry_acts : (a b : ℕ) → 0 < a → b < most → counter_parts.act Carry a (b ∷ []) ≡ Some (a - 1, (b + 1) ∷ [])
+carry_acts a b la lb = subst (λ x. cond {A = Option (ℕ × List ℕ)} (x && ltb b most) (Some (a - 1, (b + 1) ∷ [])) None ≡ Some (a - 1, (b + 1) ∷ [])) (sym (lt-ltb 0 a la))
+    (subst (λ x. cond {A = Option (ℕ × List ℕ)} x (Some (a - 1, (b + 1) ∷ [])) None ≡ Some (a - 1, (b + 1) ∷ [])) (sym (lt-ltb b most lb)) refl)
+
+two_shards : (a : ℕ) (h : List Deal) → part_of counter_parts 0 h ≡ Some a → counters.shards_of h Carry ≡ 0 ∷ 1 ∷ []
+two_shards a h e = ap (λ o. 0 ∷ peers_of counter_parts o Carry) e
+
+one_of_two : (i : ℕ) (P : ℕ → Type 0) → P 0 → P 1 → is_among (0 ∷ 1 ∷ []) i ≡ true → P i
+one_of_two zero P z o e = z
+one_of_two (suc zero) P z o e = o
+one_of_two (suc (suc i)) P z o e = absurd (let a = ne_eqb (suc (suc i)) 0 (λ q. absurd (omega arith)) in let b = ne_eqb (suc (suc i)) 1 (λ q. absurd (omega arith)) in cc (simp (a, b) at e))
+
+-- both counters are held
+pub record Both (v : K) (a b : ℕ) : Type 0 where
+  pub first : List Deal
+  pub first_held : held_at v.held 0 ≡ Some first
+  pub first_stands : counters.Stands 0 a first
+  pub second : List Deal
+  pub second_held : held_at v.held 1 ≡ Some second
+  pub second_stands : counters.Stands 1 b second
+  pub room : (0 < a) × (b < most)
+
+pub may_carry : (v u : K) (number a b : ℕ) (h : List Deal) → Looked counters v number h u → Both v a b → MayCommit counters u Carry
+may_carry v u number a b h l t =
+    let here = seen_value v u number 0 a h t.first l t.first_held t.first_stands in
+    let there = seen_value v u number 1 b h t.second l t.second_held t.second_stands in
+    let seen = ap (λ y. y.seen) l.is in
+    record {
+      party = λ q e. absurd cc;
+      legal = may_follow counter_parts u.seen Carry a (b ∷ []) (a - 1, (b + 1) ∷ []) (subst (λ y. counters.Legal y) (sym seen) l.legal) here (λ ps e. one_peer counter_parts u.seen 1 b ps there e) (carry_acts a b t.room.0 t.room.1);
+      held = λ i among. one_of_two i (λ z. (g : List Deal) × (held_at u.held z ≡ Some g) × counters.Agree z u.seen g)
+          (t.first, ap (λ y. held_at y.held 0) l.is ∙ t.first_held, here ∙ sym (part_value 0 a t.first t.first_stands))
+          (t.second, ap (λ y. held_at y.held 1) l.is ∙ t.second_held, there ∙ sym (part_value 1 b t.second t.second_stands))
+          (subst (λ z. is_among z i ≡ true) (two_shards a u.seen here) among)
+    }
+
+pub carried_first : (v u w : K) (number place a b : ℕ) (h k : List Deal) → Looked counters v number h u → Both v a b → Committed counters u Carry place k w → (g : List Deal) × (held_at w.held 0 ≡ Some g) × counters.Stands 0 (a - 1) g
+carried_first v u w number place a b h k l t c =
+    let here = seen_value v u number 0 a h t.first l t.first_held t.first_stands in
+    let there = seen_value v u number 1 b h t.second l t.second_held t.second_stands in
+    let shards = two_shards a u.seen here in
+    let among : (i : ℕ) → is_among (0 ∷ 1 ∷ []) i ≡ true → is_among (counters.shards_of u.seen Carry) i ≡ true = λ i e. subst (λ z. is_among z i ≡ true) (sym shards) e in
+    let own : part_of counter_parts 0 k ≡ Some a = sym (c.agrees 0 (among 0 refl)) ∙ here in
+    let peer : part_of counter_parts 1 k ≡ Some b = sym (c.agrees 1 (among 1 refl)) ∙ there in (
+      k ++ Carry ∷ [],
+      ap (λ z. held_at z.held 0) c.is ∙ held_among (counters.shards_of u.seen Carry) (k ++ Carry ∷ []) u.held 0 (among 0 refl),
+      (a - 1, new_own counter_parts k Carry a (b ∷ []) (a - 1, (b + 1) ∷ []) c.legal own (λ ps e. one_peer counter_parts k 1 b ps peer e) (carry_acts a b t.room.0 t.room.1) refl, refl),
+    )
+
+pub carried_second : (v u w : K) (number place a b : ℕ) (h k : List Deal) → Looked counters v number h u → Both v a b → Committed counters u Carry place k w → (g : List Deal) × (held_at w.held 1 ≡ Some g) × counters.Stands 1 (b + 1) g
+carried_second v u w number place a b h k l t c =
+    let here = seen_value v u number 0 a h t.first l t.first_held t.first_stands in
+    let there = seen_value v u number 1 b h t.second l t.second_held t.second_stands in
+    let shards = two_shards a u.seen here in
+    let among : (i : ℕ) → is_among (0 ∷ 1 ∷ []) i ≡ true → is_among (counters.shards_of u.seen Carry) i ≡ true = λ i e. subst (λ z. is_among z i ≡ true) (sym shards) e in
+    let own : part_of counter_parts 0 k ≡ Some a = sym (c.agrees 0 (among 0 refl)) ∙ here in
+    let peer : part_of counter_parts 1 k ≡ Some b = sym (c.agrees 1 (among 1 refl)) ∙ there in (
+      k ++ Carry ∷ [],
+      ap (λ z. held_at z.held 1) c.is ∙ held_among (counters.shards_of u.seen Carry) (k ++ Carry ∷ []) u.held 1 (among 1 refl),
+      (b + 1, new_peer counter_parts k Carry a 1 b (b + 1) (a - 1) c.legal own refl peer (carry_acts a b t.room.0 t.room.1) (λ e. absurd (omega arith)), refl),
+    )
+
+pub first_later : (v u w z : K) (number place a b : ℕ) (h k : List Deal) → Looked counters v number h u → Both v a b → Committed counters u Carry place k w → z ≡ gave_back w 1 → (g : List Deal) × (held_at z.held 0 ≡ Some g) × counters.Stands 0 (a - 1) g
+first_later v u w z number place a b h k l t c is =
+    let f = carried_first v u w number place a b h k l t c in (f.0, ap (λ y. held_at y.held 0) is ∙ (held_else w.held 1 0 None (λ e. absurd (omega arith)) ∙ f.1), f.2)

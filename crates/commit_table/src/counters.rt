@@ -93,3 +93,50 @@ pub fn raise(table: &CommitTable<Counters>, pass: &mut Pass<Counters>, counter: 
     table.give_back(pass, counter, value);
     Outcome::Stuck
 }
+
+/// Carries 1 from the first counter to the second, which the pass holds both, and gives them back.
+fn carry_held(
+    table: &CommitTable<Counters>,
+    pass: &mut Pass<Counters>,
+    first: u64,
+    second: u64,
+) -> u64
+    requires pass { IsOf table.now pass.old }
+    requires first { (g : List Deal) × (held_at pass.old.known.held 0 ≡ Some g) × counters.Stands 0 first g }
+    requires second { (g : List Deal) × (held_at pass.old.known.held 1 ≡ Some g) × counters.Stands 1 second g }
+    requires room { (0 < first) × (second < most) }
+    requires others { (i : ℕ) → 1 < i → held_at pass.old.known.held i ≡ None }
+    ensures table { pass.new.table ≡ pass.old.table }
+    ensures free { HoldsNone pass.new.known }
+    ensures told { Recorded counters pass.old.known Carry result pass.new.known }
+{
+    table.look(pass);
+    let place = table.commit(pass, &Deal::Carry);
+    table.give_back(pass, 1, second + 1);
+    table.give_back(pass, 0, first - 1);
+    place
+}
+
+/// Carries 1 from the first counter to the second. Where the second is missed, the first is given back.
+pub fn carry(table: &CommitTable<Counters>, pass: &mut Pass<Counters>) -> Outcome
+    requires pass { IsOf table.now pass.old }
+    requires free { HoldsNone pass.old.known }
+    ensures table { pass.new.table ≡ pass.old.table }
+    ensures free { HoldsNone pass.new.known }
+    ensures told { Told 2 (λ e. e ≡ Carry) pass.old.known result pass.new.known }
+{
+    let Some(first) = table.try_take(pass, 0) else {
+        return Outcome::Busy;
+    };
+    let Some(second) = table.try_take(pass, 1) else {
+        table.give_back(pass, 0, first);
+        return Outcome::Busy;
+    };
+    if first > 0 && second < MOST {
+        return Outcome::Done(carry_held(table, pass, first, second));
+    }
+    table.look(pass);
+    table.give_back(pass, 1, second);
+    table.give_back(pass, 0, first);
+    Outcome::Stuck
+}
