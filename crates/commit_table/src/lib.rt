@@ -13,9 +13,12 @@ mod steps;
 mod table;
 mod views;
 
-pub use counters::{Counters, Deal};
+pub use counters::{Counters, Deal, Outcome, carry, raise, raise_held};
 pub use close::{Ended, Tally};
 pub use pass::{Note, Pass};
 pub use sharded::Sharded;
 pub use table::CommitTable;
 pub use views::{Known, View};
+
+#[cfg(test)]
+mod tests;
