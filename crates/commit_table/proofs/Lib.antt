@@ -7,3 +7,4 @@ pub mod Slots
 pub mod Counting
 pub mod Looking
 pub mod Raising
+pub mod Twos
