@@ -1,25 +1,24 @@
 -- The steps on the journal word keep the rule: the history is seen, and an event is added behind it.
-use Rattle.std.proofs.Common.{◌≡◌, ◌≢◌, ℕ, zero, suc, ◌+◌, ◌%◌, ◌^◌, ◌<◌, ◌≤◌, ◌⊎◌, inl, inr, ⊎_elim, Bool, true, false, cond, eqb, eq-eqb, ne_eqb, List, [], ◌∷◌, ◌++◌, length, get_or, set, All, Option, None, Some, refl, ap, sym, subst, ◌∙◌, arith, append-nil, length-append}
+use Rattle.std.proofs.Common.{◌≡◌, ◌≢◌, ℕ, zero, suc, ◌+◌, ◌%◌, ◌^◌, ◌<◌, ◌≤◌, ◌⊎◌, inl, inr, ⊎_elim, Bool, true, false, cond, eq-eqb, ne_eqb, List, [], ◌∷◌, ◌++◌, length, get_or, set, All, Option, None, Some, refl, ap, sym, subst, ◌∙◌, arith, append-nil, length-append}
 use mathlib.Core.Logic.{dite}
-use mathlib.Core.Option.{Option as Maybe, some, none}
-use mathlib.Core.List.{IsPrefix}
+use mathlib.Core.Option.{some, none}
 use native.Mathlib.Decide.{ℕ_discrete}
 use lib.ListN.{get_elem?}
 use Rattle.std.proofs.lemmas.List.{get_or-set_same, get_or-set_other}
 use Rattle.std.proofs.Math.Nat.{mod-eq_of_lt}
 use Rattle.std.proofs.lemmas.List.Elements.{All-append}
 use Rattle.std.proofs.Math.ListN.{length-set}
-use Rattle.atomic_table.specs.Table.{State, Me, Act, keeps, Allows, step}
+use Rattle.atomic_table.specs.Table.{State, Me, keeps, Allows, step}
 use Rattle.atomic_table.proofs.Lists.{at_set, set_else}
 use Rattle.commit_table.specs.declared.views.Known.{Known}
 use Rattle.commit_table.specs.declared.views.View.{View}
 use Rattle.commit_table.specs.Machine.{Machine, Laws, is_among, is_party, events_by}
-use Rattle.commit_table.specs.Views.{held_at, holds_all, mine_after, looked, committed, at_rest, hearing}
-use Rattle.commit_table.specs.Rule.{Free, Held, IsShard, Remembers, Answers, IsParty, Gathered, Fits, Rule}
-use Rattle.commit_table.specs.Steps.{Of, Sees, Adds, Commits, looks, adds}
-use Rattle.commit_table.proofs.Lists.{prefix_self, prefix_none, prefix_trans, prefix_more, prefix_length, at_here, one_there, events_by-append, held_among, held_apart}
+use Rattle.commit_table.specs.Views.{held_at, mine_after, looked, committed, at_rest, hearing}
+use Rattle.commit_table.specs.Rule.{Held, IsShard, Answers, IsParty, Fits, Rule}
+use Rattle.commit_table.specs.Steps.{Sees, Adds, looks, adds}
+use Rattle.commit_table.proofs.Lists.{prefix_self, prefix_none, prefix_more, prefix_length, at_here, one_there, events_by-append, held_among, held_apart}
 use Rattle.commit_table.proofs.Moves.{with_view, still}
-use Rattle.commit_table.proofs.Holding.{m, K, St, R, Mine, rest_fits, told, own_shard}
+use Rattle.commit_table.proofs.Holding.{rest_fits, told, own_shard}
 
 either_way : (b : Bool) → (b ≡ true) ⊎ (b ≡ false)
 either_way true = inl refl
@@ -58,14 +57,18 @@ module _ {S X E : Type 0} (of : S → Machine X E) (laws : (s : S) → Laws (of 
         keeps,
         tt,
         still (of start) start n s r id (hearing v heard) w at 0 refl refl (λ q a. a) fits,
-        (h, refl, told of laws start n s r id (hearing v heard) at (λ z. Sees of z v heard (get_or s.words 0 0) h) (record {
-          number = r.word;
-          legal = r.legal;
-          seen = f.seen;
-          told = f.heard;
-          own = λ p e. (f.party p e).2;
-          held = λ i g e. let own = own_shard of laws start n s r id (hearing v heard) at i g e in (own.2, own.3)
-        })),
+        (
+          h,
+          refl,
+          told of laws start n s r id (hearing v heard) at (λ z. Sees of z v heard (get_or s.words 0 0) h) (record {
+            number = r.word;
+            legal = r.legal;
+            seen = f.seen;
+            told = f.heard;
+            own = λ p e. (f.party p e).2;
+            held = λ i g e. let own = own_shard of laws start n s r id (hearing v heard) at i g e in (own.2, own.3);
+          }),
+        ),
       )
 
   pub look_allowed : (slots id : ℕ) (me : Me (Option X) (View S E)) → me ≡ (hearing me.0.known me.0.heard, [])
@@ -89,7 +92,7 @@ module _ {S X E : Type 0} (of : S → Machine X E) (laws : (s : S) → Laws (of 
         held = held ∙ subst (λ (z : View S E). held_at z.known.held j ≡ Some r.upto) (sym is) r.held;
         begins = prefix_more r.upto h (e ∷ []) r.begins;
         agrees = (laws start).agree_through j r.upto h (h ++ e ∷ []) r.agrees agree;
-        slot = ⊎_elim (λ a. inl (out ∙ subst (λ (z : View S E). z.out ≡ Some j) (sym is) a)) (λ b. inr b) r.slot
+        slot = ⊎_elim (λ a. inl (out ∙ subst (λ (z : View S E). z.out ≡ Some j) (sym is) a)) (λ b. inr b) r.slot;
       })
       (λ ne. record {
         word = word ∙ r.word;
@@ -99,7 +102,7 @@ module _ {S X E : Type 0} (of : S → Machine X E) (laws : (s : S) → Laws (of 
         held = r.held;
         begins = prefix_more r.upto h (e ∷ []) r.begins;
         agrees = (laws start).agree_through j r.upto h (h ++ e ∷ []) r.agrees agree;
-        slot = r.slot
+        slot = r.slot;
       })
 
   party_added : (s : State (Option X) (View S E)) (h : List E) (e : E) (ws : List ℕ) (id : ℕ) (v w : View S E) (p : ℕ) (seat : ℕ → Option ℕ)
@@ -119,7 +122,7 @@ module _ {S X E : Type 0} (of : S → Machine X E) (laws : (s : S) → Laws (of 
       → Fits (of start) start n h holder seat k u → Fits (of start) start n (h ++ e ∷ []) holder seat k u
   fits_added h e holder seat id k p u ne lt is by f =
       let apart : (q : ℕ) → seat q ≡ Some k → events_by (of start).party q (h ++ e ∷ []) ≡ events_by (of start).party q h =
-            λ q its. by_other (of start).party q h e (λ x own same. let a : x ≡ p = by x own in let b : seat p ≡ Some k = ap seat (sym a ∙ same) ∙ its in ne cc) in
+      λ q its. by_other (of start).party q h e (λ x own same. let a : x ≡ p = by x own in let b : seat p ≡ Some k = ap seat (sym a ∙ same) ∙ its in ne cc) in
       record {
         begun = f.begun;
         seen = prefix_more u.known.seen h (e ∷ []) f.seen;
@@ -131,7 +134,7 @@ module _ {S X E : Type 0} (of : S → Machine X E) (laws : (s : S) → Laws (of 
         none = f.none;
         gathers = f.gathers;
         gathered = λ on j w there. let a = f.gathered on j w there in record { seen = prefix_more w.seen h (e ∷ []) a.seen; party = λ q own. let b = a.party q own in (b.0, b.1, apart q b.1 ∙ b.2) };
-        closed = λ on. let a = f.closed on in let there = a.2 p lt in let b = (f.gathered a.0 there.0 there.1 there.2).party p there.3 in absurd (ne (let c = b.1 in cc))
+        closed = λ on. let a = f.closed on in let there = a.2 p lt in let b = (f.gathered a.0 there.0 there.1 there.2).party p there.3 in absurd (ne (let c = b.1 in cc));
       }
 
   -- a history that agrees with what was seen on the shards of an event that may follow that
@@ -173,12 +176,12 @@ module _ {S X E : Type 0} (of : S → Machine X E) (laws : (s : S) → Laws (of 
       let mine_of : (q : ℕ) → p ≡ q → (q < n) × (r.seat q ≡ Some id) × (events_by m.party q h' ≡ w'.mine) = λ q e. subst (λ z. (z < n) × (r.seat z ≡ Some id) × (events_by m.party z h' ≡ w'.mine)) e (own.0, own.1, mine) in
       let seen : All (λ k. k ≤ length h') v.looks = λ k d lt. let a = f.looks k d lt in let b = prefix_length v.seen h f.seen in omega arith in
       let fits = rest_fits of laws start n h' r.holder r.seat id w' None [] f.begun (prefix_self h') (prefix_none h') seen
-            (λ q its. mine_of q (let a : p ≡ q = cc in a))
-            (λ j g its. ⊎_elim
-              (λ on. let a = holds j on in f.held j a.0 a.1)
-              (λ off. f.held j g (sym (held_apart is h' v.held j off) ∙ its))
-              (either_way (is_among is j)))
-            (λ none. absurd cc) in
+      (λ q its. mine_of q (let a : p ≡ q = cc in a))
+      (λ j g its. ⊎_elim
+      (λ on. let a = holds j on in f.held j a.0 a.1)
+      (λ off. f.held j g (sym (held_apart is h' v.held j off) ∙ its))
+      (either_way (is_among is j)))
+      (λ none. absurd cc) in
       let rule : Rule m start n (with_view m start n s ws s.homes id w) = record {
         history = h';
         holder = r.holder;
@@ -198,17 +201,17 @@ module _ {S X E : Type 0} (of : S → Machine X E) (laws : (s : S) → Laws (of 
               held = held_among is h' v.held j on;
               begins = prefix_self h';
               agrees = l.agree_self j h';
-              slot = own_j.5
+              slot = own_j.5;
             } in
             subst (λ o. IsShard m start n (with_view m start n s ws s.homes id w) h' j o) (sym own_j.1) there)
             (λ off. shard_apart s h e ws id (at_rest v) w j at (get_or-set_other s.words 0 (suc j) ((x + 1) % 2 ^ 64) 0 (λ z. absurd (omega arith)))
-              (l.frame h e j legal (subst (λ z. is_among z j ≡ false) same off)) (held_apart is h' v.held j off) refl (r.holder j) (r.shards j lt))
+            (l.frame h e j legal (subst (λ z. is_among z j ≡ false) same off)) (held_apart is h' v.held j off) refl (r.holder j) (r.shards j lt))
             (either_way (is_among is j));
         parties = λ q. party_added s h e ws id (at_rest v) w q r.seat at (λ a. a) (λ z its. ap r.seat (by z its) ∙ own.1) (r.seat q) refl (r.parties q);
         views = λ k u there. ⊎_elim
             (λ t. subst (λ (z : ℕ). Fits m start n h' r.holder r.seat z u) (sym t.0) (subst (λ (z : View S E). Fits m start n h' r.holder r.seat id z) t.1 fits))
             (λ t. fits_added h e r.holder r.seat id k p u t.0 own.0 own.1 by (r.views k u t.1))
-            (at_set s.views id k w u there)
+            (at_set s.views id k w u there);
       } in (
         w,
         keeps,

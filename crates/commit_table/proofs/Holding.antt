@@ -1,7 +1,7 @@
 -- The steps on a shard's word keep the rule: it is taken or missed, its slot goes home or out, and it is freed.
-use Rattle.std.proofs.Common.{◌≡◌, ◌≢◌, ℕ, zero, suc, ◌+◌, add-one, ◌<◌, ◌≤◌, ◌⊎◌, inl, inr, ⊎_elim, Bool, true, false, eqb, List, [], ◌∷◌, ◌++◌, length, get_or, set, All, Option, None, Some, refl, ap, sym, subst, ◌∙◌, arith}
+use Rattle.std.proofs.Common.{◌≡◌, ◌≢◌, ℕ, suc, ◌+◌, add-one, ◌<◌, ◌≤◌, ◌⊎◌, inl, inr, false, eqb, List, [], ◌∷◌, length, get_or, set, All, Option, None, Some, refl, sym, subst, ◌∙◌, arith}
 use mathlib.Core.Logic.{dite}
-use mathlib.Core.Option.{Option as Maybe, some, none}
+use mathlib.Core.Option.{some, none}
 use mathlib.Core.List.{IsPrefix}
 use native.Mathlib.Decide.{ℕ_discrete}
 use lib.ListN.{get_elem?}
@@ -13,7 +13,7 @@ use Rattle.commit_table.specs.declared.views.Known.{Known}
 use Rattle.commit_table.specs.declared.views.View.{View}
 use Rattle.commit_table.specs.Machine.{Machine, Laws, events_by}
 use Rattle.commit_table.specs.Views.{held_at, took, missed, gave_back, at_rest, reaching}
-use Rattle.commit_table.specs.Rule.{Free, Held, IsShard, Answers, Fits, Rule}
+use Rattle.commit_table.specs.Rule.{Free, Held, IsShard, Fits, Rule}
 use Rattle.commit_table.specs.Steps.{Of, Takes, Reaches, takes, parks, reaches, frees}
 use Rattle.commit_table.proofs.Lists.{prefix_self, at_here, one_there, held_here, held_else}
 use Rattle.commit_table.proofs.Moves.{with_view, still, moved, updated, updated_here, updated_else}
@@ -55,7 +55,7 @@ module _ {S X E : Type 0} (of : S → Machine X E) (laws : (s : S) → Laws (of 
     none = bare;
     gathers = λ e. absurd cc;
     gathered = λ e. absurd cc;
-    closed = λ e. absurd cc
+    closed = λ e. absurd cc;
   }
 
   -- a fact about the machine of the table's start is one about the machine of the view's
@@ -111,18 +111,18 @@ module _ {S X E : Type 0} (of : S → Machine X E) (laws : (s : S) → Laws (of 
         held = held_here v.held i (Some h);
         begins = prefix_self h;
         agrees = (laws start).agree_self i h;
-        slot = inl refl
+        slot = inl refl;
       } in
       let fits = rest_fits h (updated m start n r.holder i (Some id)) r.seat id (took v i h) (Some i) [] f.begun f.seen f.heard f.looks f.party
-            (λ j g e. dite (ℕ_discrete j i)
-              (λ same. (subst (λ z. z < m.shards) (sym same) lt, updated_here m start n r.holder i j (Some id) same))
-              (λ ne. let old = f.held j g (sym (held_else v.held i j (Some h) ne) ∙ e) in (old.0, updated_else m start n r.holder i j (Some id) ne ∙ old.1)))
-            (λ e. absurd cc) in (
+      (λ j g e. dite (ℕ_discrete j i)
+      (λ same. (subst (λ z. z < m.shards) (sym same) lt, updated_here m start n r.holder i j (Some id) same))
+      (λ ne. let old = f.held j g (sym (held_else v.held i j (Some h) ne) ∙ e) in (old.0, updated_else m start n r.holder i j (Some id) ne ∙ old.1)))
+      (λ e. absurd cc) in (
         w,
         carries i (Some is.1.value),
         is.1.slot,
         moved m start n s r id (at_rest v) w at i 1 (set s.homes i none) (Some id) (inl is.0)
-          (λ j ne. set_else s.homes i j none ne) (λ j ne. held_else v.held i j (Some h) ne) (λ j ne e. absurd cc) (λ q a. a) here fits,
+            (λ j ne. set_else s.homes i j none ne) (λ j ne. held_else v.held i j (Some h) ne) (λ j ne e. absurd cc) (λ q a. a) here fits,
         λ j e. same_takes i j x v (w, (i, Some is.1.value) ∷ []) (inl (hit, (is.1.value, h, refl, f.seen, told s r id (at_rest v) at (λ z. z.Stands i is.1.value h) is.1.stands))) e,
       ))
       (λ miss.
@@ -152,16 +152,16 @@ module _ {S X E : Type 0} (of : S → Machine X E) (laws : (s : S) → Laws (of 
         held = held;
         begins = own.2;
         agrees = own.3;
-        slot = inr (y, set_here s.homes i (some y) room)
+        slot = inr (y, set_here s.homes i (some y) room);
       } in
       let fits = rest_fits h (updated m start n r.holder i (Some id)) r.seat id v None [] f.begun f.seen f.heard f.looks f.party
-            (λ j k e. let old = f.held j k e in (old.0, dite (ℕ_discrete j i) (λ same. updated_here m start n r.holder i j (Some id) same) (λ ne. updated_else m start n r.holder i j (Some id) ne ∙ old.1)))
-            f.none in (
+      (λ j k e. let old = f.held j k e in (old.0, dite (ℕ_discrete j i) (λ same. updated_here m start n r.holder i j (Some id) same) (λ ne. updated_else m start n r.holder i j (Some id) ne ∙ old.1)))
+      f.none in (
         w,
         gives,
         tt,
         moved m start n s r id (reaching v i) w at i x (set s.homes i (some y)) (Some id) (inr own.1)
-          (λ j ne. set_else s.homes i j (some y) ne) (λ j ne. refl) (λ j ne e. absurd (ne (cc))) (λ q a. a) here fits,
+            (λ j ne. set_else s.homes i j (some y) ne) (λ j ne. refl) (λ j ne e. absurd (ne (cc))) (λ q a. a) here fits,
         refl,
       )
 
@@ -186,16 +186,16 @@ module _ {S X E : Type 0} (of : S → Machine X E) (laws : (s : S) → Laws (of 
         held = held;
         begins = own.2;
         agrees = own.3;
-        slot = inl refl
+        slot = inl refl;
       } in
       let fits = rest_fits h (updated m start n r.holder i (Some id)) r.seat id v (Some i) [] f.begun f.seen f.heard f.looks f.party
-            (λ j k e. let old = f.held j k e in (old.0, dite (ℕ_discrete j i) (λ same. updated_here m start n r.holder i j (Some id) same) (λ ne. updated_else m start n r.holder i j (Some id) ne ∙ old.1)))
-            f.none in (
+      (λ j k e. let old = f.held j k e in (old.0, dite (ℕ_discrete j i) (λ same. updated_here m start n r.holder i j (Some id) same) (λ ne. updated_else m start n r.holder i j (Some id) ne ∙ old.1)))
+      f.none in (
         w,
         carries i home.0,
         home.1,
         moved m start n s r id (at_rest v) w at i x (set s.homes i none) (Some id) (inr own.1)
-          (λ j ne. set_else s.homes i j none ne) (λ j ne. refl) (λ j ne e. absurd cc) (λ q a. a) here fits,
+            (λ j ne. set_else s.homes i j none ne) (λ j ne. refl) (λ j ne e. absurd cc) (λ q a. a) here fits,
         λ j e. subst (λ z. Reaches of z v (w, (i, home.0) ∷ [])) (let q : i ≡ j = omega arith in q) (home.0, refl),
       )
 
@@ -211,20 +211,20 @@ module _ {S X E : Type 0} (of : S → Machine X E) (laws : (s : S) → Laws (of 
         word = get_or-set_same s.words (suc i) 0 0 (let lt = own.0 in let z = r.size in omega (arith, z));
         value = x;
         slot = set_here s.homes i (some (Some x)) room;
-        stands = (laws start).stands i x g h stands own.3
+        stands = (laws start).stands i x g h stands own.3;
       } in
       let fits = rest_fits h (updated m start n r.holder i None) r.seat id (gave_back v i) None [] f.begun f.seen f.heard f.looks f.party
-            (λ j k e. dite (ℕ_discrete j i)
-              (λ same. let z : held_at ((i, None) ∷ v.held) j ≡ None = subst (λ q. held_at ((i, None) ∷ v.held) q ≡ None) (sym same) (held_here v.held i None) in absurd cc)
-              (λ ne. let old = f.held j k (sym (held_else v.held i j None ne) ∙ e) in (old.0, updated_else m start n r.holder i j None ne ∙ old.1)))
-            (λ e j. dite (ℕ_discrete j i)
-              (λ same. subst (λ q. held_at ((i, None) ∷ v.held) q ≡ None) (sym same) (held_here v.held i None))
-              (λ ne. held_else v.held i j None ne ∙ f.none e j)) in (
+      (λ j k e. dite (ℕ_discrete j i)
+      (λ same. let z : held_at ((i, None) ∷ v.held) j ≡ None = subst (λ q. held_at ((i, None) ∷ v.held) q ≡ None) (sym same) (held_here v.held i None) in absurd cc)
+      (λ ne. let old = f.held j k (sym (held_else v.held i j None ne) ∙ e) in (old.0, updated_else m start n r.holder i j None ne ∙ old.1)))
+      (λ e j. dite (ℕ_discrete j i)
+      (λ same. subst (λ q. held_at ((i, None) ∷ v.held) q ≡ None) (sym same) (held_here v.held i None))
+      (λ ne. held_else v.held i j None ne ∙ f.none e j)) in (
         w,
         gives,
         tt,
         moved m start n s r id (reaching v i) w at i 0 (set s.homes i (some (Some x))) None (inr own.1)
-          (λ j ne. set_else s.homes i j (some (Some x)) ne) (λ j ne. held_else v.held i j None ne) (λ j ne e. absurd (ne (cc))) (λ q a. a) here fits,
+            (λ j ne. set_else s.homes i j (some (Some x)) ne) (λ j ne. held_else v.held i j None ne) (λ j ne e. absurd (ne (cc))) (λ q a. a) here fits,
         λ j e. let P : ℕ → Type 0 = λ z. ◌≡◌ {A = Mine} (w, []) (at_rest (gave_back v z), []) in subst P (let q : i ≡ j = omega arith in q) refl,
       )
 

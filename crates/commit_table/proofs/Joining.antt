@@ -1,29 +1,28 @@
 -- Making and joining seats keeps the rule, and so do the first state and the last look.
-use Rattle.std.proofs.Common.{◌≡◌, ◌≢◌, ℕ, zero, suc, ◌+◌, add-one, ◌<◌, ◌≤◌, ◌⊎◌, inl, inr, ⊎_elim, Bool, true, false, cond, eqb, eq-eqb, ne_eqb, List, [], ◌∷◌, ◌++◌, map, replicate, slice_get, length, get_or, set, All, Option, None, Some, refl, ap, sym, subst, ◌∙◌, arith}
+use Rattle.std.proofs.Common.{◌≡◌, ℕ, zero, suc, ◌+◌, add-one, ◌<◌, ◌≤◌, inl, inr, ⊎_elim, true, cond, List, [], ◌∷◌, ◌++◌, map, replicate, slice_get, length, get_or, set, All, Option, None, Some, refl, ap, sym, subst, ◌∙◌, arith}
 use mathlib.Core.Logic.{dite}
-use mathlib.Core.Option.{Option as Maybe, some, none, some-injective, some-ne-none}
+use mathlib.Core.Option.{some, none, some-injective, some-ne-none}
 use mathlib.Core.List.{IsPrefix}
 use native.Mathlib.Decide.{ℕ_discrete}
 use lib.ListN.{get_elem?}
 use Rattle.std.proofs.Math.Dec.{ltb}
 use Rattle.std.proofs.Math.Decide.{dec_lt}
-use Rattle.std.proofs.lemmas.Bool.{lt-ltb, ltb-true, le-ltb}
+use Rattle.std.proofs.lemmas.Bool.{lt-ltb, le-ltb}
 use Rattle.std.proofs.lemmas.List.Elements.{All-nil}
 use Rattle.std.proofs.lemmas.Option.{slice_get_within}
-use Rattle.std.proofs.Math.ListN.{length-set}
 use lib.ListN.{length-replicate}
-use Rattle.atomic_table.specs.Table.{State, Me, Act, keeps, Allows, Splits, Joins, Enters, Final, Seen, opening, step}
+use Rattle.atomic_table.specs.Table.{State, Me, keeps, Allows, Splits, Joins, Enters, Final, Seen, opening, step}
 use Rattle.atomic_table.proofs.Lists.{at_set, set_else, set_again, at_longer, at_last, at_map}
 use Rattle.commit_table.specs.declared.views.Known.{Known}
 use Rattle.commit_table.specs.declared.views.View.{View}
-use Rattle.commit_table.specs.Machine.{Machine, Laws, is_among, is_party, events_by}
+use Rattle.commit_table.specs.Machine.{Machine, Laws, events_by}
 use Rattle.commit_table.specs.Views.{held_at, new_pass, noted, at_rest, hearing, maker, gatherer, closer, tally_of, spent}
 use Rattle.commit_table.specs.Rule.{Free, Held, IsShard, Remembers, Answers, IsParty, Gathered, Fits, Rule}
 use Rattle.commit_table.specs.Calls.{AreShards, Closed, PassValue}
-use Rattle.commit_table.specs.Steps.{Of, Ends, opens, ends}
-use Rattle.commit_table.proofs.Lists.{prefix_self, prefix_none, prefix_length, at_here, at_below, one_there, at_end, found_there, get_some, some_get}
-use Rattle.commit_table.proofs.Moves.{with_view, shard_kept, party_kept, rebuild, still, updated, updated_here, updated_else}
-use Rattle.commit_table.proofs.Holding.{rest_fits, told}
+use Rattle.commit_table.specs.Steps.{Ends, opens, ends}
+use Rattle.commit_table.proofs.Lists.{prefix_self, prefix_none, at_here, one_there, at_end, found_there, get_some, some_get}
+use Rattle.commit_table.proofs.Moves.{with_view, shard_kept, party_kept, still, updated, updated_here, updated_else}
+use Rattle.commit_table.proofs.Holding.{rest_fits}
 
 module _ {S X E : Type 0} (of : S → Machine X E) (laws : (s : S) → Laws (of s)) (start : S) (n : ℕ) where
   abbrev M : Machine X E
@@ -63,7 +62,7 @@ module _ {S X E : Type 0} (of : S → Machine X E) (laws : (s : S) → Laws (of 
     parties = λ p. party_grown s r.history u p (r.seat p) (r.parties p);
     views = λ k w there. ⊎_elim (λ t. r.views k w t)
         (λ t. subst (λ (z : ℕ). Fits M start n r.history r.holder r.seat z w) (sym t.0) (subst (λ (z : V). Fits M start n r.history r.holder r.seat (length s.views) z) t.1 fits))
-        (at_end s.views u w k there)
+        (at_end s.views u w k there);
   }
 
   bare_fits : (h : List E) (holder seat : ℕ → Option ℕ) (id : ℕ) (v : Known S E) (out : Option ℕ) (heard : List E)
@@ -97,7 +96,7 @@ module _ {S X E : Type 0} (of : S → Machine X E) (laws : (s : S) → Laws (of 
     none = λ e i. ap (λ z. held_at z i) held;
     gathers = λ e. party;
     gathered = gathered;
-    closed = closed
+    closed = closed;
   }
 
   pub tally_splits : (id : ℕ) (h : List E) (l : List (Known S E)) → Splits R id (closer start h l) (closer start h l) (tally_of (closer start h l))
@@ -127,7 +126,7 @@ module _ {S X E : Type 0} (of : S → Machine X E) (laws : (s : S) → Laws (of 
     none = f.none;
     gathers = f.gathers;
     gathered = λ on j w there. let a = f.gathered on j w there in record { seen = a.seen; party = λ p e. let b = a.party p e in (b.0, same p b.1, b.2) };
-    closed = f.closed
+    closed = f.closed;
   }
 
   maker_fits : (h : List E) (holder seat : ℕ → Option ℕ) (id k : ℕ) → ((p : ℕ) → k ≤ p → p < n → (seat p ≡ Some id) × (events_by M.party p h ≡ [])) → Fits M start n h holder seat id (maker start k n)
@@ -142,7 +141,7 @@ module _ {S X E : Type 0} (of : S → Machine X E) (laws : (s : S) → Laws (of 
     none = λ e i. refl;
     gathers = λ e. refl;
     gathered = λ e. absurd cc;
-    closed = λ e. absurd cc
+    closed = λ e. absurd cc;
   }
 
   -- the next pass is made
@@ -158,7 +157,7 @@ module _ {S X E : Type 0} (of : S → Machine X E) (laws : (s : S) → Laws (of 
       let one = with_view M start n s s.words s.homes id left in
       let mine = f.makes k (omega arith) lt in
       let own = rest_fits of laws start n h r.holder seat' new (new_pass start (Some k) []) None [] (λ z e. cc) (prefix_none h) (prefix_none h) (All-nil (λ j. j ≤ 0))
-            (λ p e. let q : k ≡ p = cc in subst (λ z. (z < n) × (seat' z ≡ Some new) × (events_by M.party z h ≡ [])) q (lt, updated_here M start n r.seat k k (Some new) refl, mine.2)) (λ i g e. absurd cc) (λ e i. refl) in
+      (λ p e. let q : k ≡ p = cc in subst (λ z. (z < n) × (seat' z ≡ Some new) × (events_by M.party z h ≡ [])) q (lt, updated_here M start n r.seat k k (Some new) refl, mine.2)) (λ i g e. absurd cc) (λ e i. refl) in
       let rest = maker_fits h r.holder seat' id (k + 1) (λ p low high. let a = f.makes p (omega arith) high in (updated_else M start n r.seat k p (Some new) (λ e. absurd (omega arith)) ∙ a.1, a.2)) in
       record {
         history = h;
@@ -171,15 +170,15 @@ module _ {S X E : Type 0} (of : S → Machine X E) (laws : (s : S) → Laws (of 
         parties = λ p. dite (ℕ_discrete p k)
             (λ same. subst (λ o. IsParty M start n (with_one one right) h p o) (sym (updated_here M start n r.seat k p (Some new) same)) (right, at_last (set s.views id left) right new refl, inl (ap Some (sym same))))
             (λ ne. subst (λ o. IsParty M start n (with_one one right) h p o) (sym (updated_else M start n r.seat k p (Some new) ne))
-              (party_grown one h right p (r.seat p) (party_kept M start n s h s.words s.homes id v left p at
-                (λ a. ⊎_elim (λ x. absurd cc) (λ x. ⊎_elim (λ y. inr (inl (let z = y.0 in omega arith, y.1))) (λ y. absurd (let z = y.0 in cc)) x) a) (r.seat p) (r.parties p))));
+            (party_grown one h right p (r.seat p) (party_kept M start n s h s.words s.homes id v left p at
+            (λ a. ⊎_elim (λ x. absurd cc) (λ x. ⊎_elim (λ y. inr (inl (let z = y.0 in omega arith, y.1))) (λ y. absurd (let z = y.0 in cc)) x) a) (r.seat p) (r.parties p))));
         views = λ j u there. ⊎_elim
             (λ t. ⊎_elim
-              (λ z. subst (λ (i : ℕ). Fits M start n h r.holder seat' i u) (sym z.0) (subst (λ (i : V). Fits M start n h r.holder seat' id i) z.1 rest))
-              (λ z. fits_seat h r.holder r.seat seat' j u (λ p e. updated_else M start n r.seat k p (Some new) (λ same. z.0 (let a : r.seat k ≡ Some j = ap r.seat (sym same) ∙ e in let b = mine.1 in cc)) ∙ e) (r.views j u z.1))
-              (at_set s.views id j left u t))
+            (λ z. subst (λ (i : ℕ). Fits M start n h r.holder seat' i u) (sym z.0) (subst (λ (i : V). Fits M start n h r.holder seat' id i) z.1 rest))
+            (λ z. fits_seat h r.holder r.seat seat' j u (λ p e. updated_else M start n r.seat k p (Some new) (λ same. z.0 (let a : r.seat k ≡ Some j = ap r.seat (sym same) ∙ e in let b = mine.1 in cc)) ∙ e) (r.views j u z.1))
+            (at_set s.views id j left u t))
             (λ t. subst (λ (i : ℕ). Fits M start n h r.holder seat' i u) (sym t.0) (subst (λ (i : V). Fits M start n h r.holder seat' new i) t.1 own))
-            (at_end (set s.views id left) right u j there)
+            (at_end (set s.views id left) right u j there);
       }
 
   -- what is left of a seat fits in any place
@@ -212,10 +211,10 @@ module _ {S X E : Type 0} (of : S → Machine X E) (laws : (s : S) → Laws (of 
         views = λ k u t. ⊎_elim
             (λ z. subst (λ (i : ℕ). Fits M start n h r.holder r.seat i u) (sym z.0) (subst (λ (i : V). Fits M start n h r.holder r.seat other i) z.1 (spent_fits h r.holder r.seat other)))
             (λ z. ⊎_elim
-              (λ y. subst (λ (i : ℕ). Fits M start n h r.holder r.seat i u) (sym y.0) (subst (λ (i : V). Fits M start n h r.holder r.seat id i) y.1 fits))
-              (λ y. r.views k u y.1)
-              (at_set s.views id k both u z.1))
-            (at_set (set s.views id both) other k spent u t)
+            (λ y. subst (λ (i : ℕ). Fits M start n h r.holder r.seat i u) (sym y.0) (subst (λ (i : V). Fits M start n h r.holder r.seat id i) y.1 fits))
+            (λ y. r.views k u y.1)
+            (at_set s.views id k both u z.1))
+            (at_set (set s.views id both) other k spent u t);
       }
 
   remembers_more : (l : List (Known S E)) (w : Known S E) (p : ℕ) → Remembers M start n l p → Remembers M start n (l ++ w ∷ []) p
@@ -241,14 +240,14 @@ module _ {S X E : Type 0} (of : S → Machine X E) (laws : (s : S) → Laws (of 
       let stays : get_elem? two.views id ≡ some both = set_else (set s.views id both) other id spent (λ e. apart (sym e)) ∙ here in
       let new : Gathered M start n h seat' id w = record {
         seen = g.seen;
-        party = λ q e. let is : p ≡ q = cc in subst (λ z. (z < n) × (seat' z ≡ Some id) × (events_by M.party z h ≡ w.mine)) is (own.0, updated_here M start n r.seat p p (Some id) refl, own.2)
+        party = λ q e. let is : p ≡ q = cc in subst (λ z. (z < n) × (seat' z ≡ Some id) × (events_by M.party z h ≡ w.mine)) is (own.0, updated_here M start n r.seat p p (Some id) refl, own.2);
       } in
       let fits = keeper_fits h r.holder seat' id both (λ z e. cc) (prefix_none h) refl refl refl refl refl
-            (λ e k u t. ⊎_elim
-              (λ old. let a = f.gathered refl k u old in record { seen = a.seen; party = λ q its. let b = a.party q its in (b.0, same q b.1, b.2) })
-              (λ last. subst (λ (z : Known S E). Gathered M start n h seat' id z) last.1 new)
-              (at_end l w u k t))
-            (λ e. absurd cc) in
+      (λ e k u t. ⊎_elim
+      (λ old. let a = f.gathered refl k u old in record { seen = a.seen; party = λ q its. let b = a.party q its in (b.0, same q b.1, b.2) })
+      (λ last. subst (λ (z : Known S E). Gathered M start n h seat' id z) last.1 new)
+      (at_end l w u k t))
+      (λ e. absurd cc) in
       record {
         history = h;
         holder = r.holder;
@@ -261,17 +260,17 @@ module _ {S X E : Type 0} (of : S → Machine X E) (laws : (s : S) → Laws (of 
         parties = λ q. dite (ℕ_discrete q p)
             (λ is. subst (λ o. IsParty M start n two h q o) (sym (updated_here M start n r.seat p q (Some id) is)) (both, stays, inr (inr (refl, (length l, w, at_last l w (length l) refl, party ∙ ap Some (sym is))))))
             (λ ne. subst (λ o. IsParty M start n two h q o) (sym (updated_else M start n r.seat p q (Some id) ne))
-              (party_kept M start n one h s.words s.homes other (at_rest w) spent q there
-                (λ a. ⊎_elim (λ x. absurd (ne (cc))) (λ x. ⊎_elim (λ y. absurd (let z = y.0 in let z' = y.1 in omega arith)) (λ y. absurd (let z = y.0 in cc)) x) a) (r.seat q)
-                (party_kept M start n s h s.words s.homes id v both q at
-                  (λ a. ⊎_elim (λ x. absurd cc) (λ x. ⊎_elim (λ y. absurd (let z = y.0 in let z' = y.1 in omega arith)) (λ y. inr (inr (refl, more q y.1))) x) a) (r.seat q) (r.parties q))));
+            (party_kept M start n one h s.words s.homes other (at_rest w) spent q there
+            (λ a. ⊎_elim (λ x. absurd (ne (cc))) (λ x. ⊎_elim (λ y. absurd (let z = y.0 in let z' = y.1 in omega arith)) (λ y. absurd (let z = y.0 in cc)) x) a) (r.seat q)
+            (party_kept M start n s h s.words s.homes id v both q at
+            (λ a. ⊎_elim (λ x. absurd cc) (λ x. ⊎_elim (λ y. absurd (let z = y.0 in let z' = y.1 in omega arith)) (λ y. inr (inr (refl, more q y.1))) x) a) (r.seat q) (r.parties q))));
         views = λ k u t. ⊎_elim
             (λ z. subst (λ (i : ℕ). Fits M start n h r.holder seat' i u) (sym z.0) (subst (λ (i : V). Fits M start n h r.holder seat' other i) z.1 (spent_fits h r.holder seat' other)))
             (λ z. ⊎_elim
-              (λ y. subst (λ (i : ℕ). Fits M start n h r.holder seat' i u) (sym y.0) (subst (λ (i : V). Fits M start n h r.holder seat' id i) y.1 fits))
-              (λ y. fits_seat h r.holder r.seat seat' k u (λ q e. updated_else M start n r.seat p q (Some id) (λ is. z.0 (let a : r.seat p ≡ Some k = ap r.seat (sym is) ∙ e in let b = own.1 in cc)) ∙ e) (r.views k u y.1))
-              (at_set s.views id k both u z.1))
-            (at_set (set s.views id both) other k spent u t)
+            (λ y. subst (λ (i : ℕ). Fits M start n h r.holder seat' i u) (sym y.0) (subst (λ (i : V). Fits M start n h r.holder seat' id i) y.1 fits))
+            (λ y. fits_seat h r.holder r.seat seat' k u (λ q e. updated_else M start n r.seat p q (Some id) (λ is. z.0 (let a : r.seat p ≡ Some k = ap r.seat (sym is) ∙ e in let b = own.1 in cc)) ∙ e) (r.views k u y.1))
+            (at_set s.views id k both u z.1))
+            (at_set (set s.views id both) other k spent u t);
       }
 
   -- a party that a view answers for is below n
@@ -295,7 +294,7 @@ module _ {S X E : Type 0} (of : S → Machine X E) (laws : (s : S) → Laws (of 
         legal = r.legal;
         seen = λ k u there. (f.gathered refl k u there).seen;
         own = λ k u there p its. ((f.gathered refl k u there).party p its).2;
-        others = λ p apart. unanswered s r p (λ lt. let a = all p lt in apart a.0 a.1 a.2 a.3) (r.seat p) (r.parties p)
+        others = λ p apart. unanswered s r p (λ lt. let a = all p lt in apart a.0 a.1 a.2 a.3) (r.seat p) (r.parties p);
       } in (
         w,
         keeps,
@@ -350,7 +349,7 @@ module _ {S X E : Type 0} (of : S → Machine X E) (laws : (s : S) → Laws (of 
     word = zeros 0;
     shards = λ i lt. let a = values i lt in record { word = zeros (suc i); value = a.0; slot = at_map (λ (y : Option X). some y) xs i (Some a.0) a.1; stands = a.2 };
     parties = λ p. party_first ws xs p (dec_lt p n);
-    views = λ id v there. first_view ws id v there
+    views = λ id v there. first_view ws id v there;
   }
 
   pub pass_allowed : (id k : ℕ) (me : Me (Option X) V) → me ≡ (maker start k n, []) → k < n
@@ -405,7 +404,7 @@ module _ {S X E : Type 0} (of : S → Machine X E) (laws : (s : S) → Laws (of 
         let lt : i < length ys = slice_get_within ys i x there in
         let a = final_values id h l v ws xs is final i (omega arith) in
         let b : ◌≡◌ {A = Option X} (Some a.0) (Some x) = one_there xs i (Some a.0) (Some x) a.1 (same i x there) in
-        let e : a.0 ≡ x = cc in subst (λ z. M.Stands i z h) e a.2
+        let e : a.0 ≡ x = cc in subst (λ z. M.Stands i z h) e a.2;
   }
 
   -- a list that has every party's pass remembers every party
@@ -421,5 +420,5 @@ module _ {S X E : Type 0} (of : S → Machine X E) (laws : (s : S) → Laws (of 
     legal = e.legal;
     seen = λ i v there. e.seen i v (get_some l i v there);
     own = λ i v there. e.own i v (get_some l i v there);
-    others = λ p apart. e.others p (λ i v there. apart i v (some_get l i v there))
+    others = λ p apart. e.others p (λ i v there. apart i v (some_get l i v there));
   })

@@ -1,5 +1,5 @@
 -- Beginnings of one history, the events of a party, what is held of a shard, and lists read by `get_elem?`.
-use Rattle.std.proofs.Common.{◌≡◌, ◌≢◌, ℕ, zero, suc, ◌+◌, ◌<◌, ◌≤◌, ◌⊎◌, inl, inr, ⊎_elim, Bool, true, false, cond, eqb, eq-eqb, ne_eqb, List, [], ◌∷◌, ◌++◌, length, set, Option, None, Some, refl, ap, sym, subst, ◌∙◌, arith, append_assoc, length-append, map, get_or, slice_get}
+use Rattle.std.proofs.Common.{◌≡◌, ◌≢◌, ℕ, zero, suc, ◌+◌, ◌<◌, ◌≤◌, ◌⊎◌, inl, inr, ⊎_elim, Bool, true, false, cond, eq-eqb, ne_eqb, List, [], ◌∷◌, ◌++◌, length, set, Option, Some, refl, ap, sym, subst, ◌∙◌, arith, append_assoc, length-append, map, get_or, slice_get}
 use Rattle.std.proofs.lemmas.List.{map-append, get_or-set_other}
 use mathlib.Core.Logic.{dite}
 use mathlib.Core.Option.{some, some-injective, some-ne-none}

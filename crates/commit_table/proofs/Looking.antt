@@ -1,11 +1,10 @@
 -- What a look tells of the machine of the table's start.
-use Rattle.std.proofs.Common.{◌≡◌, ℕ, List, [], ◌∷◌, length, Option, None, Some, refl, ap, sym, subst, ◌∙◌}
+use Rattle.std.proofs.Common.{◌≡◌, ℕ, List, length, Option, Some, ap, subst}
 use mathlib.Core.List.{IsPrefix}
 use Rattle.atomic_table.specs.Table.{Me}
 use Rattle.commit_table.specs.declared.views.Known.{Known}
 use Rattle.commit_table.specs.declared.views.View.{View}
 use Rattle.commit_table.specs.Machine.{Machine}
-use Rattle.commit_table.specs.Views.{looked, at_rest}
 use Rattle.commit_table.specs.Steps.{Looks}
 use Rattle.commit_table.specs.Calls.{Looked}
 
@@ -23,7 +22,7 @@ module _ {S X E : Type 0} (of : S → Machine X E) where
           legal = s.legal;
           seen = s.seen;
           own = s.own;
-          held = s.held
+          held = s.held;
         },
         s.told,
         s.number,

@@ -1,19 +1,17 @@
 -- A step that leaves the history keeps the rule: nothing moved, or one shard moved.
-use Rattle.std.proofs.Common.{◌≡◌, ◌≢◌, ℕ, zero, suc, ◌+◌, ◌<◌, ◌≤◌, ◌⊎◌, inl, inr, ⊎_elim, Bool, true, false, cond, eqb, eq-eqb, ne_eqb, List, [], ◌∷◌, ◌++◌, length, get_or, set, Option, None, Some, refl, ap, sym, subst, ◌∙◌, arith}
+use Rattle.std.proofs.Common.{◌≡◌, ◌≢◌, ℕ, zero, suc, ◌<◌, ◌⊎◌, inl, inr, ⊎_elim, cond, eqb, eq-eqb, ne_eqb, List, length, get_or, set, Option, None, Some, refl, ap, sym, subst, ◌∙◌, arith}
 use mathlib.Core.Logic.{dite}
-use mathlib.Core.Option.{Option as Maybe, some, some-injective, some-ne-none}
-use mathlib.Core.List.{IsPrefix}
+use mathlib.Core.Option.{Option as Maybe, some}
 use native.Mathlib.Decide.{ℕ_discrete}
 use lib.ListN.{get_elem?}
-use Rattle.std.proofs.lemmas.List.{set-get_or, get_or-set_same, get_or-set_other}
+use Rattle.std.proofs.lemmas.List.{set-get_or, get_or-set_other}
 use Rattle.std.proofs.Math.ListN.{length-set}
 use Rattle.atomic_table.specs.Table.{State}
 use Rattle.atomic_table.proofs.Lists.{at_set, set_else}
-use Rattle.commit_table.specs.declared.views.Known.{Known}
 use Rattle.commit_table.specs.declared.views.View.{View}
-use Rattle.commit_table.specs.Machine.{Machine, Laws, events_by}
+use Rattle.commit_table.specs.Machine.{Machine}
 use Rattle.commit_table.specs.Views.{held_at}
-use Rattle.commit_table.specs.Rule.{Free, Held, IsShard, Remembers, Answers, IsParty, Gathered, Fits, Rule}
+use Rattle.commit_table.specs.Rule.{IsShard, Answers, IsParty, Fits, Rule}
 use Rattle.commit_table.proofs.Lists.{at_here, one_there}
 
 module _ {S X E : Type 0} (m : Machine X E) (start : S) (n : ℕ) where
@@ -48,7 +46,7 @@ module _ {S X E : Type 0} (m : Machine X E) (start : S) (n : ℕ) where
         held = holds r.upto (subst (λ (z : V). held_at z.known.held j ≡ Some r.upto) (sym is) r.held);
         begins = r.begins;
         agrees = r.agrees;
-        slot = ⊎_elim (λ a. inl (out (subst (λ (z : V). z.out ≡ Some j) (sym is) a))) (λ b. inr (b.0, home ∙ b.1)) r.slot
+        slot = ⊎_elim (λ a. inl (out (subst (λ (z : V). z.out ≡ Some j) (sym is) a))) (λ b. inr (b.0, home ∙ b.1)) r.slot;
       })
       (λ ne. record {
         word = word ∙ r.word;
@@ -58,7 +56,7 @@ module _ {S X E : Type 0} (m : Machine X E) (start : S) (n : ℕ) where
         held = r.held;
         begins = r.begins;
         agrees = r.agrees;
-        slot = ⊎_elim (λ a. inl a) (λ b. inr (b.0, home ∙ b.1)) r.slot
+        slot = ⊎_elim (λ a. inl a) (λ b. inr (b.0, home ∙ b.1)) r.slot;
       })
 
   -- a party that a step leaves alone
@@ -93,7 +91,7 @@ module _ {S X E : Type 0} (m : Machine X E) (start : S) (n : ℕ) where
     views = λ k u there. ⊎_elim
         (λ t. subst (λ (z : ℕ). Fits m start n r.history holder r.seat z u) (sym t.0) (subst (λ (z : V). Fits m start n r.history holder r.seat id z) t.1 fits))
         (λ t. others k u t.0 (r.views k u t.1))
-        (at_set s.views id k w u there)
+        (at_set s.views id k w u there);
   }
 
   -- nothing moved: the seat has another view, which holds and answers for the same
@@ -104,8 +102,8 @@ module _ {S X E : Type 0} (m : Machine X E) (start : S) (n : ℕ) where
   still s r id v w at k held out answers fits =
       subst (λ (ws : List ℕ). R (with_view s ws s.homes id w)) (sym (set-get_or s.words k 0))
       (rebuild s r id v w at s.words s.homes r.holder refl refl
-        (λ j lt. shard_kept s r.history s.words s.homes id v w j at refl refl (λ g e. ap (λ z. held_at z j) held ∙ e) (λ e. out ∙ e) (r.holder j) (r.shards j lt))
-        answers (λ k u ne f. f) fits)
+      (λ j lt. shard_kept s r.history s.words s.homes id v w j at refl refl (λ g e. ap (λ z. held_at z j) held ∙ e) (λ e. out ∙ e) (r.holder j) (r.shards j lt))
+      answers (λ k u ne f. f) fits)
 
   abbrev pub updated : (ℕ → Option ℕ) → ℕ → Option ℕ → ℕ → Option ℕ
   updated f i o j = cond (eqb j i) o (f j)
@@ -129,13 +127,13 @@ module _ {S X E : Type 0} (m : Machine X E) (start : S) (n : ℕ) where
     held = λ j g e. let old = f.held j g e in (
       old.0,
       dite (ℕ_discrete j i)
-        (λ same. let mine : holder i ≡ Some k = ap holder (sym same) ∙ old.1 in absurd (⊎_elim (λ a. cc) (λ b. ne (cc)) was))
-        (λ apart. updated_else holder i j o apart ∙ old.1),
+          (λ same. let mine : holder i ≡ Some k = ap holder (sym same) ∙ old.1 in absurd (⊎_elim (λ a. cc) (λ b. ne (cc)) was))
+          (λ apart. updated_else holder i j o apart ∙ old.1),
     );
     none = f.none;
     gathers = f.gathers;
     gathered = f.gathered;
-    closed = f.closed
+    closed = f.closed;
   }
 
   -- one shard moved, which was free or this seat's
@@ -151,8 +149,8 @@ module _ {S X E : Type 0} (m : Machine X E) (start : S) (n : ℕ) where
   moved s r id v w at i b hs o was homes held out answers here fits =
       rebuild s r id v w at (set s.words (suc i) b) hs (updated r.holder i o) (length-set s.words (suc i) b) (get_or-set_other s.words (suc i) zero b 0 (λ e. absurd (omega arith)))
       (λ j lt. dite (ℕ_discrete j i)
-        (λ same. subst (λ (z : ℕ). IsShard m start n (with_view s (set s.words (suc i) b) hs id w) r.history z (updated r.holder i o z)) (sym same)
-          (subst (λ (z : Option ℕ). IsShard m start n (with_view s (set s.words (suc i) b) hs id w) r.history i z) (sym (updated_here r.holder i i o refl)) here))
-        (λ ne. subst (λ (z : Option ℕ). IsShard m start n (with_view s (set s.words (suc i) b) hs id w) r.history j z) (sym (updated_else r.holder i j o ne))
-          (shard_kept s r.history (set s.words (suc i) b) hs id v w j at (get_or-set_other s.words (suc i) (suc j) b 0 (λ e. ne (omega arith))) (homes j ne) (λ g e. held j ne ∙ e) (out j ne) (r.holder j) (r.shards j lt))))
+      (λ same. subst (λ (z : ℕ). IsShard m start n (with_view s (set s.words (suc i) b) hs id w) r.history z (updated r.holder i o z)) (sym same)
+      (subst (λ (z : Option ℕ). IsShard m start n (with_view s (set s.words (suc i) b) hs id w) r.history i z) (sym (updated_here r.holder i i o refl)) here))
+      (λ ne. subst (λ (z : Option ℕ). IsShard m start n (with_view s (set s.words (suc i) b) hs id w) r.history j z) (sym (updated_else r.holder i j o ne))
+      (shard_kept s r.history (set s.words (suc i) b) hs id v w j at (get_or-set_other s.words (suc i) (suc j) b 0 (λ e. ne (omega arith))) (homes j ne) (λ g e. held j ne ∙ e) (out j ne) (r.holder j) (r.shards j lt))))
       answers (λ k u ne f. fits_other r.history r.holder r.seat i id o k u ne was f) fits

@@ -1,5 +1,5 @@
 -- A counter that is held may be raised, and its new value then stands for the history.
-use Rattle.std.proofs.Common.{◌≡◌, ◌≢◌, ℕ, zero, suc, ◌+◌, ◌-◌, ◌<◌, ◌≤◌, Bool, true, false, cond, ltb, eqb, eq-eqb, ne_eqb, ◌&&◌, ◌||◌, List, [], ◌∷◌, ◌++◌, length, Option, None, Some, refl, ap, sym, subst, ◌∙◌, arith}
+use Rattle.std.proofs.Common.{◌≡◌, ◌≢◌, ℕ, zero, suc, ◌+◌, ◌-◌, ◌<◌, true, false, cond, ltb, eq-eqb, ne_eqb, ◌&&◌, ◌||◌, List, [], ◌∷◌, ◌++◌, length, Option, None, Some, refl, ap, sym, subst, ◌∙◌, arith}
 use mathlib.Core.Logic.{dite}
 use mathlib.Core.List.{IsPrefix}
 use native.Mathlib.Decide.{ℕ_discrete}
@@ -10,7 +10,7 @@ use Rattle.commit_table.specs.declared.counters.Deal.{Deal}
 use Rattle.commit_table.specs.declared.counters.Deal.TheVariants.{Raise, Carry}
 use Rattle.commit_table.specs.Machine.{Machine, is_among, IsOwn}
 use Rattle.commit_table.specs.Views.{held_at, looked, committed, gave_back}
-use Rattle.commit_table.specs.Parts.{parts_of, part_of, peers_of}
+use Rattle.commit_table.specs.Parts.{part_of, peers_of}
 use Rattle.commit_table.specs.PartLaws.{may_follow, new_own, new_peer, one_peer}
 use Rattle.commit_table.specs.Counters.{most, counter_parts, counters}
 use Rattle.commit_table.specs.Calls.{Looked, MayCommit, Committed}
@@ -42,7 +42,7 @@ may_raise v c x p g party legal held agree stands lt =
       party = λ q e. party ∙ e;
       legal = may_follow counter_parts v.seen (Raise p c) x [] (x + 1, []) legal here (λ ps e. refl) (raise_acts p c x lt);
       held = λ i among. let is : i ≡ c = only_one c i (subst (λ z. is_among z i ≡ true) (one_shard p c x v.seen here) among) in
-          subst (λ z. (g : List Deal) × (held_at v.held z ≡ Some g) × counters.Agree z v.seen g) (sym is) (g, held, sym agree)
+          subst (λ z. (g : List Deal) × (held_at v.held z ≡ Some g) × counters.Agree z v.seen g) (sym is) (g, held, sym agree);
     }
 
 pub raised_stands : (v w : K) (c x p place : ℕ) (h : List Deal) → part_of counter_parts c v.seen ≡ Some x → x < most → Committed counters v (Raise p c) place h w
@@ -71,7 +71,7 @@ recorded {m} v u w z e number place c h k l t is =
       looks = (length h, ap (λ y. y.looks) is ∙ (ap (λ y. y.looks) s ∙ ap (λ y. y.looks) b));
       missed = ap (λ y. y.missed) is ∙ (ap (λ y. y.missed) s ∙ ap (λ y. y.missed) b);
       party = ap (λ y. y.party) is ∙ (ap (λ y. y.party) s ∙ ap (λ y. y.party) b);
-      start = ap (λ y. y.start) is ∙ (ap (λ y. y.start) s ∙ ap (λ y. y.start) b)
+      start = ap (λ y. y.start) is ∙ (ap (λ y. y.start) s ∙ ap (λ y. y.start) b);
     }
 
 -- a counter that is held has its value in what was seen
@@ -125,7 +125,7 @@ may_carry v u number a b h l t =
       held = λ i among. one_of_two i (λ z. (g : List Deal) × (held_at u.held z ≡ Some g) × counters.Agree z u.seen g)
           (t.first, ap (λ y. held_at y.held 0) l.is ∙ t.first_held, here ∙ sym (part_value 0 a t.first t.first_stands))
           (t.second, ap (λ y. held_at y.held 1) l.is ∙ t.second_held, there ∙ sym (part_value 1 b t.second t.second_stands))
-          (subst (λ z. is_among z i ≡ true) (two_shards a u.seen here) among)
+          (subst (λ z. is_among z i ≡ true) (two_shards a u.seen here) among);
     }
 
 pub carried_first : (v u w : K) (number place a b : ℕ) (h k : List Deal) → Looked counters v number h u → Both v a b → Committed counters u Carry place k w → (g : List Deal) × (held_at w.held 0 ≡ Some g) × counters.Stands 0 (a - 1) g

@@ -1,5 +1,5 @@
 -- What a seat has out, before and after its slot is exchanged.
-use Rattle.std.proofs.Common.{◌≡◌, ℕ, List, [], ◌∷◌, Option, None, Some, refl, ap, sym, subst, ◌∙◌}
+use Rattle.std.proofs.Common.{◌≡◌, ℕ, List, [], ◌∷◌, Option, refl, ap, sym, subst, ◌∙◌}
 use Rattle.atomic_table.specs.Table.{Me, rest}
 use Rattle.commit_table.specs.declared.views.Known.{Known}
 use Rattle.commit_table.specs.declared.views.View.{View}

@@ -1,5 +1,5 @@
 -- Two passes of one table.
-use Rattle.std.proofs.Common.{◌≡◌, ℕ, zero, suc, ◌<◌, List, [], ◌∷◌, ◌++◌, length, slice_get, Option, None, Some, refl, ap, sym, subst, ◌∙◌, arith, length-append}
+use Rattle.std.proofs.Common.{◌≡◌, ℕ, zero, suc, ◌<◌, List, [], ◌∷◌, ◌++◌, length, slice_get, Option, Some, refl, ap, sym, subst, ◌∙◌, arith, length-append}
 use Rattle.commit_table.specs.Views.{new_pass}
 use Rattle.commit_table.specs.Calls.{TableValue, PassValue, IsOf, HoldsNone, AreWhole}
 
@@ -17,9 +17,9 @@ module _ {S E : Type 0} where
   pub whole_two : (t : TableValue S) (a b : PassValue S E) (l : List (PassValue S E)) → l ≡ a ∷ b ∷ [] → t.passes ≡ 2
       → IsOf t a × HoldsNone a.known × (a.known.party ≡ Some 0) → IsOf t b × HoldsNone b.known × (b.known.party ≡ Some 1) → AreWhole t l
   whole_two t a b l is two f g = subst (λ z. AreWhole t z) (sym is) (
-      one_of_two t a b (f.0, f.1) (g.0, g.1),
-      λ party lt. each_party a b f.2 g.2 party (subst (λ n. party < n) two lt),
-    )
+    one_of_two t a b (f.0, f.1) (g.0, g.1),
+    λ party lt. each_party a b f.2 g.2 party (subst (λ n. party < n) two lt),
+  )
 
 module _ {A : Type 0} where
   -- a list of two was taken from its end

@@ -1,9 +1,9 @@
 -- What an attempt on the counters tells, of all its steps at once.
-use Rattle.std.specs.Prelude.{◌≡◌, ◌≢◌, ℕ, ◌+◌, ◌<◌, List, [], ◌∷◌, ◌++◌, length, Option, None, Some}
+use Rattle.std.specs.Prelude.{◌≡◌, ℕ, ◌<◌, List, [], ◌∷◌, ◌++◌, length}
 use mathlib.Core.List.{IsPrefix}
 use Rattle.commit_table.specs.declared.views.Known.{Known}
 use Rattle.commit_table.specs.Machine.{Machine, IsOwn}
-use Rattle.commit_table.specs.Views.{held_at, mine_after}
+use Rattle.commit_table.specs.Views.{mine_after}
 
 module _ {S X E : Type 0} (m : Machine X E) where
   -- the event was committed, once, after one look, behind a history that goes on from what was seen

@@ -1,7 +1,7 @@
 -- The two counters are a lawful machine: each event adds weight, and what they can weigh is bounded.
-use Rattle.std.proofs.Common.{◌≡◌, ℕ, zero, suc, ◌+◌, ◌-◌, ◌*◌, ◌^◌, ◌<◌, ◌≤◌, Bool, true, false, cond, ltb, ◌&&◌, List, [], ◌∷◌, length, Option, None, Some, refl, ap, sym, subst, ◌∙◌, arith}
+use Rattle.std.proofs.Common.{◌≡◌, ℕ, zero, suc, ◌+◌, ◌-◌, ◌*◌, ◌^◌, ◌<◌, ◌≤◌, Bool, true, false, cond, ltb, ◌&&◌, List, [], ◌∷◌, length, None, Some, refl, ap, sym, subst, arith}
 use Rattle.std.proofs.lemmas.Bool.{ltb-true}
-use Rattle.commit_table.specs.Machine.{Machine, Laws}
+use Rattle.commit_table.specs.Machine.{Laws}
 use Rattle.std.specs.Prelude.{option_and_then}
 use Rattle.commit_table.specs.Parts.{stepped, parts_of, with_parts}
 use Rattle.commit_table.specs.declared.counters.Deal.{Deal}

@@ -1,5 +1,5 @@
 -- Two counters, the smallest machine whose events have one shard or two.
-use Rattle.std.specs.Prelude.{◌≡◌, ℕ, ◌+◌, ◌-◌, ◌<◌, ltb, ◌&&◌, cond, List, [], ◌∷◌, Option, None, Some}
+use Rattle.std.specs.Prelude.{◌≡◌, ℕ, ◌+◌, ◌-◌, ltb, ◌&&◌, cond, List, [], ◌∷◌, Option, None, Some}
 use Rattle.commit_table.specs.Machine.{Machine}
 use Rattle.commit_table.specs.Parts.{Parts, machine_of}
 use Rattle.commit_table.specs.declared.counters.Deal.{Deal}
@@ -36,7 +36,7 @@ counter_parts = record {
   act = deal_act;
   noted = λ place e own. own;
   party = deal_party;
-  Is = λ i x p. x ≡ p
+  Is = λ i x p. x ≡ p;
 }
 
 abbrev pub counters : Machine ℕ Deal

@@ -1,5 +1,5 @@
 -- A machine of parts keeps the laws of a machine whose state lies in shards.
-use Rattle.std.proofs.Common.{◌≡◌, ◌≢◌, ℕ, zero, suc, ◌+◌, ◌^◌, ◌<◌, ◌≤◌, Bool, true, false, ◌||◌, eqb, eq-eqb, ne_eqb, List, [], ◌∷◌, ◌++◌, length, set, slice_get, Option, None, Some, refl, ap, sym, subst, ◌∙◌, arith}
+use Rattle.std.proofs.Common.{◌≡◌, ◌≢◌, ℕ, zero, suc, ◌+◌, ◌^◌, ◌<◌, ◌≤◌, true, false, ◌||◌, eqb, eq-eqb, ne_eqb, List, [], ◌∷◌, ◌++◌, length, set, slice_get, Option, None, Some, refl, ap, sym, subst, ◌∙◌, arith}
 use mathlib.Core.Logic.{dite}
 use native.Mathlib.Decide.{ℕ_discrete}
 use Rattle.std.specs.Prelude.{option_and_then}
@@ -75,11 +75,11 @@ module _ {P X E : Type 0} (a : Parts P X E) where
   pub may : (place : ℕ) (ps : List P) (e : E) (own : P) (others : List P) (new : P × List P) → slice_get ps (a.owner e) ≡ Some own → parts_at ps (a.peers own e) ≡ Some others
       → a.act e own others ≡ Some new → (after : List P) × (stepped a place ps e ≡ Some after)
   may place ps e own others new here there acts = (
-        with_parts (set ps (a.owner e) (a.noted place e new.0)) (a.peers own e) new.1,
-        chain_at (acted a place ps e) (slice_get ps (a.owner e)) own here
+    with_parts (set ps (a.owner e) (a.noted place e new.0)) (a.peers own e) new.1,
+    chain_at (acted a place ps e) (slice_get ps (a.owner e)) own here
         ∙ (chain_at (λ qs. option_and_then (λ (new : P × List P). Some (with_parts (set ps (a.owner e) (a.noted place e new.0)) (a.peers own e) new.1)) (a.act e own qs)) (parts_at ps (a.peers own e)) others there
         ∙ chain_at (λ (new : P × List P). Some (with_parts (set ps (a.owner e) (a.noted place e new.0)) (a.peers own e) new.1)) (a.act e own others) new acts),
-      )
+  )
 
   -- the last event of a history comes after the others
   pub run_last : (place : ℕ) (ps : List P) (h : List E) (e : E) → run a place ps (h ++ e ∷ []) ≡ option_and_then (λ qs. stepped a (place + length h) qs e) (run a place ps h)
@@ -138,7 +138,7 @@ module _ {P X E : Type 0} (a : Parts P X E) where
     frame = frame;
     follows = λ h k e legal there longer agree. follows h k e legal there agree;
     owned = λ h e legal. among_first (a.owner e) (peers_of a (part_of a (a.owner e) h) e);
-    same_shards = λ h k e legal there agree. ap (λ o. a.owner e ∷ peers_of a o e) agree
+    same_shards = λ h k e legal there agree. ap (λ o. a.owner e ∷ peers_of a o e) agree;
   }
 
   -- histories are bounded where each event adds weight, and what the parts can weigh is bounded

@@ -1,5 +1,5 @@
 -- A machine whose state is a list of parts, one for each shard, and whose events act on the parts of their shards alone.
-use Rattle.std.specs.Prelude.{◌≡◌, ℕ, zero, suc, ◌+◌, ◌^◌, ◌<◌, List, [], ◌∷◌, ◌++◌, length, slice_get, slice_set, option_and_then, Option, None, Some}
+use Rattle.std.specs.Prelude.{◌≡◌, ℕ, zero, suc, List, [], ◌∷◌, length, slice_get, slice_set, option_and_then, Option, None, Some}
 use Rattle.commit_table.specs.Machine.{Machine}
 
 -- P is a part, X what lies in a shard, E an event. An event has an owner, and peers that follow from the owner's part.
@@ -62,5 +62,5 @@ module _ {P X E : Type 0} (a : Parts P X E) where
     Agree = λ i h k. part_of i h ≡ part_of i k;
     shards_of = λ h e. a.owner e ∷ peers_of (part_of (a.owner e) h) e;
     owner = a.owner;
-    party = a.party
+    party = a.party;
   }

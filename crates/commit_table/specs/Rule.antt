@@ -1,6 +1,6 @@
 -- The rule of a commit table: what holds between any two steps, of its words, its slots and what each seat knows.
 -- Word 0 is the journal word, word i + 1 that of shard i, and slot i holds the value of shard i while the shard is free.
-use Rattle.std.specs.Prelude.{◌≡◌, ℕ, suc, ◌+◌, ◌<◌, ◌≤◌, ◌⊎◌, true, List, [], ◌∷◌, ◌++◌, length, slice_index, All, Option, None, Some}
+use Rattle.std.specs.Prelude.{◌≡◌, ℕ, suc, ◌<◌, ◌≤◌, ◌⊎◌, true, List, [], length, slice_index, All, Option, None, Some}
 use mathlib.Core.Option.{some}
 use mathlib.Core.List.{IsPrefix}
 use lib.ListN.{get_elem?}

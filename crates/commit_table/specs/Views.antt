@@ -1,5 +1,5 @@
 -- What a pass knows, in words, and what each call makes of it.
-use Rattle.std.specs.Prelude.{◌≡◌, ℕ, ◌+◌, false, true, cond, eqb, List, [], ◌∷◌, ◌++◌, length, map, Option, None, Some}
+use Rattle.std.specs.Prelude.{ℕ, false, true, cond, eqb, List, [], ◌∷◌, ◌++◌, length, Option, None, Some}
 use Rattle.commit_table.specs.declared.views.Known.{Known}
 use Rattle.commit_table.specs.declared.views.View.{View}
 

@@ -99,11 +99,7 @@ fn move_values<X: Drop>(
 }
 
 // Closes the table that the seat looked at last, with nothing of it held.
-fn values_of<M: Sharded>(
-    table: Whole<M>,
-    seat: Place<M>,
-    room: Vec<M::Shard>,
-) -> Vec<M::Shard>
+fn values_of<M: Sharded>(table: Whole<M>, seat: Place<M>, room: Vec<M::Shard>) -> Vec<M::Shard>
     requires table { seat.table_id ≡ table.shared.table_id }
     requires size { IsSized table.shared.table_id (M.machine table.shared.key.start).shards }
     requires ready { seat.me ≡ (closer table.shared.key.start seat.me.0.known.seen seat.me.0.gathered, []) }

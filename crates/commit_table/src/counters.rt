@@ -30,6 +30,7 @@ pub struct Counters;
 
 impl Sharded for Counters {
     type Shard = u64;
+
     type Event = Deal;
 
     ghost use Rattle.commit_table.specs.Counters.{counters};
@@ -56,7 +57,7 @@ pub fn raise_held(
     ensures given { held_at pass.new.known.held counter ≡ None }
     ensures others { (i : ℕ) → i ≢ counter → held_at pass.new.known.held i ≡ held_at pass.old.known.held i }
 {
-    table.look(pass);
+    let _ = table.look(pass);
     let deal = Deal::Raise(CommitTable::number(pass), counter);
     let place = table.commit(pass, &deal);
     table.give_back(pass, counter, value + 1);

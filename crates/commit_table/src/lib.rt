@@ -13,8 +13,8 @@ mod steps;
 mod table;
 mod views;
 
-pub use counters::{Counters, Deal, Outcome, carry, raise, raise_held};
 pub use close::{Ended, Tally};
+pub use counters::{Counters, Deal, Outcome, carry, raise, raise_held};
 pub use pass::{Note, Pass};
 pub use sharded::Sharded;
 pub use table::CommitTable;

@@ -5,6 +5,7 @@ ghost use Rattle.commit_table.specs.Machine.{Machine, Laws};
 pub trait Sharded: Drop {
     /// What lies in a shard.
     type Shard: Drop;
+
     type Event;
 
     ghost machine: { Self → Machine Self.Shard Self.Event };

@@ -138,7 +138,10 @@ fn a_miss_gives_back_what_was_taken(rt: HostRuntime) -> Result<(), Fail> {
     };
     let outcome = carry(&table, &mut first);
     assert!(rt; matches!(outcome, Outcome::Busy));
-    let misses = (CommitTable::misses(&first, 0), CommitTable::misses(&first, 1));
+    let misses = (
+        CommitTable::misses(&first, 0),
+        CommitTable::misses(&first, 1),
+    );
     assert!(rt; misses == (0, 1));
     table.give_back(&mut second, 1, value);
     let outcome = raise(&table, &mut second, 0);

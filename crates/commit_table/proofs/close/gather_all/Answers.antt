@@ -1,4 +1,4 @@
-use Rattle.std.proofs.Common.{rules, ◌≡◌, ◌∙◌, suc, ap, refl, sym, [], ◌∷◌}
+use Rattle.std.proofs.Common.{◌∙◌, suc, ap, []}
 use Rattle.commit_table.specs.Views.{gatherer}
 use Rattle.commit_table.proofs.Lists.{left_first, left_later, map_more}
 use Rattle.commit_table.proofs.close.gather_all.Goals as goal
@@ -19,5 +19,5 @@ loop-pass-preserved g c =
     record {
       table = c.gather_pass.ensures.seat ∙ c.loop-pass.invariant.table;
       told = c.gather_pass.ensures.told ∙ ap (λ z. (gatherer start z, [])) (map_more (λ p. p.known) c.loop-pass.yielded c.in-Some.pass _ _ before known);
-      left = λ k p e. c.loop-pass.invariant.left (suc k) p (left_later _ _ c.in-Some.pass p k c.in-Some.ensures.steps.0 e)
+      left = λ k p e. c.loop-pass.invariant.left (suc k) p (left_later _ _ c.in-Some.pass p k c.in-Some.ensures.steps.0 e);
     }

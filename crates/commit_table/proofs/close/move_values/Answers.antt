@@ -1,8 +1,4 @@
 use Rattle.std.proofs.Common.{rules, ◌≡◌, ◌≢◌, ◌+◌, ◌<◌, ◌∙◌, Some, ap, refl, sym, subst, arith, get_or, false, length-append}
-use mathlib.Core.Logic.{dite}
-use native.Mathlib.Decide.{ℕ_discrete}
-use mathlib.Core.Option.{some}
-use lib.ListN.{get_elem?}
 use Rattle.std.proofs.lemmas.List.{get_or-set_other}
 use Rattle.std.specs.Mem.Slots.{slots_filled, slots_items, slots_len}
 use Rattle.commit_table.proofs.Lists.{emptied_more, same_more}
@@ -27,5 +23,5 @@ loop-i-preserved g c =
       len = let a = pushed.len in let b = inv.len in omega arith;
       room = let a = pushed.capacity in let b = inv.room in omega arith;
       count = let a = ap Rattle.std.proofs.Common.length pushed.items in let b = inv.count in simp length-append at a ∙ ap (λ n. n + 1) b;
-      same = rw pushed.items (same_more (λ x. Some x) c.loop-i.room.items c.take_value.result (slots_items c.args.closed.slots) c.loop-i.i inv.count inv.same (rw (← inv.items) took.value))
+      same = rw pushed.items (same_more (λ x. Some x) c.loop-i.room.items c.take_value.result (slots_items c.args.closed.slots) c.loop-i.i inv.count inv.same (rw (← inv.items) took.value));
     }

@@ -16,7 +16,7 @@ invariant-loop-i g l = record {
   len : vec_len l.room ≡ l.i;
   room : l.count ≤ vec_capacity l.room;
   count : length l.room.items ≡ l.i;
-  same : (k : ℕ) (x : g.row.X.Denot) → slice_get l.room.items k ≡ Some x → get_elem? (slots_items l.fn.closed.slots) k ≡ some (Some x)
+  same : (k : ℕ) (x : g.row.X.Denot) → slice_get l.room.items k ≡ Some x → get_elem? (slots_items l.fn.closed.slots) k ≡ some (Some x);
 }
 
 abbrev pub decreases-loop-i : goal.decreases-loop-i

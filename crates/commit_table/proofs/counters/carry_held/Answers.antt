@@ -1,4 +1,4 @@
-use Rattle.std.proofs.Common.{◌≡◌, ◌∙◌, ap, sym}
+use Rattle.std.proofs.Common.{ap}
 use Rattle.commit_table.proofs.Raising.{Both, may_carry, first_later, carried_second}
 use Rattle.commit_table.proofs.counters.carry_held.Goals as goal
 

@@ -1,4 +1,4 @@
-use Rattle.std.proofs.Common.{◌≡◌, ◌∙◌, ap, sym}
+use Rattle.std.proofs.Common.{◌∙◌, ap, sym}
 use Rattle.commit_table.proofs.Raising.{may_after, seen_value, raised_stands, recorded, other_held, given}
 use Rattle.commit_table.proofs.counters.raise_held.Goals as goal
 
@@ -26,5 +26,5 @@ returns c =
       table = ap (λ p. p.table) c.give_back.ensures ∙ (c.commit-place.ensures.table ∙ c.look.ensures.table);
       told = (c.number.result, sym (ap (λ y. y.party) l.1.is) ∙ c.number.ensures, recorded c.args.pass.now.known c.look.new.pass.known c.commit-place.new.pass.known c.give_back.new.pass.known _ c.look.result c.commit-place.result c.args.counter l.0 t.0 l.1 t.1 back);
       given = given c.commit-place.new.pass.known c.give_back.new.pass.known c.args.counter back;
-      others = λ i ne. other_held c.args.pass.now.known c.look.new.pass.known c.commit-place.new.pass.known c.give_back.new.pass.known c.look.result c.commit-place.result c.args.counter c.number.result i l.0 t.0 c.args.value l.1 here t.1 back ne
+      others = λ i ne. other_held c.args.pass.now.known c.look.new.pass.known c.commit-place.new.pass.known c.give_back.new.pass.known c.look.result c.commit-place.result c.args.counter c.number.result i l.0 t.0 c.args.value l.1 here t.1 back ne;
     }

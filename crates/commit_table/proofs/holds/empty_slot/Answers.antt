@@ -1,4 +1,4 @@
-use Rattle.std.proofs.Common.{rules, ap, subst, sym, ◌∙◌, ◌≡◌, Some, None, [], ◌∷◌}
+use Rattle.std.proofs.Common.{rules, ap, ◌∙◌, None}
 use Rattle.commit_table.specs.Views.{at_rest}
 use Rattle.commit_table.proofs.Slots.{is_out, swapped}
 use Rattle.commit_table.proofs.holds.empty_slot.Goals as goal
@@ -15,5 +15,5 @@ park_slot-requires g c =
       size = c.requires.size;
       ready = (None, s.new_is);
       held = (c.requires.ready.1, ap (λ z. Rattle.commit_table.specs.Views.held_at z.held c.args.shard) s.known ∙ c.requires.ready.3);
-      shard = c.requires.shard
+      shard = c.requires.shard;
     }

@@ -1,4 +1,4 @@
-use Rattle.std.proofs.Common.{rules, arith}
+use Rattle.std.proofs.Common.{arith}
 use Rattle.commit_table.proofs.Joining.{opens_enters}
 use Rattle.commit_table.proofs.seats.open_gatherer.Goals as goal
 

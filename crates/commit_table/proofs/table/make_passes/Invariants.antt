@@ -7,5 +7,5 @@ invariant-loop-party g l = record {
   table : l.seat.table_id ≡ l.board.table_id;
   ready : l.seat.me ≡ (maker l.board.key.start l.party l.n, []);
   count : length l.passes.items ≡ l.party;
-  passes : (k : ℕ) → k < l.party → slice_get l.passes.items k ≡ Some (record { table = l.board.table_id; known = new_pass l.board.key.start (Some k) [] })
+  passes : (k : ℕ) → k < l.party → slice_get l.passes.items k ≡ Some (record { table = l.board.table_id; known = new_pass l.board.key.start (Some k) [] });
 }

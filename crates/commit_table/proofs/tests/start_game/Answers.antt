@@ -9,5 +9,5 @@ invariant_of-result c =
     record {
       two = made.table.1;
       first_is = made_first c.in_ok-table.table _ 0 _ _ (made.passes 0 (omega arith)) two.0 made.table.0;
-      second_is = made_first c.in_ok-table.table _ 1 _ _ (made.passes 1 (omega arith)) two.1 made.table.0
+      second_is = made_first c.in_ok-table.table _ 1 _ _ (made.passes 1 (omega arith)) two.1 made.table.0;
     }

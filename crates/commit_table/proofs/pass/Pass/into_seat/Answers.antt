@@ -1,4 +1,4 @@
-use Rattle.std.proofs.Common.{◌≡◌, Some, subst, sym, ap, ◌∙◌}
+use Rattle.std.proofs.Common.{sym, ap, ◌∙◌}
 use Rattle.commit_table.proofs.pass.Pass.into_seat.Goals as goal
 
 pub returns-clause-party : goal.returns-clause-party

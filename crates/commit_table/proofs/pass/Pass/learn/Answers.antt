@@ -1,4 +1,4 @@
-use Rattle.std.proofs.Common.{◌≡◌, length, ap, refl, subst, ◌∙◌}
+use Rattle.std.proofs.Common.{ap, subst, ◌∙◌}
 use Rattle.commit_table.specs.Calls.{Looked}
 use Rattle.commit_table.proofs.Looking.{told_of}
 use Rattle.commit_table.proofs.pass.Pass.learn.Goals as goal

@@ -1,4 +1,4 @@
-use Rattle.std.proofs.Common.{rules, ◌≡◌, ◌<◌, length, slice_index, ◌∙◌, ap, sym, subst, refl, arith}
+use Rattle.std.proofs.Common.{length, ◌∙◌, ap, sym, refl, arith}
 use Rattle.std.proofs.Math.ListN.{length-set}
 use Rattle.commit_table.specs.Calls.{Counts}
 use Rattle.commit_table.proofs.Slots.{rested}

@@ -1,4 +1,4 @@
-use Rattle.std.proofs.Common.{rules, ◌≡◌, ◌<◌, ℕ, List, ◌∙◌, ap, sym, subst}
+use Rattle.std.proofs.Common.{◌<◌, ◌∙◌, ap, sym, subst}
 use Rattle.commit_table.specs.Calls.{Closed}
 use Rattle.commit_table.proofs.Joining.{all_remembered, closed_there}
 use Rattle.commit_table.proofs.table.CommitTable.close.Goals as goal

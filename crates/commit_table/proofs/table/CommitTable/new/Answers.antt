@@ -1,4 +1,4 @@
-use Rattle.std.proofs.Common.{rules, ◌≡◌, length, vec_len, ◌∙◌, ap, arith}
+use Rattle.std.proofs.Common.{◌∙◌, arith}
 use Rattle.commit_table.proofs.Joining.{opens_with}
 use Rattle.commit_table.proofs.table.CommitTable.new.Goals as goal
 
