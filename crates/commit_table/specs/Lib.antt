@@ -9,3 +9,5 @@ pub mod Counters
 pub mod CounterLaws
 pub mod Attempts
 pub mod Outcomes
+pub mod Ranks
+pub mod RankLaws
