@@ -1,4 +1,12 @@
 //! One history under locks, committed by one addition.
+//!
+//! The state of a machine lies in shards. Threads share a `CommitTable` of them, and each holds a `Pass`: it takes the
+//! shards of an event, looks, commits the event by one atomic addition, and gives the shards back. What they commit is one
+//! legal history, which exists in proofs alone. A contract sees a pass as what it knows (`Known`): the history as it was
+//! seen, its own events, its looks, and the shards that it holds.
+//!
+//! `specs/Machine.antt` says what a machine has to be, `specs/Rule.antt` what holds between any two steps, and
+//! `specs/Calls.antt` what each call tells. Nothing here waits, and nothing but `CommitTable::new` takes memory.
 #![tactic(auto)]
 
 mod board;
