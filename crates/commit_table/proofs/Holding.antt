@@ -1,0 +1,249 @@
+-- The steps on a shard's word keep the rule: it is taken or missed, its slot goes home or out, and it is freed.
+use Rattle.std.proofs.Common.{◌≡◌, ◌≢◌, ℕ, suc, ◌+◌, add-one, ◌<◌, ◌≤◌, ◌⊎◌, inl, inr, false, eqb, List, [], ◌∷◌, length, get_or, set, All, Option, None, Some, refl, sym, subst, ◌∙◌, arith}
+use mathlib.Core.Logic.{dite}
+use mathlib.Core.Option.{some, none}
+use mathlib.Core.List.{IsPrefix}
+use native.Mathlib.Decide.{ℕ_discrete}
+use lib.ListN.{get_elem?}
+use prog.Atomic.{either}
+use Rattle.std.proofs.lemmas.List.{get_or-set_same}
+use Rattle.atomic_table.specs.Table.{State, Me, Act, keeps, takes as carries, gives, Valid, stepped, carried_after, Allows, step}
+use Rattle.atomic_table.proofs.Lists.{set_here, set_else, exchanged}
+use Rattle.commit_table.specs.declared.views.Known.{Known}
+use Rattle.commit_table.specs.declared.views.View.{View}
+use Rattle.commit_table.specs.Machine.{Machine, Laws, events_by}
+use Rattle.commit_table.specs.Views.{held_at, took, missed, gave_back, at_rest, reaching}
+use Rattle.commit_table.specs.Rule.{Free, Held, IsShard, Fits, Rule}
+use Rattle.commit_table.specs.Steps.{Of, Takes, Reaches, takes, parks, reaches, frees}
+use Rattle.commit_table.proofs.Lists.{prefix_self, at_here, one_there, held_here, held_else}
+use Rattle.commit_table.proofs.Moves.{with_view, still, moved, updated, updated_here, updated_else}
+
+module _ {S X E : Type 0} (of : S → Machine X E) (laws : (s : S) → Laws (of s)) (start : S) (n : ℕ) where
+  abbrev pub m : Machine X E
+  m = of start
+
+  abbrev pub K : Type 0
+  K = Known S E
+
+  abbrev pub St : Type 0
+  St = State (Option X) (View S E)
+
+  abbrev pub R : St → Type 0
+  R = Rule m start n
+
+  abbrev pub Mine : Type 0
+  Mine = Me (Option X) (View S E)
+
+  -- a view between two calls, or within one
+  abbrev pub resting : K → Option ℕ → List E → View S E
+  resting v out heard = record { known = v; out = out; heard = heard; gives = 0; ends = 0; gathers = false; gathered = []; closed = false }
+
+  pub rest_fits : (h : List E) (holder seat : ℕ → Option ℕ) (id : ℕ) (v : K) (out : Option ℕ) (heard : List E)
+      → ((s : S) → v.start ≡ Some s → s ≡ start) → IsPrefix v.seen h → IsPrefix heard h → All (λ k. k ≤ length v.seen) v.looks
+      → ((p : ℕ) → v.party ≡ Some p → (p < n) × (seat p ≡ Some id) × (events_by m.party p h ≡ v.mine))
+      → ((i : ℕ) (g : List E) → held_at v.held i ≡ Some g → (i < m.shards) × (holder i ≡ Some id))
+      → (v.party ≡ None → (i : ℕ) → held_at v.held i ≡ None)
+      → Fits m start n h holder seat id (resting v out heard)
+  rest_fits h holder seat id v out heard begun seen told looks party held bare = record {
+    begun = begun;
+    seen = seen;
+    heard = told;
+    looks = looks;
+    party = party;
+    makes = λ p low high. absurd (omega arith);
+    held = held;
+    none = bare;
+    gathers = λ e. absurd cc;
+    gathered = λ e. absurd cc;
+    closed = λ e. absurd cc;
+  }
+
+  -- a fact about the machine of the table's start is one about the machine of the view's
+  pub told : (s : St) (r : R s) (id : ℕ) (v : View S E) → get_elem? s.views id ≡ some v → (P : Machine X E → Type 0) → P m → Of of v.known P
+  told s r id v at P p st e = subst (λ z. P (of z)) (sym ((r.views id v at).begun st e)) p
+
+  free_shard : (s : St) (h : List E) (i : ℕ) (o : Option ℕ) → IsShard m start n s h i o → get_or s.words (suc i) 0 ≡ 0 → (o ≡ None) × Free m start n s h i
+  free_shard s h i None f z = (refl, f)
+  free_shard s h i (Some k) f z = absurd (let a = f.word in omega (arith, a, z))
+
+  held_word : (s : St) (h : List E) (i : ℕ) (o : Option ℕ) → IsShard m start n s h i o → get_or s.words (suc i) 0 ≢ 0 → get_or s.words (suc i) 0 ≡ 1
+  held_word s h i None f z = absurd (z f.word)
+  held_word s h i (Some k) f z = f.word
+
+  -- what the rule says of a shard that the seat holds
+  pub own_shard : (s : St) (r : R s) (id : ℕ) (v : View S E) → get_elem? s.views id ≡ some v → (i : ℕ) (g : List E) → held_at v.known.held i ≡ Some g
+      → (i < m.shards) × (r.holder i ≡ Some id) × IsPrefix g r.history × m.Agree i g r.history × (get_or s.words (suc i) 0 ≡ 1) × ((v.out ≡ Some i) ⊎ ((y : Option X) × (get_elem? s.homes i ≡ some (some y))))
+  own_shard s r id v at i g held =
+      let own = (r.views id v at).held i g held in
+      let d : Held m start n s r.history i id = subst (λ o. IsShard m start n s r.history i o) own.1 (r.shards i own.0) in
+      let same : v ≡ d.view = one_there s.views id v d.view at d.there in
+      let upto : d.upto ≡ g = (let a = d.held in let b : held_at d.view.known.held i ≡ Some g = subst (λ (z : View S E). held_at z.known.held i ≡ Some g) same held in cc) in (
+        own.0,
+        own.1,
+        subst (λ z. IsPrefix z r.history) upto d.begins,
+        subst (λ z. m.Agree i z r.history) upto d.agrees,
+        d.word,
+        subst (λ (z : View S E). (z.out ≡ Some i) ⊎ ((y : Option X) × (get_elem? s.homes i ≡ some (some y)))) (sym same) d.slot,
+      )
+
+  abbrev pub Goes : St → ℕ → ℕ → Mine → (Mine → Type 0) → ℕ → Type 0
+  Goes s k id me then y = (w : View S E) × (a : Act (Option X)) × Valid s.homes me.1 a × R (stepped s k y id me.1 w a) × then (w, carried_after me.1 a)
+
+  same_takes : (i j x : ℕ) (v : K) (after : Mine) → Takes of i v x after → suc i ≡ j + 1 → Takes of j v x after
+  same_takes i j x v after t e = subst (λ z. Takes of z v x after) (let q : i ≡ j = omega arith in q) t
+
+  take_rest : (slots id i : ℕ) (v : K) (p : ℕ) → i < m.shards → v.party ≡ Some p
+      → Allows R slots id (at_rest v, []) (suc i) (λ x. either (eqb x 0) 1 x) (takes of (step slots (suc i) 0 1 none) (at_rest v, []))
+  take_rest slots id i v p lt party s r wide at _ =
+      let h = r.history in
+      let f = r.views id (at_rest v) at in
+      let x : ℕ = get_or s.words (suc i) 0 in
+      let then : Mine → Type 0 = takes of (step slots (suc i) 0 1 none) (at_rest v, []) x in
+      exchanged x 0 1 (λ y. Goes s (suc i) id (at_rest v, []) then y)
+      (λ hit.
+      let is = free_shard s h i (r.holder i) (r.shards i lt) hit in
+      let w = reaching (took v i h) i in
+      let here : Held m start n (with_view m start n s (set s.words (suc i) 1) (set s.homes i none) id w) h i id = record {
+        word = get_or-set_same s.words (suc i) 1 0 (let z = r.size in omega (arith, z));
+        view = w;
+        there = at_here s.views id w (at_rest v) at;
+        upto = h;
+        held = held_here v.held i (Some h);
+        begins = prefix_self h;
+        agrees = (laws start).agree_self i h;
+        slot = inl refl;
+      } in
+      let fits = rest_fits h (updated m start n r.holder i (Some id)) r.seat id (took v i h) (Some i) [] f.begun f.seen f.heard f.looks f.party
+      (λ j g e. dite (ℕ_discrete j i)
+      (λ same. (subst (λ z. z < m.shards) (sym same) lt, updated_here m start n r.holder i j (Some id) same))
+      (λ ne. let old = f.held j g (sym (held_else v.held i j (Some h) ne) ∙ e) in (old.0, updated_else m start n r.holder i j (Some id) ne ∙ old.1)))
+      (λ e. absurd cc) in (
+        w,
+        carries i (Some is.1.value),
+        is.1.slot,
+        moved m start n s r id (at_rest v) w at i 1 (set s.homes i none) (Some id) (inl is.0)
+            (λ j ne. set_else s.homes i j none ne) (λ j ne. held_else v.held i j (Some h) ne) (λ j ne e. absurd cc) (λ q a. a) here fits,
+        λ j e. same_takes i j x v (w, (i, Some is.1.value) ∷ []) (inl (hit, (is.1.value, h, refl, f.seen, told s r id (at_rest v) at (λ z. z.Stands i is.1.value h) is.1.stands))) e,
+      ))
+      (λ miss.
+      let w = at_rest (missed v i) in
+      let fits = rest_fits h r.holder r.seat id (missed v i) None [] f.begun f.seen f.heard f.looks f.party f.held f.none in (
+        w,
+        keeps,
+        tt,
+        still m start n s r id (at_rest v) w at (suc i) refl refl (λ q a. a) fits,
+        λ j e. same_takes i j x v (w, []) (inr (held_word s h i (r.holder i) (r.shards i lt) miss, refl)) e,
+      ))
+
+  park_rest : (slots id i : ℕ) (v : K) (y : Option X) (g : List E) → slots ≡ m.shards → held_at v.held i ≡ Some g
+      → Allows R slots id (reaching v i, (i, y) ∷ []) (suc i) (λ x. x) (parks of (step slots (suc i) 0 0 none) (reaching v i, (i, y) ∷ []))
+  park_rest slots id i v y g sized held s r wide at _ =
+      let h = r.history in
+      let f = r.views id (reaching v i) at in
+      let own = own_shard s r id (reaching v i) at i g held in
+      let x : ℕ = get_or s.words (suc i) 0 in
+      let w = at_rest v in
+      let room : i < length s.homes = let lt = own.0 in omega (arith, wide, sized) in
+      let here : Held m start n (with_view m start n s (set s.words (suc i) x) (set s.homes i (some y)) id w) h i id = record {
+        word = get_or-set_same s.words (suc i) x 0 (let lt = own.0 in let z = r.size in omega (arith, z)) ∙ own.4;
+        view = w;
+        there = at_here s.views id w (reaching v i) at;
+        upto = g;
+        held = held;
+        begins = own.2;
+        agrees = own.3;
+        slot = inr (y, set_here s.homes i (some y) room);
+      } in
+      let fits = rest_fits h (updated m start n r.holder i (Some id)) r.seat id v None [] f.begun f.seen f.heard f.looks f.party
+      (λ j k e. let old = f.held j k e in (old.0, dite (ℕ_discrete j i) (λ same. updated_here m start n r.holder i j (Some id) same) (λ ne. updated_else m start n r.holder i j (Some id) ne ∙ old.1)))
+      f.none in (
+        w,
+        gives,
+        tt,
+        moved m start n s r id (reaching v i) w at i x (set s.homes i (some y)) (Some id) (inr own.1)
+            (λ j ne. set_else s.homes i j (some y) ne) (λ j ne. refl) (λ j ne e. absurd (ne (cc))) (λ q a. a) here fits,
+        refl,
+      )
+
+  reach_home : (s : St) (i : ℕ) (v : K) → (((at_rest v).out ≡ Some i) ⊎ ((y : Option X) × (get_elem? s.homes i ≡ some (some y)))) → (y : Option X) × (get_elem? s.homes i ≡ some (some y))
+  reach_home s i v (inl e) = absurd cc
+  reach_home s i v (inr y) = y
+
+  reach_rest : (slots id i : ℕ) (v : K) (g : List E) → held_at v.held i ≡ Some g
+      → Allows R slots id (at_rest v, []) (suc i) (λ x. x) (reaches of (step slots (suc i) 0 0 none) (at_rest v, []))
+  reach_rest slots id i v g held s r wide at _ =
+      let h = r.history in
+      let f = r.views id (at_rest v) at in
+      let own = own_shard s r id (at_rest v) at i g held in
+      let x : ℕ = get_or s.words (suc i) 0 in
+      let w = reaching v i in
+      let home = reach_home s i v own.5 in
+      let here : Held m start n (with_view m start n s (set s.words (suc i) x) (set s.homes i none) id w) h i id = record {
+        word = get_or-set_same s.words (suc i) x 0 (let lt = own.0 in let z = r.size in omega (arith, z)) ∙ own.4;
+        view = w;
+        there = at_here s.views id w (at_rest v) at;
+        upto = g;
+        held = held;
+        begins = own.2;
+        agrees = own.3;
+        slot = inl refl;
+      } in
+      let fits = rest_fits h (updated m start n r.holder i (Some id)) r.seat id v (Some i) [] f.begun f.seen f.heard f.looks f.party
+      (λ j k e. let old = f.held j k e in (old.0, dite (ℕ_discrete j i) (λ same. updated_here m start n r.holder i j (Some id) same) (λ ne. updated_else m start n r.holder i j (Some id) ne ∙ old.1)))
+      f.none in (
+        w,
+        carries i home.0,
+        home.1,
+        moved m start n s r id (at_rest v) w at i x (set s.homes i none) (Some id) (inr own.1)
+            (λ j ne. set_else s.homes i j none ne) (λ j ne. refl) (λ j ne e. absurd cc) (λ q a. a) here fits,
+        λ j e. subst (λ z. Reaches of z v (w, (i, home.0) ∷ [])) (let q : i ≡ j = omega arith in q) (home.0, refl),
+      )
+
+  free_rest : (slots id i : ℕ) (v : K) (x : X) (g : List E) → slots ≡ m.shards → held_at v.held i ≡ Some g → m.Stands i x g
+      → Allows R slots id (reaching v i, (i, Some x) ∷ []) (suc i) (λ _. 0) (λ _. frees of (step slots (suc i) 0 0 none) (reaching v i, (i, Some x) ∷ []) 0)
+  free_rest slots id i v x g sized held stands s r wide at _ =
+      let h = r.history in
+      let f = r.views id (reaching v i) at in
+      let own = own_shard s r id (reaching v i) at i g held in
+      let w = at_rest (gave_back v i) in
+      let room : i < length s.homes = let lt = own.0 in omega (arith, wide, sized) in
+      let here : Free m start n (with_view m start n s (set s.words (suc i) 0) (set s.homes i (some (Some x))) id w) h i = record {
+        word = get_or-set_same s.words (suc i) 0 0 (let lt = own.0 in let z = r.size in omega (arith, z));
+        value = x;
+        slot = set_here s.homes i (some (Some x)) room;
+        stands = (laws start).stands i x g h stands own.3;
+      } in
+      let fits = rest_fits h (updated m start n r.holder i None) r.seat id (gave_back v i) None [] f.begun f.seen f.heard f.looks f.party
+      (λ j k e. dite (ℕ_discrete j i)
+      (λ same. let z : held_at ((i, None) ∷ v.held) j ≡ None = subst (λ q. held_at ((i, None) ∷ v.held) q ≡ None) (sym same) (held_here v.held i None) in absurd cc)
+      (λ ne. let old = f.held j k (sym (held_else v.held i j None ne) ∙ e) in (old.0, updated_else m start n r.holder i j None ne ∙ old.1)))
+      (λ e j. dite (ℕ_discrete j i)
+      (λ same. subst (λ q. held_at ((i, None) ∷ v.held) q ≡ None) (sym same) (held_here v.held i None))
+      (λ ne. held_else v.held i j None ne ∙ f.none e j)) in (
+        w,
+        gives,
+        tt,
+        moved m start n s r id (reaching v i) w at i 0 (set s.homes i (some (Some x))) None (inr own.1)
+            (λ j ne. set_else s.homes i j (some (Some x)) ne) (λ j ne. held_else v.held i j None ne) (λ j ne e. absurd (ne (cc))) (λ q a. a) here fits,
+        λ j e. let P : ℕ → Type 0 = λ z. ◌≡◌ {A = Mine} (w, []) (at_rest (gave_back v z), []) in subst P (let q : i ≡ j = omega arith in q) refl,
+      )
+
+  pub take_allowed : (slots id i : ℕ) (me : Mine) → me ≡ (at_rest me.0.known, []) → (p : ℕ) → i < m.shards → me.0.known.party ≡ Some p
+      → Allows R slots id me (i + 1) (λ x. either (eqb x 0) 1 x) (takes of (step slots (i + 1) 0 1 none) me)
+  take_allowed slots id i me ready p lt party = subst (λ k. Allows R slots id me k (λ x. either (eqb x 0) 1 x) (takes of (step slots k 0 1 none) me)) (sym (add-one i))
+      (subst (λ z. Allows R slots id z (suc i) (λ x. either (eqb x 0) 1 x) (takes of (step slots (suc i) 0 1 none) z)) (sym ready) (take_rest slots id i me.0.known p lt party))
+
+  pub park_allowed : (slots id i : ℕ) (me : Mine) (y : Option X) → me ≡ (reaching me.0.known i, (i, y) ∷ []) → (g : List E) → slots ≡ m.shards → held_at me.0.known.held i ≡ Some g
+      → Allows R slots id me (i + 1) (λ x. x) (parks of (step slots (i + 1) 0 0 none) me)
+  park_allowed slots id i me y ready g sized held = subst (λ k. Allows R slots id me k (λ x. x) (parks of (step slots k 0 0 none) me)) (sym (add-one i))
+      (subst (λ z. Allows R slots id z (suc i) (λ x. x) (parks of (step slots (suc i) 0 0 none) z)) (sym ready) (park_rest slots id i me.0.known y g sized held))
+
+  pub reach_allowed : (slots id i : ℕ) (me : Mine) → me ≡ (at_rest me.0.known, []) → (g : List E) → held_at me.0.known.held i ≡ Some g
+      → Allows R slots id me (i + 1) (λ x. x) (reaches of (step slots (i + 1) 0 0 none) me)
+  reach_allowed slots id i me ready g held = subst (λ k. Allows R slots id me k (λ x. x) (reaches of (step slots k 0 0 none) me)) (sym (add-one i))
+      (subst (λ z. Allows R slots id z (suc i) (λ x. x) (reaches of (step slots (suc i) 0 0 none) z)) (sym ready) (reach_rest slots id i me.0.known g held))
+
+  pub free_allowed : (slots id i : ℕ) (me : Mine) (x : X) → me ≡ (reaching me.0.known i, (i, Some x) ∷ []) → (g : List E) → slots ≡ m.shards → held_at me.0.known.held i ≡ Some g → m.Stands i x g
+      → Allows R slots id me (i + 1) (λ _. 0) (λ _. frees of (step slots (i + 1) 0 0 none) me 0)
+  free_allowed slots id i me x ready g sized held stands = subst (λ k. Allows R slots id me k (λ _. 0) (λ _. frees of (step slots k 0 0 none) me 0)) (sym (add-one i))
+      (subst (λ z. Allows R slots id z (suc i) (λ _. 0) (λ _. frees of (step slots (suc i) 0 0 none) z 0)) (sym ready) (free_rest slots id i me.0.known x g sized held stands))

@@ -1,0 +1,424 @@
+-- Making and joining seats keeps the rule, and so do the first state and the last look.
+use Rattle.std.proofs.Common.{◌≡◌, ℕ, zero, suc, ◌+◌, add-one, ◌<◌, ◌≤◌, inl, inr, ⊎_elim, true, cond, List, [], ◌∷◌, ◌++◌, map, replicate, slice_get, length, get_or, set, All, Option, None, Some, refl, ap, sym, subst, ◌∙◌, arith}
+use mathlib.Core.Logic.{dite}
+use mathlib.Core.Option.{some, none, some-injective, some-ne-none}
+use mathlib.Core.List.{IsPrefix}
+use native.Mathlib.Decide.{ℕ_discrete}
+use lib.ListN.{get_elem?}
+use Rattle.std.proofs.Math.Dec.{ltb}
+use Rattle.std.proofs.Math.Decide.{dec_lt}
+use Rattle.std.proofs.lemmas.Bool.{lt-ltb, le-ltb}
+use Rattle.std.proofs.lemmas.List.Elements.{All-nil}
+use Rattle.std.proofs.lemmas.Option.{slice_get_within}
+use lib.ListN.{length-replicate}
+use Rattle.atomic_table.specs.Table.{State, Me, keeps, Allows, Splits, Joins, Enters, Final, Seen, opening, step}
+use Rattle.atomic_table.proofs.Lists.{at_set, set_else, set_again, at_longer, at_last, at_map}
+use Rattle.commit_table.specs.declared.views.Known.{Known}
+use Rattle.commit_table.specs.declared.views.View.{View}
+use Rattle.commit_table.specs.Machine.{Machine, Laws, events_by}
+use Rattle.commit_table.specs.Views.{held_at, new_pass, noted, at_rest, hearing, maker, gatherer, closer, tally_of, spent}
+use Rattle.commit_table.specs.Rule.{Free, Held, IsShard, Remembers, Answers, IsParty, Gathered, Fits, Rule}
+use Rattle.commit_table.specs.Calls.{AreShards, Closed, PassValue}
+use Rattle.commit_table.specs.Steps.{Ends, opens, ends}
+use Rattle.commit_table.proofs.Lists.{prefix_self, prefix_none, at_here, one_there, at_end, found_there, get_some, some_get}
+use Rattle.commit_table.proofs.Moves.{with_view, shard_kept, party_kept, still, updated, updated_here, updated_else}
+use Rattle.commit_table.proofs.Holding.{rest_fits}
+
+module _ {S X E : Type 0} (of : S → Machine X E) (laws : (s : S) → Laws (of s)) (start : S) (n : ℕ) where
+  abbrev M : Machine X E
+  M = of start
+
+  abbrev V : Type 0
+  V = View S E
+
+  abbrev St : Type 0
+  St = State (Option X) V
+
+  abbrev R : St → Type 0
+  R = Rule M start n
+
+  -- one more view
+  abbrev pub with_one : St → V → St
+  with_one s u = record { words = s.words; homes = s.homes; views = s.views ++ u ∷ [] }
+
+  shard_grown : (s : St) (h : List E) (u : V) (j : ℕ) (o : Option ℕ) → IsShard M start n s h j o → IsShard M start n (with_one s u) h j o
+  shard_grown s h u j None r = record { word = r.word; value = r.value; slot = r.slot; stands = r.stands }
+  shard_grown s h u j (Some k) r = record { word = r.word; view = r.view; there = at_longer s.views (u ∷ []) k r.view r.there; upto = r.upto; held = r.held; begins = r.begins; agrees = r.agrees; slot = r.slot }
+
+  party_grown : (s : St) (h : List E) (u : V) (p : ℕ) (o : Option ℕ) → IsParty M start n s h p o → IsParty M start n (with_one s u) h p o
+  party_grown s h u p None r = r
+  party_grown s h u p (Some k) r = (r.0, at_longer s.views (u ∷ []) k r.0 r.1, r.2)
+
+  -- a new view that has no party
+  pub grown : (s : St) (r : R s) (u : V) → Fits M start n r.history r.holder r.seat (length s.views) u → R (with_one s u)
+  grown s r u fits = record {
+    history = r.history;
+    holder = r.holder;
+    seat = r.seat;
+    size = r.size;
+    legal = r.legal;
+    word = r.word;
+    shards = λ j lt. shard_grown s r.history u j (r.holder j) (r.shards j lt);
+    parties = λ p. party_grown s r.history u p (r.seat p) (r.parties p);
+    views = λ k w there. ⊎_elim (λ t. r.views k w t)
+        (λ t. subst (λ (z : ℕ). Fits M start n r.history r.holder r.seat z w) (sym t.0) (subst (λ (z : V). Fits M start n r.history r.holder r.seat (length s.views) z) t.1 fits))
+        (at_end s.views u w k there);
+  }
+
+  bare_fits : (h : List E) (holder seat : ℕ → Option ℕ) (id : ℕ) (v : Known S E) (out : Option ℕ) (heard : List E)
+      → ((s : S) → v.start ≡ Some s → s ≡ start) → IsPrefix v.seen h → v.party ≡ None → v.looks ≡ [] → v.held ≡ [] → Fits M start n h holder seat id (at_rest v)
+  bare_fits h holder seat id v out heard begun seen party looks held =
+      rest_fits of laws start n h holder seat id v None [] begun seen (prefix_none h)
+      (subst (λ ks. All (λ k. k ≤ length v.seen) ks) (sym looks) (All-nil (λ k. k ≤ length v.seen)))
+      (λ p e. absurd cc) (λ i g e. let a : held_at v.held i ≡ None = ap (λ z. held_at z i) held in absurd cc) (λ e i. ap (λ z. held_at z i) held)
+
+  pub note_splits : (id : ℕ) (v : Known S E) → Splits R id (at_rest v) (at_rest v) (at_rest (noted v))
+  note_splits id v s r at =
+      let f = r.views id (at_rest v) at in
+      let u = at_rest (noted v) in
+      subst (λ (vs : List V). R (record { words = s.words; homes = s.homes; views = vs ++ u ∷ [] })) (sym (set_again s.views id (at_rest v) at))
+      (grown s r u (bare_fits r.history r.holder r.seat (length s.views) (noted v) None [] f.begun f.seen refl refl refl))
+
+  -- a view that takes in passes, or remembers what they were
+  keeper_fits : (h : List E) (holder seat : ℕ → Option ℕ) (id : ℕ) (v : V) → ((s : S) → v.known.start ≡ Some s → s ≡ start) → IsPrefix v.known.seen h
+      → v.heard ≡ [] → v.known.looks ≡ [] → v.known.party ≡ None → v.known.held ≡ [] → v.ends ≡ 0
+      → (v.gathers ≡ true → (k : ℕ) (w : Known S E) → get_elem? v.gathered k ≡ some w → Gathered M start n h seat id w)
+      → (v.closed ≡ true → (v.gathers ≡ true) × (v.known.seen ≡ h) × ((p : ℕ) → p < n → Remembers M start n v.gathered p))
+      → Fits M start n h holder seat id v
+  keeper_fits h holder seat id v begun seen heard looks party held makes gathered closed = record {
+    begun = begun;
+    seen = seen;
+    heard = subst (λ z. IsPrefix z h) (sym heard) (prefix_none h);
+    looks = subst (λ ks. All (λ k. k ≤ length v.known.seen) ks) (sym looks) (All-nil (λ k. k ≤ length v.known.seen));
+    party = λ p e. absurd cc;
+    makes = λ p low high. absurd (omega arith);
+    held = λ i g e. let a : held_at v.known.held i ≡ None = ap (λ z. held_at z i) held in absurd cc;
+    none = λ e i. ap (λ z. held_at z i) held;
+    gathers = λ e. party;
+    gathered = gathered;
+    closed = closed;
+  }
+
+  pub tally_splits : (id : ℕ) (h : List E) (l : List (Known S E)) → Splits R id (closer start h l) (closer start h l) (tally_of (closer start h l))
+  tally_splits id h l s r at =
+      let v = closer start h l in
+      let f = r.views id v at in
+      let u = tally_of v in
+      subst (λ (vs : List V). R (record { words = s.words; homes = s.homes; views = vs ++ u ∷ [] })) (sym (set_again s.views id v at))
+      (grown s r u (keeper_fits r.history r.holder r.seat (length s.views) u f.begun f.seen refl refl refl refl refl (λ e. absurd cc) (λ e. absurd cc)))
+
+  pub opens_enters : (slots : ℕ) → Enters R slots 0 (λ x w. opens of (step slots 0 0 0 none) (maker start 0 n, []) x (w, []))
+  opens_enters slots s r wide _ =
+      let u = gatherer start [] in
+      (u, grown s r u (keeper_fits r.history r.holder r.seat (length s.views) u (λ z e. cc) (prefix_none r.history) refl refl refl refl refl (λ e k w there. absurd (some-ne-none w (sym there))) (λ e. absurd cc)), refl)
+
+  -- other views, where a party changes hands that was not theirs
+  fits_seat : (h : List E) (holder seat seat' : ℕ → Option ℕ) (k : ℕ) (u : V) → ((p : ℕ) → seat p ≡ Some k → seat' p ≡ Some k)
+      → Fits M start n h holder seat k u → Fits M start n h holder seat' k u
+  fits_seat h holder seat seat' k u same f = record {
+    begun = f.begun;
+    seen = f.seen;
+    heard = f.heard;
+    looks = f.looks;
+    party = λ p e. let a = f.party p e in (a.0, same p a.1, a.2);
+    makes = λ p low high. let a = f.makes p low high in (a.0, same p a.1, a.2, a.3);
+    held = f.held;
+    none = f.none;
+    gathers = f.gathers;
+    gathered = λ on j w there. let a = f.gathered on j w there in record { seen = a.seen; party = λ p e. let b = a.party p e in (b.0, same p b.1, b.2) };
+    closed = f.closed;
+  }
+
+  maker_fits : (h : List E) (holder seat : ℕ → Option ℕ) (id k : ℕ) → ((p : ℕ) → k ≤ p → p < n → (seat p ≡ Some id) × (events_by M.party p h ≡ [])) → Fits M start n h holder seat id (maker start k n)
+  maker_fits h holder seat id k rest = record {
+    begun = λ z e. cc;
+    seen = prefix_none h;
+    heard = prefix_none h;
+    looks = All-nil (λ j. j ≤ 0);
+    party = λ p e. absurd cc;
+    makes = λ p low high. let a = rest p low high in (high, a.0, a.1, refl);
+    held = λ i g e. absurd cc;
+    none = λ e i. refl;
+    gathers = λ e. refl;
+    gathered = λ e. absurd cc;
+    closed = λ e. absurd cc;
+  }
+
+  -- the next pass is made
+  pub pass_splits : (id k : ℕ) → k < n → Splits R id (maker start k n) (maker start (k + 1) n) (at_rest (new_pass start (Some k) []))
+  pass_splits id k lt s r at =
+      let h = r.history in
+      let v = maker start k n in
+      let left = maker start (k + 1) n in
+      let right : V = at_rest (new_pass start (Some k) []) in
+      let f = r.views id v at in
+      let new : ℕ = length (set s.views id left) in
+      let seat' = updated M start n r.seat k (Some new) in
+      let one = with_view M start n s s.words s.homes id left in
+      let mine = f.makes k (omega arith) lt in
+      let own = rest_fits of laws start n h r.holder seat' new (new_pass start (Some k) []) None [] (λ z e. cc) (prefix_none h) (prefix_none h) (All-nil (λ j. j ≤ 0))
+      (λ p e. let q : k ≡ p = cc in subst (λ z. (z < n) × (seat' z ≡ Some new) × (events_by M.party z h ≡ [])) q (lt, updated_here M start n r.seat k k (Some new) refl, mine.2)) (λ i g e. absurd cc) (λ e i. refl) in
+      let rest = maker_fits h r.holder seat' id (k + 1) (λ p low high. let a = f.makes p (omega arith) high in (updated_else M start n r.seat k p (Some new) (λ e. absurd (omega arith)) ∙ a.1, a.2)) in
+      record {
+        history = h;
+        holder = r.holder;
+        seat = seat';
+        size = r.size;
+        legal = r.legal;
+        word = r.word;
+        shards = λ j below. shard_grown one h right j (r.holder j) (shard_kept M start n s h s.words s.homes id v left j at refl refl (λ g e. absurd cc) (λ e. absurd cc) (r.holder j) (r.shards j below));
+        parties = λ p. dite (ℕ_discrete p k)
+            (λ same. subst (λ o. IsParty M start n (with_one one right) h p o) (sym (updated_here M start n r.seat k p (Some new) same)) (right, at_last (set s.views id left) right new refl, inl (ap Some (sym same))))
+            (λ ne. subst (λ o. IsParty M start n (with_one one right) h p o) (sym (updated_else M start n r.seat k p (Some new) ne))
+            (party_grown one h right p (r.seat p) (party_kept M start n s h s.words s.homes id v left p at
+            (λ a. ⊎_elim (λ x. absurd cc) (λ x. ⊎_elim (λ y. inr (inl (let z = y.0 in omega arith, y.1))) (λ y. absurd (let z = y.0 in cc)) x) a) (r.seat p) (r.parties p))));
+        views = λ j u there. ⊎_elim
+            (λ t. ⊎_elim
+            (λ z. subst (λ (i : ℕ). Fits M start n h r.holder seat' i u) (sym z.0) (subst (λ (i : V). Fits M start n h r.holder seat' id i) z.1 rest))
+            (λ z. fits_seat h r.holder r.seat seat' j u (λ p e. updated_else M start n r.seat k p (Some new) (λ same. z.0 (let a : r.seat k ≡ Some j = ap r.seat (sym same) ∙ e in let b = mine.1 in cc)) ∙ e) (r.views j u z.1))
+            (at_set s.views id j left u t))
+            (λ t. subst (λ (i : ℕ). Fits M start n h r.holder seat' i u) (sym t.0) (subst (λ (i : V). Fits M start n h r.holder seat' new i) t.1 own))
+            (at_end (set s.views id left) right u j there);
+      }
+
+  -- what is left of a seat fits in any place
+  spent_fits : (h : List E) (holder seat : ℕ → Option ℕ) (id : ℕ) → Fits M start n h holder seat id spent
+  spent_fits h holder seat id = rest_fits of laws start n h holder seat id (spent.known) None [] (λ z e. absurd cc) (prefix_none h) (prefix_none h) (All-nil (λ j. j ≤ 0)) (λ p e. absurd cc) (λ i g e. absurd cc) (λ e i. refl)
+
+  -- a note is taken in
+  pub note_joins : (id other : ℕ) (v w : Known S E) → w.party ≡ None → Joins R id (at_rest v) other (at_rest w) (hearing v w.seen) spent
+  note_joins id other v w bare s r at apart there =
+      let h = r.history in
+      let both = hearing v w.seen in
+      let f = r.views id (at_rest v) at in
+      let was : get_elem? s.views other ≡ some (at_rest w) = sym (set_else s.views id other both apart) ∙ there in
+      let g = r.views other (at_rest w) was in
+      let one = with_view M start n s s.words s.homes id both in
+      let two = with_view M start n one s.words s.homes other spent in
+      let fits = rest_fits of laws start n h r.holder r.seat id v None w.seen f.begun f.seen g.seen f.looks f.party f.held f.none in
+      record {
+        history = h;
+        holder = r.holder;
+        seat = r.seat;
+        size = r.size;
+        legal = r.legal;
+        word = r.word;
+        shards = λ j lt. shard_kept M start n one h s.words s.homes other (at_rest w) spent j there refl refl (λ x e. absurd (let a = g.none bare j in cc)) (λ e. e) (r.holder j)
+            (shard_kept M start n s h s.words s.homes id (at_rest v) both j at refl refl (λ x e. e) (λ e. e) (r.holder j) (r.shards j lt));
+        parties = λ p. party_kept M start n one h s.words s.homes other (at_rest w) spent p there
+            (λ a. ⊎_elim (λ x. absurd cc) (λ x. ⊎_elim (λ y. absurd (let z = y.0 in let z' = y.1 in omega arith)) (λ y. absurd (let z = y.0 in cc)) x) a) (r.seat p)
+            (party_kept M start n s h s.words s.homes id (at_rest v) both p at (λ a. a) (r.seat p) (r.parties p));
+        views = λ k u t. ⊎_elim
+            (λ z. subst (λ (i : ℕ). Fits M start n h r.holder r.seat i u) (sym z.0) (subst (λ (i : V). Fits M start n h r.holder r.seat other i) z.1 (spent_fits h r.holder r.seat other)))
+            (λ z. ⊎_elim
+            (λ y. subst (λ (i : ℕ). Fits M start n h r.holder r.seat i u) (sym y.0) (subst (λ (i : V). Fits M start n h r.holder r.seat id i) y.1 fits))
+            (λ y. r.views k u y.1)
+            (at_set s.views id k both u z.1))
+            (at_set (set s.views id both) other k spent u t);
+      }
+
+  remembers_more : (l : List (Known S E)) (w : Known S E) (p : ℕ) → Remembers M start n l p → Remembers M start n (l ++ w ∷ []) p
+  remembers_more l w p a = (a.0, a.1, at_longer l (w ∷ []) a.0 a.1 a.2, a.3)
+
+  -- a pass is taken in
+  pub pass_joins : (id other : ℕ) (l : List (Known S E)) (w : Known S E) (p : ℕ) → w.party ≡ Some p → ((i : ℕ) → held_at w.held i ≡ None)
+      → Joins R id (gatherer start l) other (at_rest w) (gatherer start (l ++ w ∷ [])) spent
+  pass_joins id other l w p party bare s r at apart there =
+      let h = r.history in
+      let v : V = gatherer start l in
+      let both : V = gatherer start (l ++ w ∷ []) in
+      let f = r.views id v at in
+      let was : get_elem? s.views other ≡ some (at_rest w) = sym (set_else s.views id other both apart) ∙ there in
+      let g = r.views other (at_rest w) was in
+      let own = g.party p party in
+      let seat' = updated M start n r.seat p (Some id) in
+      let one = with_view M start n s s.words s.homes id both in
+      let two = with_view M start n one s.words s.homes other spent in
+      let more = remembers_more l w in
+      let same : (q : ℕ) → r.seat q ≡ Some id → seat' q ≡ Some id = λ q e. dite (ℕ_discrete q p) (λ is. updated_here M start n r.seat p q (Some id) is) (λ ne. updated_else M start n r.seat p q (Some id) ne ∙ e) in
+      let here : get_elem? (set s.views id both) id ≡ some both = at_here s.views id both v at in
+      let stays : get_elem? two.views id ≡ some both = set_else (set s.views id both) other id spent (λ e. apart (sym e)) ∙ here in
+      let new : Gathered M start n h seat' id w = record {
+        seen = g.seen;
+        party = λ q e. let is : p ≡ q = cc in subst (λ z. (z < n) × (seat' z ≡ Some id) × (events_by M.party z h ≡ w.mine)) is (own.0, updated_here M start n r.seat p p (Some id) refl, own.2);
+      } in
+      let fits = keeper_fits h r.holder seat' id both (λ z e. cc) (prefix_none h) refl refl refl refl refl
+      (λ e k u t. ⊎_elim
+      (λ old. let a = f.gathered refl k u old in record { seen = a.seen; party = λ q its. let b = a.party q its in (b.0, same q b.1, b.2) })
+      (λ last. subst (λ (z : Known S E). Gathered M start n h seat' id z) last.1 new)
+      (at_end l w u k t))
+      (λ e. absurd cc) in
+      record {
+        history = h;
+        holder = r.holder;
+        seat = seat';
+        size = r.size;
+        legal = r.legal;
+        word = r.word;
+        shards = λ j lt. shard_kept M start n one h s.words s.homes other (at_rest w) spent j there refl refl (λ x e. absurd (let a = bare j in cc)) (λ e. e) (r.holder j)
+            (shard_kept M start n s h s.words s.homes id v both j at refl refl (λ x e. absurd cc) (λ e. absurd cc) (r.holder j) (r.shards j lt));
+        parties = λ q. dite (ℕ_discrete q p)
+            (λ is. subst (λ o. IsParty M start n two h q o) (sym (updated_here M start n r.seat p q (Some id) is)) (both, stays, inr (inr (refl, (length l, w, at_last l w (length l) refl, party ∙ ap Some (sym is))))))
+            (λ ne. subst (λ o. IsParty M start n two h q o) (sym (updated_else M start n r.seat p q (Some id) ne))
+            (party_kept M start n one h s.words s.homes other (at_rest w) spent q there
+            (λ a. ⊎_elim (λ x. absurd (ne (cc))) (λ x. ⊎_elim (λ y. absurd (let z = y.0 in let z' = y.1 in omega arith)) (λ y. absurd (let z = y.0 in cc)) x) a) (r.seat q)
+            (party_kept M start n s h s.words s.homes id v both q at
+            (λ a. ⊎_elim (λ x. absurd cc) (λ x. ⊎_elim (λ y. absurd (let z = y.0 in let z' = y.1 in omega arith)) (λ y. inr (inr (refl, more q y.1))) x) a) (r.seat q) (r.parties q))));
+        views = λ k u t. ⊎_elim
+            (λ z. subst (λ (i : ℕ). Fits M start n h r.holder seat' i u) (sym z.0) (subst (λ (i : V). Fits M start n h r.holder seat' other i) z.1 (spent_fits h r.holder seat' other)))
+            (λ z. ⊎_elim
+            (λ y. subst (λ (i : ℕ). Fits M start n h r.holder seat' i u) (sym y.0) (subst (λ (i : V). Fits M start n h r.holder seat' id i) y.1 fits))
+            (λ y. fits_seat h r.holder r.seat seat' k u (λ q e. updated_else M start n r.seat p q (Some id) (λ is. z.0 (let a : r.seat p ≡ Some k = ap r.seat (sym is) ∙ e in let b = own.1 in cc)) ∙ e) (r.views k u y.1))
+            (at_set s.views id k both u z.1))
+            (at_set (set s.views id both) other k spent u t);
+      }
+
+  -- a party that a view answers for is below n
+  answered : (h : List E) (holder seat : ℕ → Option ℕ) (id : ℕ) (v : V) (p : ℕ) → Fits M start n h holder seat id v → Answers M start n v p → p < n
+  answered h holder seat id v p f a = ⊎_elim (λ x. (f.party p x).0) (λ x. ⊎_elim (λ y. (f.makes p y.0 y.1).0) (λ y. ((f.gathered y.0 y.1.0 y.1.1 y.1.2).party p y.1.3).0) x) a
+
+  unanswered : (s : St) (r : R s) (p : ℕ) → ¬ (p < n) → (o : Option ℕ) → IsParty M start n s r.history p o → events_by M.party p r.history ≡ []
+  unanswered s r p over None z = z
+  unanswered s r p over (Some k) z = absurd (over (answered r.history r.holder r.seat k z.0 p (r.views k z.0 z.1) z.2))
+
+  -- the last look: all passes were taken in
+  last_rest : (slots id : ℕ) (l : List (Known S E)) → ((p : ℕ) → p < n → Remembers M start n l p)
+      → Allows R slots id (gatherer start l, []) 0 (λ x. x) (ends of (step slots 0 0 0 none) (gatherer start l, []))
+  last_rest slots id l all s r wide at _ =
+      let h = r.history in
+      let v : V = gatherer start l in
+      let w : V = closer start h l in
+      let f = r.views id v at in
+      let fits = keeper_fits h r.holder r.seat id w (λ z e. cc) (prefix_self h) refl refl refl refl refl f.gathered (λ e. (refl, refl, all)) in
+      let told : Ends of M l h = record {
+        legal = r.legal;
+        seen = λ k u there. (f.gathered refl k u there).seen;
+        own = λ k u there p its. ((f.gathered refl k u there).party p its).2;
+        others = λ p apart. unanswered s r p (λ lt. let a = all p lt in apart a.0 a.1 a.2 a.3) (r.seat p) (r.parties p);
+      } in (
+        w,
+        keeps,
+        tt,
+        still M start n s r id v w at 0 refl refl (λ q a. a) fits,
+        λ z e. let is : start ≡ z = cc in subst (λ (y : S). (k : List E) × (◌≡◌ {A = Me (Option X) V} (w, []) (closer y k l, [])) × (get_or s.words 0 0 ≡ length k) × Ends of (of y) l k) is (h, refl, r.word, told),
+      )
+
+  pub last_allowed : (slots id : ℕ) (me : Me (Option X) V) (l : List (Known S E)) → me ≡ (gatherer start l, []) → ((p : ℕ) → p < n → Remembers M start n l p)
+      → Allows R slots id me 0 (λ x. x) (ends of (step slots 0 0 0 none) me)
+  last_allowed slots id me l ready all = subst (λ z. Allows R slots id z 0 (λ x. x) (ends of (step slots 0 0 0 none) z)) (sym ready) (last_rest slots id l all)
+
+  -- once the table is closed no view has a party, so no shard is held
+  holder_known : (s : St) (r : R s) (id : ℕ) (h : List E) (l : List (Known S E)) → get_elem? s.views id ≡ some (closer start h l) → (i k : ℕ) (x : Held M start n s r.history i k) → (o : Option ℕ) → x.view.known.party ≡ o → ⊥
+  holder_known s r id h l at i k x None e = let a = (r.views k x.view x.there).none e i in let b = x.held in cc
+  holder_known s r id h l at i k x (Some p) e =
+      let f = r.views id (closer start h l) at in
+      let g = (r.views k x.view x.there).party p e in
+      let a = (f.closed refl).2 p g.0 in
+      let b = (f.gathered refl a.0 a.1 a.2).party p a.3 in
+      let same : k ≡ id = (let c = g.1 in let d = b.1 in cc) in
+      let is : x.view ≡ closer start h l = one_there s.views id x.view (closer start h l) (subst (λ (z : ℕ). get_elem? s.views z ≡ some x.view) same x.there) at in
+      let none : x.view.known.party ≡ None = ap (λ (z : V). z.known.party) is in cc
+
+  unheld : (s : St) (r : R s) (id : ℕ) (h : List E) (l : List (Known S E)) → get_elem? s.views id ≡ some (closer start h l) → (i : ℕ) (o : Option ℕ) → IsShard M start n s r.history i o → Free M start n s r.history i
+  unheld s r id h l at i None x = x
+  unheld s r id h l at i (Some k) x = absurd (holder_known s r id h l at i k x x.view.known.party refl)
+
+  pub closed_shards : (s : St) (r : R s) (id : ℕ) (h : List E) (l : List (Known S E)) → get_elem? s.views id ≡ some (closer start h l) → (i : ℕ) → i < M.shards → Free M start n s h i
+  closed_shards s r id h l at i lt = subst (λ z. Free M start n s z i) (sym ((r.views id (closer start h l) at).closed refl).1) (unheld s r id h l at i (r.holder i) (r.shards i lt))
+
+  -- the first state
+
+  party_first : (ws : List ℕ) (xs : List (Option X)) (p : ℕ) → Dec (p < n) → IsParty M start n (opening ws xs (maker start 0 n)) [] p (cond (ltb p n) (Some 0) None)
+  party_first ws xs p (yes lt) = subst (λ b. IsParty M start n (opening ws xs (maker start 0 n)) [] p (cond b (Some 0) None)) (sym (lt-ltb p n lt)) (maker start 0 n, refl, inr (inl (omega arith, lt)))
+  party_first ws xs p (no over) = subst (λ b. IsParty M start n (opening ws xs (maker start 0 n)) [] p (cond b (Some 0) None)) (sym (le-ltb p n (omega arith))) refl
+
+  first_view : (ws : List ℕ) (id : ℕ) (v : V) → get_elem? (maker start 0 n ∷ []) id ≡ some v → Fits M start n [] (λ _. None) (λ p. cond (ltb p n) (Some 0) None) id v
+  first_view ws zero v there = let is : maker start 0 n ≡ v = some-injective (maker start 0 n) v there in subst (λ (z : V). Fits M start n [] (λ _. None) (λ p. cond (ltb p n) (Some 0) None) 0 z) is
+      (maker_fits [] (λ _. None) (λ p. cond (ltb p n) (Some 0) None) 0 0 (λ p low high. (subst (λ b. cond {A = Option ℕ} b (Some 0) None ≡ Some 0) (sym (lt-ltb p n high)) refl, refl)))
+  first_view ws (suc id) v there = absurd (some-ne-none v (sym there))
+
+  pub opens_ruled : (ws : List ℕ) (xs : List (Option X)) → length ws ≡ M.shards + 1 → ((k : ℕ) → get_or ws k 0 ≡ 0)
+      → ((i : ℕ) → i < M.shards → (x : X) × (get_elem? xs i ≡ some (Some x)) × M.Stands i x [])
+      → R (opening ws xs (maker start 0 n))
+  opens_ruled ws xs size zeros values = record {
+    history = [];
+    holder = λ _. None;
+    seat = λ p. cond (ltb p n) (Some 0) None;
+    size = size ∙ add-one M.shards;
+    legal = (laws start).opening;
+    word = zeros 0;
+    shards = λ i lt. let a = values i lt in record { word = zeros (suc i); value = a.0; slot = at_map (λ (y : Option X). some y) xs i (Some a.0) a.1; stands = a.2 };
+    parties = λ p. party_first ws xs p (dec_lt p n);
+    views = λ id v there. first_view ws id v there;
+  }
+
+  pub pass_allowed : (id k : ℕ) (me : Me (Option X) V) → me ≡ (maker start k n, []) → k < n
+      → Splits R id me.0 (record me.0 { gives = me.0.gives + 1 }) (at_rest (record (noted me.0.known) { party = Some me.0.gives }))
+  pass_allowed id k me ready lt = subst (λ (z : V). Splits R id z (record z { gives = z.gives + 1 }) (at_rest (record (noted z.known) { party = Some z.gives }))) (sym (ap (λ z. z.0) ready)) (pass_splits id k lt)
+
+  pub note_allowed : (id : ℕ) (me : Me (Option X) V) → me ≡ (at_rest me.0.known, []) → Splits R id me.0 me.0 (at_rest (noted me.0.known))
+  note_allowed id me ready = subst (λ (z : V). Splits R id z z (at_rest (noted z.known))) (sym (ap (λ z. z.0) ready)) (note_splits id me.0.known)
+
+  pub keep_allowed : (id : ℕ) (h : List E) (l : List (Known S E)) (me : Me (Option X) V) → me ≡ (closer start h l, []) → Splits R id me.0 me.0 (tally_of me.0)
+  keep_allowed id h l me ready = subst (λ (z : V). Splits R id z z (tally_of z)) (sym (ap (λ z. z.0) ready)) (tally_splits id h l)
+
+  pub hear_allowed : (id other : ℕ) (me you : Me (Option X) V) → me ≡ (at_rest me.0.known, []) → you ≡ (at_rest you.0.known, []) → you.0.known.party ≡ None
+      → Joins R id me.0 other you.0 (hearing me.0.known you.0.known.seen) spent
+  hear_allowed id other me you ready your bare = subst (λ (z : V). Joins R id z other you.0 (hearing z.known you.0.known.seen) spent) (sym (ap (λ z. z.0) ready))
+      (subst (λ (z : V). Joins R id (at_rest me.0.known) other z (hearing me.0.known z.known.seen) spent) (sym (ap (λ z. z.0) your)) (note_joins id other me.0.known you.0.known bare))
+
+  pub gather_allowed : (id other : ℕ) (l : List (Known S E)) (me you : Me (Option X) V) → me ≡ (gatherer start l, []) → you ≡ (at_rest you.0.known, []) → (p : ℕ) → you.0.known.party ≡ Some p
+      → ((i : ℕ) → held_at you.0.known.held i ≡ None) → Joins R id me.0 other you.0 (record me.0 { gathered = me.0.gathered ++ you.0.known ∷ [] }) spent
+  gather_allowed id other l me you ready your p party bare = subst (λ (z : V). Joins R id z other you.0 (record z { gathered = z.gathered ++ you.0.known ∷ [] }) spent) (sym (ap (λ z. z.0) ready))
+      (subst (λ (z : V). Joins R id (gatherer start l) other z (gatherer start (l ++ z.known ∷ [])) spent) (sym (ap (λ z. z.0) your)) (pass_joins id other l you.0.known p party bare))
+
+  zeros_at : (k i : ℕ) → ◌≡◌ {A = ℕ} (get_or (replicate k 0) i 0) 0
+  zeros_at zero i = refl
+  zeros_at (suc k) zero = refl
+  zeros_at (suc k) (suc i) = zeros_at k i
+
+  pub opens_with : (k : ℕ) (ws : List ℕ) (xs : List X) (slots : List (Option X)) → ws ≡ replicate k 0 → k ≡ M.shards + 1 → slots ≡ map (λ x. Some x) xs → AreShards M xs [] → R (opening ws slots (maker start 0 n))
+  opens_with k ws xs slots words size values shards =
+      let count = shards.count in
+      opens_ruled ws slots (ap length words ∙ (length-replicate k 0 ∙ size)) (λ i. ap (λ z. get_or z i 0) words ∙ zeros_at k i)
+      (λ i lt. let a = found_there xs i (omega arith) in (
+        a.0,
+        subst (λ z. get_elem? z i ≡ some (Some a.0)) (sym values) (at_map (λ (x : X). Some x) xs i a.0 a.2),
+        shards.stand i a.0 a.1,
+      ))
+
+  -- the values of the slots, once the table is closed
+  pub final_values : (id : ℕ) (h : List E) (l : List (Known S E)) (v : V) (ws : List ℕ) (xs : List (Option X)) → v ≡ closer start h l → Final (Seen R id v) ws xs
+      → (i : ℕ) → i < M.shards → (x : X) × (get_elem? xs i ≡ some (Some x)) × M.Stands i x h
+  final_values id h l v ws xs is final i lt =
+      let s = final.0 in
+      let at = subst (λ (z : V). get_elem? s.views id ≡ some z) is final.1.1 in
+      let free = closed_shards s final.1.0 id h l at i lt in
+      (free.value, final.4 i (Some free.value) free.slot, free.stands)
+
+  pub final_shards : (id : ℕ) (h : List E) (l : List (Known S E)) (v : V) (ws : List ℕ) (xs : List (Option X)) (ys : List X) → v ≡ closer start h l → Final (Seen R id v) ws xs
+      → length ys ≡ M.shards → ((k : ℕ) (x : X) → slice_get ys k ≡ Some x → get_elem? xs k ≡ some (Some x)) → AreShards M ys h
+  final_shards id h l v ws xs ys is final count same = record {
+    count = count;
+    stand = λ i x there.
+        let lt : i < length ys = slice_get_within ys i x there in
+        let a = final_values id h l v ws xs is final i (omega arith) in
+        let b : ◌≡◌ {A = Option X} (Some a.0) (Some x) = one_there xs i (Some a.0) (Some x) a.1 (same i x there) in
+        let e : a.0 ≡ x = cc in subst (λ z. M.Stands i z h) e a.2;
+  }
+
+  -- a list that has every party's pass remembers every party
+  pub all_remembered : (passes : List (PassValue S E)) (l : List (Known S E)) → l ≡ map (λ p. p.known) passes
+      → ((party : ℕ) → party < n → (k : ℕ) × (p : PassValue S E) × (slice_get passes k ≡ Some p) × (p.known.party ≡ Some party))
+      → (party : ℕ) → party < n → Remembers M start n l party
+  all_remembered passes l is all party lt = let a = all party lt in
+      (a.0, a.1.known, subst (λ z. get_elem? z a.0 ≡ some a.1.known) (sym is) (at_map (λ (p : PassValue S E). p.known) passes a.0 a.1 (get_some passes a.0 a.1 a.2)), a.3)
+
+  -- what the last look told, of the list as it is read by `get`
+  pub closed_there : (l k : List (Known S E)) (h : List E) → l ≡ k → Ends of M l h → Closed M h k
+  closed_there l k h is e = subst (λ z. Closed M h z) is (record {
+    legal = e.legal;
+    seen = λ i v there. e.seen i v (get_some l i v there);
+    own = λ i v there. e.own i v (get_some l i v there);
+    others = λ p apart. e.others p (λ i v there. apart i v (some_get l i v there));
+  })

@@ -1,0 +1,10 @@
+pub mod Lists
+pub mod Moves
+pub mod Holding
+pub mod History
+pub mod Joining
+pub mod Slots
+pub mod Counting
+pub mod Looking
+pub mod Raising
+pub mod Twos

@@ -1,0 +1,159 @@
+-- A counter that is held may be raised, and its new value then stands for the history.
+use Rattle.std.proofs.Common.{◌≡◌, ◌≢◌, ℕ, zero, suc, ◌+◌, ◌-◌, ◌<◌, true, false, cond, ltb, eq-eqb, ne_eqb, ◌&&◌, ◌||◌, List, [], ◌∷◌, ◌++◌, length, Option, None, Some, refl, ap, sym, subst, ◌∙◌, arith}
+use mathlib.Core.Logic.{dite}
+use mathlib.Core.List.{IsPrefix}
+use native.Mathlib.Decide.{ℕ_discrete}
+use Rattle.std.proofs.lemmas.Bool.{lt-ltb}
+use Rattle.commit_table.specs.declared.views.Known.{Known}
+use Rattle.commit_table.specs.declared.counters.Counters.{Counters}
+use Rattle.commit_table.specs.declared.counters.Deal.{Deal}
+use Rattle.commit_table.specs.declared.counters.Deal.TheVariants.{Raise, Carry}
+use Rattle.commit_table.specs.Machine.{Machine, is_among, IsOwn}
+use Rattle.commit_table.specs.Views.{held_at, looked, committed, gave_back}
+use Rattle.commit_table.specs.Parts.{part_of, peers_of}
+use Rattle.commit_table.specs.PartLaws.{may_follow, new_own, new_peer, one_peer}
+use Rattle.commit_table.specs.Counters.{most, counter_parts, counters}
+use Rattle.commit_table.specs.Calls.{Looked, MayCommit, Committed}
+use Rattle.commit_table.specs.Attempts.{Recorded}
+use Rattle.commit_table.proofs.Lists.{prefix_trans, held_here, held_else, held_among, held_apart}
+
+abbrev pub K : Type 0
+K = Known Counters Deal
+
+pub part_value : (c x : ℕ) (g : List Deal) → counters.Stands c x g → part_of counter_parts c g ≡ Some x
+part_value c x g s = s.1 ∙ ap Some (sym s.2)
+
+only_one : (c i : ℕ) → is_among (c ∷ []) i ≡ true → i ≡ c
+only_one c i e = dite (ℕ_discrete i c) (λ same. same) (λ ne. absurd (let b = ne_eqb i c ne in cc (simp b at e)))
+
+eq_one : (c : ℕ) → is_among (c ∷ []) c ≡ true
+eq_one c = ap (λ b. b || false) (eq-eqb c c refl)
+
+raise_acts : (p c x : ℕ) → x < most → counter_parts.act (Raise p c) x [] ≡ Some (x + 1, [])
+raise_acts p c x lt = subst (λ b. cond {A = Option (ℕ × List ℕ)} b (Some (x + 1, [])) None ≡ Some (x + 1, [])) (sym (lt-ltb x most lt)) refl
+
+one_shard : (p c x : ℕ) (h : List Deal) → part_of counter_parts c h ≡ Some x → counters.shards_of h (Raise p c) ≡ c ∷ []
+one_shard p c x h e = ap (λ o. c ∷ peers_of counter_parts o (Raise p c)) e
+
+pub may_raise : (v : K) (c x p : ℕ) (g : List Deal) → v.party ≡ Some p → counters.Legal v.seen → held_at v.held c ≡ Some g → counters.Agree c g v.seen → counters.Stands c x g → x < most → MayCommit counters v (Raise p c)
+may_raise v c x p g party legal held agree stands lt =
+    let here : part_of counter_parts c v.seen ≡ Some x = sym agree ∙ part_value c x g stands in
+    record {
+      party = λ q e. party ∙ e;
+      legal = may_follow counter_parts v.seen (Raise p c) x [] (x + 1, []) legal here (λ ps e. refl) (raise_acts p c x lt);
+      held = λ i among. let is : i ≡ c = only_one c i (subst (λ z. is_among z i ≡ true) (one_shard p c x v.seen here) among) in
+          subst (λ z. (g : List Deal) × (held_at v.held z ≡ Some g) × counters.Agree z v.seen g) (sym is) (g, held, sym agree);
+    }
+
+pub raised_stands : (v w : K) (c x p place : ℕ) (h : List Deal) → part_of counter_parts c v.seen ≡ Some x → x < most → Committed counters v (Raise p c) place h w
+    → (g : List Deal) × (held_at w.held c ≡ Some g) × counters.Stands c (x + 1) g
+raised_stands v w c x p place h here lt t =
+    let e : Deal = Raise p c in
+    let among : is_among (counters.shards_of v.seen e) c ≡ true = subst (λ z. is_among z c ≡ true) (sym (one_shard p c x v.seen here)) (eq_one c) in
+    let there : part_of counter_parts c h ≡ Some x = sym (t.agrees c among) ∙ here in (
+      h ++ e ∷ [],
+      ap (λ z. held_at z.held c) t.is ∙ held_among (counters.shards_of v.seen e) (h ++ e ∷ []) v.held c among,
+      (x + 1, new_own counter_parts h e x [] (x + 1, []) t.legal there (λ ps z. refl) (raise_acts p c x lt) refl, refl),
+    )
+
+pub recorded : {m : Machine ℕ Deal} (v u w z : K) (e : Deal) (number place c : ℕ) (h k : List Deal) → Looked m v number h u → Committed m u e place k w → z ≡ gave_back w c → Recorded m v e place z
+recorded {m} v u w z e number place c h k l t is =
+    let s = t.is in let b = l.is in
+    record {
+      before = k;
+      seen = ap (λ y. y.seen) is ∙ ap (λ y. y.seen) s;
+      legal = t.legal;
+      goes_on = prefix_trans v.seen h k l.seen (subst (λ y. IsPrefix y.seen k) b t.seen);
+      place_is = t.place_is;
+      own = subst (λ y. IsOwn m y.party y.seen y.mine) (sym is) (λ p its. ap (λ y. Rattle.commit_table.specs.Machine.events_by m.party p y.seen) s ∙ t.own p (sym (ap (λ y. y.party) s) ∙ its));
+      mine = ap (λ y. y.mine) is ∙ (ap (λ y. y.mine) s ∙ ap (λ y. Rattle.commit_table.specs.Views.mine_after (m.party e) y.mine e) b);
+      commits = ap (λ y. y.commits) is ∙ (ap (λ y. y.commits) s ∙ (ap (λ y. y.commits ++ length k ∷ []) b ∙ ap (λ n. v.commits ++ n ∷ []) (sym t.place_is)));
+      looks = (length h, ap (λ y. y.looks) is ∙ (ap (λ y. y.looks) s ∙ ap (λ y. y.looks) b));
+      missed = ap (λ y. y.missed) is ∙ (ap (λ y. y.missed) s ∙ ap (λ y. y.missed) b);
+      party = ap (λ y. y.party) is ∙ (ap (λ y. y.party) s ∙ ap (λ y. y.party) b);
+      start = ap (λ y. y.start) is ∙ (ap (λ y. y.start) s ∙ ap (λ y. y.start) b);
+    }
+
+-- a counter that is held has its value in what was seen
+pub seen_value : (v u : K) (number c x : ℕ) (h g : List Deal) → Looked counters v number h u → held_at v.held c ≡ Some g → counters.Stands c x g → part_of counter_parts c u.seen ≡ Some x
+seen_value v u number c x h g l held stands = ap (λ z. part_of counter_parts c z) (ap (λ y. y.seen) l.is) ∙ (sym (l.held c g held).1 ∙ part_value c x g stands)
+
+pub may_after : (v u : K) (number c x p : ℕ) (h g : List Deal) → Looked counters v number h u → u.party ≡ Some p → held_at v.held c ≡ Some g → counters.Stands c x g → x < most → MayCommit counters u (Raise p c)
+may_after v u number c x p h g l party held stands lt =
+    may_raise u c x p g party (subst (λ y. counters.Legal y.seen) (sym l.is) l.legal) (ap (λ y. held_at y.held c) l.is ∙ held) (subst (λ y. counters.Agree c g y.seen) (sym l.is) (l.held c g held).1) stands lt
+
+-- what is held of the other counter stays
+pub other_held : (v u w z : K) (number place c p i : ℕ) (h k : List Deal) (x : ℕ) → Looked counters v number h u → part_of counter_parts c u.seen ≡ Some x → Committed counters u (Raise p c) place k w → z ≡ gave_back w c → i ≢ c → held_at z.held i ≡ held_at v.held i
+other_held v u w z number place c p i h k x l here t is ne =
+    let off : is_among (counters.shards_of u.seen (Raise p c)) i ≡ false = subst (λ y. is_among y i ≡ false) (sym (one_shard p c x u.seen here)) (ap (λ b. b || false) (ne_eqb i c ne)) in
+    ap (λ y. held_at y.held i) is ∙ (held_else w.held c i None ne ∙ (ap (λ y. held_at y.held i) t.is ∙ (held_apart (counters.shards_of u.seen (Raise p c)) (k ++ Raise p c ∷ []) u.held i off ∙ ap (λ y. held_at y.held i) l.is)))
+
+pub given : (w z : K) (c : ℕ) → z ≡ gave_back w c → held_at z.held c ≡ None
+given w z c is = ap (λ y. held_at y.held c) is ∙ held_here w.held c None
+
+-- the same for what is carried from the first counter to the second
+carry_acts : (a b : ℕ) → 0 < a → b < most → counter_parts.act Carry a (b ∷ []) ≡ Some (a - 1, (b + 1) ∷ [])
+carry_acts a b la lb = subst (λ x. cond {A = Option (ℕ × List ℕ)} (x && ltb b most) (Some (a - 1, (b + 1) ∷ [])) None ≡ Some (a - 1, (b + 1) ∷ [])) (sym (lt-ltb 0 a la))
+    (subst (λ x. cond {A = Option (ℕ × List ℕ)} x (Some (a - 1, (b + 1) ∷ [])) None ≡ Some (a - 1, (b + 1) ∷ [])) (sym (lt-ltb b most lb)) refl)
+
+two_shards : (a : ℕ) (h : List Deal) → part_of counter_parts 0 h ≡ Some a → counters.shards_of h Carry ≡ 0 ∷ 1 ∷ []
+two_shards a h e = ap (λ o. 0 ∷ peers_of counter_parts o Carry) e
+
+one_of_two : (i : ℕ) (P : ℕ → Type 0) → P 0 → P 1 → is_among (0 ∷ 1 ∷ []) i ≡ true → P i
+one_of_two zero P z o e = z
+one_of_two (suc zero) P z o e = o
+one_of_two (suc (suc i)) P z o e = absurd (let a = ne_eqb (suc (suc i)) 0 (λ q. absurd (omega arith)) in let b = ne_eqb (suc (suc i)) 1 (λ q. absurd (omega arith)) in cc (simp (a, b) at e))
+
+-- both counters are held
+pub record Both (v : K) (a b : ℕ) : Type 0 where
+  pub first : List Deal
+  pub first_held : held_at v.held 0 ≡ Some first
+  pub first_stands : counters.Stands 0 a first
+  pub second : List Deal
+  pub second_held : held_at v.held 1 ≡ Some second
+  pub second_stands : counters.Stands 1 b second
+  pub room : (0 < a) × (b < most)
+
+pub may_carry : (v u : K) (number a b : ℕ) (h : List Deal) → Looked counters v number h u → Both v a b → MayCommit counters u Carry
+may_carry v u number a b h l t =
+    let here = seen_value v u number 0 a h t.first l t.first_held t.first_stands in
+    let there = seen_value v u number 1 b h t.second l t.second_held t.second_stands in
+    let seen = ap (λ y. y.seen) l.is in
+    record {
+      party = λ q e. absurd cc;
+      legal = may_follow counter_parts u.seen Carry a (b ∷ []) (a - 1, (b + 1) ∷ []) (subst (λ y. counters.Legal y) (sym seen) l.legal) here (λ ps e. one_peer counter_parts u.seen 1 b ps there e) (carry_acts a b t.room.0 t.room.1);
+      held = λ i among. one_of_two i (λ z. (g : List Deal) × (held_at u.held z ≡ Some g) × counters.Agree z u.seen g)
+          (t.first, ap (λ y. held_at y.held 0) l.is ∙ t.first_held, here ∙ sym (part_value 0 a t.first t.first_stands))
+          (t.second, ap (λ y. held_at y.held 1) l.is ∙ t.second_held, there ∙ sym (part_value 1 b t.second t.second_stands))
+          (subst (λ z. is_among z i ≡ true) (two_shards a u.seen here) among);
+    }
+
+pub carried_first : (v u w : K) (number place a b : ℕ) (h k : List Deal) → Looked counters v number h u → Both v a b → Committed counters u Carry place k w → (g : List Deal) × (held_at w.held 0 ≡ Some g) × counters.Stands 0 (a - 1) g
+carried_first v u w number place a b h k l t c =
+    let here = seen_value v u number 0 a h t.first l t.first_held t.first_stands in
+    let there = seen_value v u number 1 b h t.second l t.second_held t.second_stands in
+    let shards = two_shards a u.seen here in
+    let among : (i : ℕ) → is_among (0 ∷ 1 ∷ []) i ≡ true → is_among (counters.shards_of u.seen Carry) i ≡ true = λ i e. subst (λ z. is_among z i ≡ true) (sym shards) e in
+    let own : part_of counter_parts 0 k ≡ Some a = sym (c.agrees 0 (among 0 refl)) ∙ here in
+    let peer : part_of counter_parts 1 k ≡ Some b = sym (c.agrees 1 (among 1 refl)) ∙ there in (
+      k ++ Carry ∷ [],
+      ap (λ z. held_at z.held 0) c.is ∙ held_among (counters.shards_of u.seen Carry) (k ++ Carry ∷ []) u.held 0 (among 0 refl),
+      (a - 1, new_own counter_parts k Carry a (b ∷ []) (a - 1, (b + 1) ∷ []) c.legal own (λ ps e. one_peer counter_parts k 1 b ps peer e) (carry_acts a b t.room.0 t.room.1) refl, refl),
+    )
+
+pub carried_second : (v u w : K) (number place a b : ℕ) (h k : List Deal) → Looked counters v number h u → Both v a b → Committed counters u Carry place k w → (g : List Deal) × (held_at w.held 1 ≡ Some g) × counters.Stands 1 (b + 1) g
+carried_second v u w number place a b h k l t c =
+    let here = seen_value v u number 0 a h t.first l t.first_held t.first_stands in
+    let there = seen_value v u number 1 b h t.second l t.second_held t.second_stands in
+    let shards = two_shards a u.seen here in
+    let among : (i : ℕ) → is_among (0 ∷ 1 ∷ []) i ≡ true → is_among (counters.shards_of u.seen Carry) i ≡ true = λ i e. subst (λ z. is_among z i ≡ true) (sym shards) e in
+    let own : part_of counter_parts 0 k ≡ Some a = sym (c.agrees 0 (among 0 refl)) ∙ here in
+    let peer : part_of counter_parts 1 k ≡ Some b = sym (c.agrees 1 (among 1 refl)) ∙ there in (
+      k ++ Carry ∷ [],
+      ap (λ z. held_at z.held 1) c.is ∙ held_among (counters.shards_of u.seen Carry) (k ++ Carry ∷ []) u.held 1 (among 1 refl),
+      (b + 1, new_peer counter_parts k Carry a 1 b (b + 1) (a - 1) c.legal own refl peer (carry_acts a b t.room.0 t.room.1) (λ e. absurd (omega arith)), refl),
+    )
+
+pub first_later : (v u w z : K) (number place a b : ℕ) (h k : List Deal) → Looked counters v number h u → Both v a b → Committed counters u Carry place k w → z ≡ gave_back w 1 → (g : List Deal) × (held_at z.held 0 ≡ Some g) × counters.Stands 0 (a - 1) g
+first_later v u w z number place a b h k l t c is =
+    let f = carried_first v u w number place a b h k l t c in (f.0, ap (λ y. held_at y.held 0) is ∙ (held_else w.held 1 0 None (λ e. absurd (omega arith)) ∙ f.1), f.2)

@@ -1,0 +1,35 @@
+-- What a seat has out, before and after its slot is exchanged.
+use Rattle.std.proofs.Common.{◌≡◌, ℕ, List, [], ◌∷◌, Option, refl, ap, sym, subst, ◌∙◌}
+use Rattle.atomic_table.specs.Table.{Me, rest}
+use Rattle.commit_table.specs.declared.views.Known.{Known}
+use Rattle.commit_table.specs.declared.views.View.{View}
+use Rattle.commit_table.specs.Views.{at_rest, reaching}
+
+module _ {S X E : Type 0} where
+  pub is_out : (me : Me (Option X) (View S E)) (v : View S E) (i : ℕ) (y : Option X) → me ≡ (v, (i, y) ∷ []) → (old : Option X) × (me.1 ≡ (i, old) ∷ rest me.1)
+  is_out me v i y e = (y, let out : me.1 ≡ (i, y) ∷ [] = ap (λ (z : Me (Option X) (View S E)). z.1) e in subst (λ (z : List (ℕ × Option X)). z ≡ (i, y) ∷ rest z) (sym out) refl)
+
+  pub record Swapped (old new : Me (Option X) (View S E)) (i : ℕ) (y result put : Option X) : Type 0 where
+    pub result_is : result ≡ y
+    pub known : new.0.known ≡ old.0.known
+    pub new_is : new ≡ (reaching new.0.known i, (i, put) ∷ [])
+
+  pub swapped : (old new : Me (Option X) (View S E)) (i : ℕ) (y result put : Option X) → old ≡ (reaching old.0.known i, (i, y) ∷ []) → old.1 ≡ (i, result) ∷ rest old.1
+      → new ≡ (old.0, (i, put) ∷ rest old.1) → Swapped old new i y result put
+  swapped old new i y result put e found is =
+      let out : old.1 ≡ (i, y) ∷ [] = ap (λ (z : Me (Option X) (View S E)). z.1) e in
+      let none : rest old.1 ≡ [] = ap (λ (z : List (ℕ × Option X)). rest z) out in
+      let first : (i, result) ∷ rest old.1 ≡ (i, y) ∷ [] = sym found ∙ out in
+      let pair : ◌≡◌ {A = ℕ × Option X} (i, result) (i, y) = cc in
+      let view : new.0 ≡ old.0 = ap (λ (z : Me (Option X) (View S E)). z.0) is in
+      let known : new.0.known ≡ old.0.known = ap (λ (z : View S E). z.known) view in
+      let was : old.0 ≡ reaching old.0.known i = ap (λ (z : Me (Option X) (View S E)). z.0) e in
+      let a : ◌≡◌ {A = Me (Option X) (View S E)} (old.0, (i, put) ∷ rest old.1) (reaching old.0.known i, (i, put) ∷ rest old.1) = ap (λ (z : View S E). (z, (i, put) ∷ rest old.1)) was in
+      let b : ◌≡◌ {A = Me (Option X) (View S E)} (reaching old.0.known i, (i, put) ∷ rest old.1) (reaching old.0.known i, (i, put) ∷ []) = ap (λ (z : List (ℕ × Option X)). (reaching old.0.known i, (i, put) ∷ z)) none in
+      let c : ◌≡◌ {A = Me (Option X) (View S E)} (reaching old.0.known i, (i, put) ∷ []) (reaching new.0.known i, (i, put) ∷ []) = ap (λ (z : Known S E). (reaching z i, (i, put) ∷ [])) (sym known) in
+      record { result_is = ap (λ (z : ℕ × Option X). z.1) pair; known = known; new_is = is ∙ (a ∙ (b ∙ c)) }
+
+  pub rested : (me : Me (Option X) (View S E)) (k : Known S E) → me ≡ (at_rest k, []) → (me ≡ (at_rest me.0.known, [])) × (me.0.known ≡ k)
+  rested me k e =
+      let same : me.0.known ≡ k = ap (λ (z : Me (Option X) (View S E)). z.0.known) e in
+      let P : Known S E → Type 0 = λ z. ◌≡◌ {A = Me (Option X) (View S E)} me (at_rest z, []) in (subst P (sym same) e, same)

@@ -1,0 +1,23 @@
+use Rattle.std.proofs.Common.{◌∙◌, suc, ap, []}
+use Rattle.commit_table.specs.Views.{gatherer}
+use Rattle.commit_table.proofs.Lists.{left_first, left_later, map_more}
+use Rattle.commit_table.proofs.close.gather_all.Goals as goal
+
+pub gather_pass-requires-clause-table : goal.gather_pass-requires-clause-table
+gather_pass-requires-clause-table g c = let first = c.loop-pass.invariant.left 0 c.in-Some.pass (left_first _ _ c.in-Some.pass c.in-Some.ensures.steps.0) in (c.loop-pass.invariant.table, c.into_seat.ensures.seat.0 ∙ first.0.0)
+
+pub gather_pass-requires-clause-free : goal.gather_pass-requires-clause-free
+gather_pass-requires-clause-free g c i =
+    let first = c.loop-pass.invariant.left 0 c.in-Some.pass (left_first _ _ c.in-Some.pass c.in-Some.ensures.steps.0) in
+    ap (λ z. Rattle.commit_table.specs.Views.held_at z.0.known.held i) c.into_seat.ensures.seat.1 ∙ first.1 i
+
+pub loop-pass-preserved : goal.loop-pass-preserved
+loop-pass-preserved g c =
+    let start = c.args.board.now.key.start in
+    let before = ap (λ z. z.0.gathered) c.loop-pass.invariant.told in
+    let known = ap (λ z. z.0.known) c.into_seat.ensures.seat.1 in
+    record {
+      table = c.gather_pass.ensures.seat ∙ c.loop-pass.invariant.table;
+      told = c.gather_pass.ensures.told ∙ ap (λ z. (gatherer start z, [])) (map_more (λ p. p.known) c.loop-pass.yielded c.in-Some.pass _ _ before known);
+      left = λ k p e. c.loop-pass.invariant.left (suc k) p (left_later _ _ c.in-Some.pass p k c.in-Some.ensures.steps.0 e);
+    }

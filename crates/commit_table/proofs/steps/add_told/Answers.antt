@@ -1,0 +1,10 @@
+use Rattle.std.proofs.Common.{rules, arith}
+use Rattle.commit_table.proofs.History.{add_allowed}
+use Rattle.commit_table.proofs.steps.add_told.Goals as goal
+
+pub fetch_add-requires : goal.fetch_add-requires
+fetch_add-requires g c = let start = c.args.board.now.key.start in (
+  search rules,
+  omega (arith, c.requires.size.0),
+  add_allowed g.M.Sharded.machine g.M.Sharded.lawful start c.args.board.now.key.passes _ _ c.args.seat.now.me g.J.Told.told c.args.event.now c.requires.ready c.requires.told c.requires.party.0 c.requires.party.1 c.requires.may.party c.requires.may.legal c.requires.may.held,
+)

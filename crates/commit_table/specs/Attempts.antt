@@ -1,0 +1,45 @@
+-- What an attempt on the counters tells, of all its steps at once.
+use Rattle.std.specs.Prelude.{◌≡◌, ℕ, ◌<◌, List, [], ◌∷◌, ◌++◌, length}
+use mathlib.Core.List.{IsPrefix}
+use Rattle.commit_table.specs.declared.views.Known.{Known}
+use Rattle.commit_table.specs.Machine.{Machine, IsOwn}
+use Rattle.commit_table.specs.Views.{mine_after}
+
+module _ {S X E : Type 0} (m : Machine X E) where
+  -- the event was committed, once, after one look, behind a history that goes on from what was seen
+  pub record Recorded (v : Known S E) (e : E) (place : ℕ) (w : Known S E) : Type 0 where
+    pub before : List E
+    pub seen : w.seen ≡ before ++ e ∷ []
+    pub legal : m.Legal (before ++ e ∷ [])
+    pub goes_on : IsPrefix v.seen before
+    pub place_is : place ≡ length before
+    pub own : IsOwn m w.party w.seen w.mine
+    pub mine : w.mine ≡ mine_after (m.party e) v.mine e
+    pub commits : w.commits ≡ v.commits ++ place ∷ []
+    pub looks : (n : ℕ) × (w.looks ≡ v.looks ++ n ∷ [])
+    pub missed : w.missed ≡ v.missed
+    pub party : w.party ≡ v.party
+    pub start : w.start ≡ v.start
+
+  -- nothing was committed, and a shard below n was missed
+  pub record Missed (v : Known S E) (n : ℕ) (w : Known S E) : Type 0 where
+    pub shard : ℕ
+    pub below : shard < n
+    pub missed : w.missed ≡ v.missed ++ shard ∷ []
+    pub mine : w.mine ≡ v.mine
+    pub commits : w.commits ≡ v.commits
+    pub looks : w.looks ≡ v.looks
+    pub seen : w.seen ≡ v.seen
+    pub party : w.party ≡ v.party
+    pub start : w.start ≡ v.start
+
+  -- nothing was committed, after one look at a history that goes on from what was seen
+  pub record LookedOnly (v : Known S E) (w : Known S E) : Type 0 where
+    pub goes_on : IsPrefix v.seen w.seen
+    pub legal : m.Legal w.seen
+    pub looks : w.looks ≡ v.looks ++ length w.seen ∷ []
+    pub mine : w.mine ≡ v.mine
+    pub commits : w.commits ≡ v.commits
+    pub missed : w.missed ≡ v.missed
+    pub party : w.party ≡ v.party
+    pub start : w.start ≡ v.start

@@ -1,0 +1,94 @@
+-- What the calls of a commit table ask and tell.
+use Rattle.std.specs.Prelude.{◌≡◌, ℕ, ◌+◌, ◌-◌, ◌^◌, ◌<◌, true, eqb, List, [], ◌∷◌, ◌++◌, length, min, slice_get, slice_index, count_by, None, Some}
+use mathlib.Core.List.{IsPrefix}
+use Rattle.atomic_table.specs.Seated.{TableId}
+use Rattle.commit_table.specs.declared.views.Known.{Known}
+use Rattle.commit_table.specs.Machine.{Machine, is_among, events_by, IsOwn}
+use Rattle.commit_table.specs.Views.{held_at, looked, committed}
+
+-- a table: which one it is, the start that it was told, and how many passes it made
+pub record TableValue (S : Type 0) : Type 0 where
+  pub table : TableId
+  pub start : S
+  pub passes : ℕ
+
+-- a pass or a note: of which table it is, and what it knows
+pub record PassValue (S E : Type 0) : Type 0 where
+  pub table : TableId
+  pub known : Known S E
+
+-- what a closed table is known for: the whole history, and what each pass knew, in the order in which they were given
+pub record TallyValue (S E : Type 0) : Type 0 where
+  pub journal : List E
+  pub passes : List (Known S E)
+
+-- a table has a word for the journal and one for each shard, and a slot for each shard
+abbrev pub IsSized : TableId → ℕ → Type 0
+IsSized id shards = (id.words ≡ shards + 1) × (id.slots ≡ shards)
+
+-- how often a shard was missed, as far as 64 bits tell
+abbrev pub misses_in : List ℕ → ℕ → ℕ
+misses_in missed i = min (count_by (λ j. eqb j i) missed) (2 ^ 64 - 1)
+
+-- a counter for each shard counts what was missed
+abbrev pub Counts : List ℕ → List ℕ → Type 0
+Counts counters missed = (i : ℕ) → i < length counters → slice_index counters i ≡ misses_in missed i
+
+module _ {S E : Type 0} where
+  -- a pass or a note is of this table, and began with its start
+  abbrev pub IsOf : TableValue S → PassValue S E → Type 0
+  IsOf t p = (p.table ≡ t.table) × (p.known.start ≡ Some t.start)
+
+  abbrev pub HoldsNone : Known S E → Type 0
+  HoldsNone v = (i : ℕ) → held_at v.held i ≡ None
+
+  -- these are all the passes of a table, and none holds a shard
+  abbrev pub AreWhole : TableValue S → List (PassValue S E) → Type 0
+  AreWhole t passes = ((k : ℕ) (p : PassValue S E) → slice_get passes k ≡ Some p → IsOf t p × HoldsNone p.known)
+      × ((party : ℕ) → party < t.passes → (k : ℕ) × (p : PassValue S E) × (slice_get passes k ≡ Some p) × (p.known.party ≡ Some party))
+
+module _ {S X E : Type 0} (m : Machine X E) where
+  -- a shard was taken, and its value stands for the history g, which goes on from what was seen
+  pub record Taken (v : Known S E) (i : ℕ) (x : X) (g : List E) : Type 0 where
+    pub seen : IsPrefix v.seen g
+    pub stands : m.Stands i x g
+
+  -- the history so far was seen, and its length told. It is legal and goes on from what was seen before, its events of the
+  -- pass's party are the pass's own, and on each shard that the pass holds it is as it was when the shard was taken
+  pub record Looked (v : Known S E) (number : ℕ) (h : List E) (w : Known S E) : Type 0 where
+    pub is : w ≡ looked v h
+    pub number_is : number ≡ length h
+    pub legal : m.Legal h
+    pub seen : IsPrefix v.seen h
+    pub own : IsOwn m v.party h v.mine
+    pub held : (i : ℕ) (g : List E) → held_at v.held i ≡ Some g → IsPrefix g h × m.Agree i g h
+
+  -- a pass may commit an event: it is the event's party, where that has one; the event may follow what was seen; and each
+  -- of the event's shards is held, with a history that agrees with what was seen there
+  pub record MayCommit (v : Known S E) (e : E) : Type 0 where
+    pub party : (p : ℕ) → m.party e ≡ Some p → v.party ≡ Some p
+    pub legal : m.Legal (v.seen ++ e ∷ [])
+    pub held : (i : ℕ) → is_among (m.shards_of v.seen e) i ≡ true → (g : List E) × (held_at v.held i ≡ Some g) × m.Agree i v.seen g
+
+  -- the event was committed at a place, behind the history h, which goes on from what was seen and agrees with it on the
+  -- event's shards. The pass has seen all that, and the events of its party there are its own
+  pub record Committed (v : Known S E) (e : E) (place : ℕ) (h : List E) (w : Known S E) : Type 0 where
+    pub is : w ≡ committed v h e (m.party e) (m.shards_of v.seen e)
+    pub place_is : place ≡ length h
+    pub legal : m.Legal (h ++ e ∷ [])
+    pub seen : IsPrefix v.seen h
+    pub agrees : (i : ℕ) → is_among (m.shards_of v.seen e) i ≡ true → m.Agree i v.seen h
+    pub own : IsOwn m v.party (h ++ e ∷ []) w.mine
+
+  -- the history is whole: it is legal, each pass has seen a beginning of it, the events of a pass's party are the pass's
+  -- own, and no other party has any
+  pub record Closed (journal : List E) (passes : List (Known S E)) : Type 0 where
+    pub legal : m.Legal journal
+    pub seen : (k : ℕ) (v : Known S E) → slice_get passes k ≡ Some v → IsPrefix v.seen journal
+    pub own : (k : ℕ) (v : Known S E) → slice_get passes k ≡ Some v → IsOwn m v.party journal v.mine
+    pub others : (p : ℕ) → ((k : ℕ) (v : Known S E) → slice_get passes k ≡ Some v → ¬ (v.party ≡ Some p)) → events_by m.party p journal ≡ []
+
+-- the values of all shards, in order, stand for a history
+pub record AreShards {X E : Type 0} (m : Machine X E) (values : List X) (h : List E) : Type 0 where
+  pub count : length values ≡ m.shards
+  pub stand : (i : ℕ) (x : X) → slice_get values i ≡ Some x → m.Stands i x h

@@ -1,0 +1,13 @@
+pub mod Machine
+pub mod Views
+pub mod Rule
+pub mod Steps
+pub mod Calls
+pub mod Parts
+pub mod PartLaws
+pub mod Counters
+pub mod CounterLaws
+pub mod Attempts
+pub mod Outcomes
+pub mod Ranks
+pub mod RankLaws

@@ -1,0 +1,66 @@
+-- A machine whose state is a list of parts, one for each shard, and whose events act on the parts of their shards alone.
+use Rattle.std.specs.Prelude.{◌≡◌, ℕ, zero, suc, List, [], ◌∷◌, length, slice_get, slice_set, option_and_then, Option, None, Some}
+use Rattle.commit_table.specs.Machine.{Machine}
+
+-- P is a part, X what lies in a shard, E an event. An event has an owner, and peers that follow from the owner's part.
+pub record Parts (P X E : Type 0) : Type 1 where
+  -- the parts at the start, one for each shard
+  pub first : List P
+  pub owner : E → ℕ
+  pub peers : P → E → List ℕ
+  -- the new parts of the owner and of the peers, in order; or none, where the event may not happen
+  pub act : E → P → List P → Option (P × List P)
+  -- the event is noted in its owner's part, with its place, which is never tested
+  pub noted : ℕ → E → P → P
+  pub party : E → Option ℕ
+  -- a value of a shard is this part
+  pub Is : ℕ → X → P → Type 0
+
+module _ {P : Type 0} where
+  -- the parts of these shards, if all are there
+  abbrev pub parts_at : List P → List ℕ → Option (List P)
+  parts_at ps [] = Some []
+  parts_at ps (i ∷ is) = option_and_then (λ p. option_and_then (λ qs. Some (p ∷ qs)) (parts_at ps is)) (slice_get ps i)
+
+  -- these shards have new parts
+  abbrev pub with_parts : List P → List ℕ → List P → List P
+  with_parts ps [] qs = ps
+  with_parts ps (i ∷ is) [] = ps
+  with_parts ps (i ∷ is) (q ∷ qs) = with_parts (slice_set ps i q) is qs
+
+module _ {P X E : Type 0} (a : Parts P X E) where
+  -- what an event makes of its owner's part and its peers' parts
+  abbrev pub acted : ℕ → List P → E → P → Option (List P)
+  acted place ps e own =
+      option_and_then (λ qs. option_and_then (λ new. Some (with_parts (slice_set ps (a.owner e) (a.noted place e new.0)) (a.peers own e) new.1)) (a.act e own qs)) (parts_at ps (a.peers own e))
+
+  -- the parts after an event at a place, or none
+  abbrev pub stepped : ℕ → List P → E → Option (List P)
+  stepped place ps e = option_and_then (acted place ps e) (slice_get ps (a.owner e))
+
+  -- the parts after events from a place on
+  abbrev pub run : ℕ → List P → List E → Option (List P)
+  run place ps [] = Some ps
+  run place ps (e ∷ es) = option_and_then (λ qs. run (suc place) qs es) (stepped place ps e)
+
+  abbrev pub parts_of : List E → Option (List P)
+  parts_of h = run zero a.first h
+
+  -- the part of a shard after a history
+  abbrev pub part_of : ℕ → List E → Option P
+  part_of i h = option_and_then (λ ps. slice_get ps i) (parts_of h)
+
+  abbrev pub peers_of : Option P → E → List ℕ
+  peers_of None e = []
+  peers_of (Some p) e = a.peers p e
+
+  abbrev pub machine_of : Machine X E
+  machine_of = record {
+    shards = length a.first;
+    Legal = λ h. (ps : List P) × (parts_of h ≡ Some ps);
+    Stands = λ i x h. (p : P) × (part_of i h ≡ Some p) × a.Is i x p;
+    Agree = λ i h k. part_of i h ≡ part_of i k;
+    shards_of = λ h e. a.owner e ∷ peers_of (part_of (a.owner e) h) e;
+    owner = a.owner;
+    party = a.party;
+  }

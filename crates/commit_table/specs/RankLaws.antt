@@ -1,0 +1,82 @@
+-- The two ranks are a lawful machine: each event is one more in its owner's part of the journal, and there it has room.
+use Rattle.std.proofs.Common.{◌≡◌, ℕ, zero, suc, ◌+◌, ◌^◌, ◌<◌, ◌≤◌, Bool, true, false, cond, ltb, List, [], ◌∷◌, length, Option, None, Some, refl, ap, sym, subst, arith, length-append}
+use Rattle.std.specs.Prelude.{option_and_then}
+use Rattle.std.proofs.lemmas.Bool.{ltb-true}
+use Rattle.commit_table.specs.Machine.{Laws}
+use Rattle.commit_table.specs.Parts.{stepped, parts_at, parts_of, with_parts}
+use Rattle.commit_table.specs.declared.ranks.Act.{Act}
+use Rattle.commit_table.specs.declared.ranks.Act.TheVariants.{Link, Post}
+use Rattle.commit_table.specs.declared.ranks.RankPart.{RankPart}
+use Rattle.commit_table.specs.Ranks.{most_events, empty_part, act_acts, act_noted, rank_parts, ranks}
+use Rattle.commit_table.specs.PartLaws.{weighed, part_laws}
+
+abbrev count : RankPart → ℕ
+count p = length p.journal
+
+abbrev AreTwo : List RankPart → Type 0
+AreTwo ps = (a : RankPart) × (b : RankPart) × (ps ≡ a ∷ b ∷ []) × (count a ≤ most_events) × (count b ≤ most_events)
+
+abbrev weight : List RankPart → ℕ
+weight [] = 0
+weight (a ∷ []) = count a
+weight (a ∷ (b ∷ rest)) = count a + count b
+
+one_more : (place : ℕ) (e : Act) (p : RankPart) → count (act_noted place e p) ≡ count p + 1
+one_more place e p = length-append p.journal (record { place = place; act = e } ∷ [])
+
+-- where there was room, the parts are the new ones
+roomy : (own new : RankPart) (rest : List RankPart) (b : Bool) (f : RankPart × List RankPart → List RankPart) (qs : List RankPart) → b ≡ ltb (count own) most_events
+    → option_and_then (λ (z : RankPart × List RankPart). Some (f z)) (cond b (Some (new, rest)) None) ≡ Some qs → (qs ≡ f (new, rest)) × (count own < most_events)
+roomy own new rest true f qs is e = (let a : f (new, rest) ≡ qs = cc in sym a, ltb-true (count own) most_events (sym is))
+roomy own new rest false f qs is e = absurd cc
+
+first_grows : (place : ℕ) (e : Act) (a b new other : RankPart) (qs : List RankPart) → count a < most_events → count b ≤ most_events → count new ≡ count a → count other ≡ count b → qs ≡ act_noted place e new ∷ other ∷ [] → AreTwo qs × (count a + count b < weight qs)
+first_grows place e a b new other qs lt le same also is =
+    let more = one_more place e new in ((act_noted place e new, other, is, omega arith, omega arith), subst (λ z. count a + count b < weight z) (sym is) (omega arith))
+
+second_grows : (place : ℕ) (e : Act) (a b new other : RankPart) (qs : List RankPart) → count b < most_events → count a ≤ most_events → count new ≡ count b → count other ≡ count a → qs ≡ other ∷ act_noted place e new ∷ [] → AreTwo qs × (count a + count b < weight qs)
+second_grows place e a b new other qs lt le same also is =
+    let more = one_more place e new in ((other, act_noted place e new, is, omega arith, omega arith), subst (λ z. count a + count b < weight z) (sym is) (omega arith))
+
+-- what a post of the first rank makes, linked or not; and of the second
+abbrev first_step : ℕ → RankPart → RankPart → Bool → Option (List RankPart)
+first_step place a b linked =
+    option_and_then (λ qs. option_and_then (λ (z : RankPart × List RankPart). Some (with_parts (act_noted place (Post zero) z.0 ∷ b ∷ []) (cond linked (1 ∷ []) []) z.1)) (act_acts (Post zero) a qs)) (parts_at (a ∷ b ∷ []) (cond linked (1 ∷ []) []))
+
+abbrev second_step : ℕ → RankPart → RankPart → Bool → Option (List RankPart)
+second_step place a b linked =
+    option_and_then (λ qs. option_and_then (λ (z : RankPart × List RankPart). Some (with_parts (a ∷ act_noted place (Post (suc zero)) z.0 ∷ []) (cond linked (0 ∷ []) []) z.1)) (act_acts (Post (suc zero)) b qs)) (parts_at (a ∷ b ∷ []) (cond linked (0 ∷ []) []))
+
+post_first : (place : ℕ) (a b : RankPart) (linked : Bool) (qs : List RankPart) → count b ≤ most_events → first_step place a b linked ≡ Some qs → AreTwo qs × (count a + count b < weight qs)
+post_first place a b true qs le s =
+    let r = roomy a a (record b { messages = b.messages + 1 } ∷ []) (ltb (count a) most_events) (λ z. with_parts (act_noted place (Post zero) z.0 ∷ b ∷ []) (1 ∷ []) z.1) qs refl s in
+    first_grows place (Post zero) a b a (record b { messages = b.messages + 1 }) qs r.1 le refl refl r.0
+post_first place a b false qs le s = absurd cc
+
+post_second : (place : ℕ) (a b : RankPart) (linked : Bool) (qs : List RankPart) → count a ≤ most_events → second_step place a b linked ≡ Some qs → AreTwo qs × (count a + count b < weight qs)
+post_second place a b true qs le s =
+    let r = roomy b b (record a { messages = a.messages + 1 } ∷ []) (ltb (count b) most_events) (λ z. with_parts (a ∷ act_noted place (Post (suc zero)) z.0 ∷ []) (0 ∷ []) z.1) qs refl s in
+    second_grows place (Post (suc zero)) a b b (record a { messages = a.messages + 1 }) qs r.1 le refl refl r.0
+post_second place a b false qs le s = absurd cc
+
+grows_at : (place : ℕ) (a b : RankPart) (e : Act) (qs : List RankPart) → count a ≤ most_events → count b ≤ most_events → stepped rank_parts place (a ∷ b ∷ []) e ≡ Some qs → AreTwo qs × (count a + count b < weight qs)
+grows_at place a b (Link zero) qs la lb s =
+    let r = roomy a (record a { linked = true }) [] (ltb (count a) most_events) (λ z. act_noted place (Link zero) z.0 ∷ b ∷ []) qs refl s in first_grows place (Link zero) a b (record a { linked = true }) b qs r.1 lb refl refl r.0
+grows_at place a b (Link (suc zero)) qs la lb s =
+    let r = roomy b (record b { linked = true }) [] (ltb (count b) most_events) (λ z. a ∷ act_noted place (Link (suc zero)) z.0 ∷ []) qs refl s in second_grows place (Link (suc zero)) a b (record b { linked = true }) a qs r.1 la refl refl r.0
+grows_at place a b (Link (suc (suc k))) qs la lb s = absurd cc
+grows_at place a b (Post zero) qs la lb s = post_first place a b a.linked qs lb s
+grows_at place a b (Post (suc zero)) qs la lb s = post_second place a b b.linked qs la s
+grows_at place a b (Post (suc (suc k))) qs la lb s = absurd cc
+
+grows : (place : ℕ) (ps : List RankPart) (e : Act) (qs : List RankPart) → AreTwo ps → stepped rank_parts place ps e ≡ Some qs → AreTwo qs × (weight ps < weight qs)
+grows place ps e qs two s = let step = subst (λ z. stepped rank_parts place z e ≡ Some qs) two.2 s in
+    let g = grows_at place two.0 two.1 e qs two.3 two.4 step in (g.0, subst (λ z. weight z < weight qs) (sym two.2) g.1)
+
+bounded : (h : List Act) (ps : List RankPart) → parts_of rank_parts h ≡ Some ps → length h < 2 ^ 64
+bounded h ps e =
+    let w = weighed rank_parts AreTwo weight grows zero (empty_part ∷ empty_part ∷ []) h ps (empty_part, empty_part, refl, omega arith, omega arith) e in
+    let two = w.0 in let le = w.1 in let is : weight ps ≡ count two.0 + count two.1 = ap weight two.2 in let a = two.3 in let b = two.4 in omega arith
+
+pub ranks_lawful : Laws ranks
+ranks_lawful = part_laws rank_parts bounded

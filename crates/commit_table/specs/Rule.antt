@@ -1,0 +1,82 @@
+-- The rule of a commit table: what holds between any two steps, of its words, its slots and what each seat knows.
+-- Word 0 is the journal word, word i + 1 that of shard i, and slot i holds the value of shard i while the shard is free.
+use Rattle.std.specs.Prelude.{◌≡◌, ℕ, suc, ◌<◌, ◌≤◌, ◌⊎◌, true, List, [], length, slice_index, All, Option, None, Some}
+use mathlib.Core.Option.{some}
+use mathlib.Core.List.{IsPrefix}
+use lib.ListN.{get_elem?}
+use Rattle.atomic_table.specs.Table.{State}
+use Rattle.commit_table.specs.declared.views.Known.{Known}
+use Rattle.commit_table.specs.declared.views.View.{View}
+use Rattle.commit_table.specs.Machine.{Machine, events_by}
+use Rattle.commit_table.specs.Views.{held_at}
+
+module _ {S X E : Type 0} (m : Machine X E) (start : S) (n : ℕ) where
+  -- a free shard: its word is 0, and its slot has a value that stands for the history
+  pub record Free (s : State (Option X) (View S E)) (h : List E) (i : ℕ) : Type 0 where
+    pub word : slice_index s.words (suc i) ≡ 0
+    pub value : X
+    pub slot : get_elem? s.homes i ≡ some (some (Some value))
+    pub stands : m.Stands i value h
+
+  -- a held shard: its word is 1, and the view `id` holds it, with a beginning of the history that agrees with the whole
+  -- on the shard. Its slot is at home, or out with that seat
+  pub record Held (s : State (Option X) (View S E)) (h : List E) (i id : ℕ) : Type 0 where
+    pub word : slice_index s.words (suc i) ≡ 1
+    pub view : View S E
+    pub there : get_elem? s.views id ≡ some view
+    pub upto : List E
+    pub held : held_at view.known.held i ≡ Some upto
+    pub begins : IsPrefix upto h
+    pub agrees : m.Agree i upto h
+    pub slot : (view.out ≡ Some i) ⊎ ((y : Option X) × (get_elem? s.homes i ≡ some (some y)))
+
+  abbrev pub IsShard : State (Option X) (View S E) → List E → ℕ → Option ℕ → Type 0
+  IsShard s h i None = Free s h i
+  IsShard s h i (Some id) = Held s h i id
+
+  -- a view answers for a party: it has it, is to make its pass, or remembers it of a pass that it took in
+  abbrev pub Remembers : List (Known S E) → ℕ → Type 0
+  Remembers passes p = (k : ℕ) × (v : Known S E) × (get_elem? passes k ≡ some v) × (v.party ≡ Some p)
+
+  abbrev pub Answers : View S E → ℕ → Type 0
+  Answers v p = (v.known.party ≡ Some p) ⊎ (((v.gives ≤ p) × (p < v.ends)) ⊎ ((v.gathers ≡ true) × Remembers v.gathered p))
+
+  -- a party that no view answers for has no events
+  abbrev pub IsParty : State (Option X) (View S E) → List E → ℕ → Option ℕ → Type 0
+  IsParty s h p None = events_by m.party p h ≡ []
+  IsParty s h p (Some id) = (v : View S E) × (get_elem? s.views id ≡ some v) × Answers v p
+
+  -- a pass that was taken in: its events are its party's
+  pub record Gathered (h : List E) (seat : ℕ → Option ℕ) (id : ℕ) (v : Known S E) : Type 0 where
+    pub seen : IsPrefix v.seen h
+    pub party : (p : ℕ) → v.party ≡ Some p → (p < n) × (seat p ≡ Some id) × (events_by m.party p h ≡ v.mine)
+
+  -- the view of the seat `id`
+  pub record Fits (h : List E) (holder seat : ℕ → Option ℕ) (id : ℕ) (v : View S E) : Type 0 where
+    pub begun : (s : S) → v.known.start ≡ Some s → s ≡ start
+    pub seen : IsPrefix v.known.seen h
+    pub heard : IsPrefix v.heard h
+    pub looks : All (λ k. k ≤ length v.known.seen) v.known.looks
+    -- its party is no other view's, and the party's events are its own
+    pub party : (p : ℕ) → v.known.party ≡ Some p → (p < n) × (seat p ≡ Some id) × (events_by m.party p h ≡ v.known.mine)
+    -- where it is to make passes, it has no party and its parties have no events
+    pub makes : (p : ℕ) → v.gives ≤ p → p < v.ends → (p < n) × (seat p ≡ Some id) × (events_by m.party p h ≡ []) × (v.known.party ≡ None)
+    -- what it holds, no other holds, and without a party it holds nothing
+    pub held : (i : ℕ) (g : List E) → held_at v.known.held i ≡ Some g → (i < m.shards) × (holder i ≡ Some id)
+    pub none : v.known.party ≡ None → (i : ℕ) → held_at v.known.held i ≡ None
+    -- it takes in all passes, and then no other has a party
+    pub gathers : v.gathers ≡ true → v.known.party ≡ None
+    pub gathered : v.gathers ≡ true → (k : ℕ) (w : Known S E) → get_elem? v.gathered k ≡ some w → Gathered h seat id w
+    pub closed : v.closed ≡ true → (v.gathers ≡ true) × (v.known.seen ≡ h) × ((p : ℕ) → p < n → Remembers v.gathered p)
+
+  pub record Rule (s : State (Option X) (View S E)) : Type 0 where
+    -- the history, which view holds a shard, and which answers for a party
+    pub history : List E
+    pub holder : ℕ → Option ℕ
+    pub seat : ℕ → Option ℕ
+    pub size : length s.words ≡ suc m.shards
+    pub legal : m.Legal history
+    pub word : slice_index s.words 0 ≡ length history
+    pub shards : (i : ℕ) → i < m.shards → IsShard s history i (holder i)
+    pub parties : (p : ℕ) → IsParty s history p (seat p)
+    pub views : (id : ℕ) (v : View S E) → get_elem? s.views id ≡ some v → Fits history holder seat id v

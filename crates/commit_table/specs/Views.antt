@@ -1,0 +1,77 @@
+-- What a pass knows, in words, and what each call makes of it.
+use Rattle.std.specs.Prelude.{ℕ, false, true, cond, eqb, List, [], ◌∷◌, ◌++◌, length, Option, None, Some}
+use Rattle.commit_table.specs.declared.views.Known.{Known}
+use Rattle.commit_table.specs.declared.views.View.{View}
+
+module _ {E : Type 0} where
+  -- what is held of a shard: the history that its value stands for, or none where the shard is not held
+  abbrev pub held_at : List (ℕ × Option (List E)) → ℕ → Option (List E)
+  held_at [] i = None
+  held_at (x ∷ xs) i = cond (eqb i x.0) x.1 (held_at xs i)
+
+  -- each of these shards is held with the history g
+  abbrev pub holds_all : List ℕ → List E → List (ℕ × Option (List E)) → List (ℕ × Option (List E))
+  holds_all [] g held = held
+  holds_all (i ∷ is) g held = (i, Some g) ∷ holds_all is g held
+
+  -- the events of a party that a pass committed, with one more where the event has a party
+  abbrev pub mine_after : Option ℕ → List E → E → List E
+  mine_after None mine e = mine
+  mine_after (Some p) mine e = mine ++ e ∷ []
+
+module _ {S E : Type 0} where
+  -- the pass of a party before its first call, and a pass of no party that has seen a history
+  abbrev pub new_pass : S → Option ℕ → List E → Known S E
+  new_pass start party seen = record { start = Some start; party = party; seen = seen; mine = []; commits = []; looks = []; held = []; missed = [] }
+
+  -- what a note of a pass tells: what it has seen, and no more
+  abbrev pub noted : Known S E → Known S E
+  noted v = record { start = v.start; party = None; seen = v.seen; mine = []; commits = []; looks = []; held = []; missed = [] }
+
+  -- a shard was taken, whose value stands for g; it was missed; it was given back
+  abbrev pub took : Known S E → ℕ → List E → Known S E
+  took v i g = record v { held = (i, Some g) ∷ v.held }
+
+  abbrev pub missed : Known S E → ℕ → Known S E
+  missed v i = record v { missed = v.missed ++ i ∷ [] }
+
+  abbrev pub gave_back : Known S E → ℕ → Known S E
+  gave_back v i = record v { held = (i, None) ∷ v.held }
+
+  -- the history h was seen
+  abbrev pub looked : Known S E → List E → Known S E
+  looked v h = record v { seen = h; looks = v.looks ++ length h ∷ [] }
+
+  -- the event e of a party was committed behind h, on these shards
+  abbrev pub committed : Known S E → List E → E → Option ℕ → List ℕ → Known S E
+  committed v h e party shards = record v { seen = h ++ e ∷ []; mine = mine_after party v.mine e; commits = v.commits ++ length h ∷ []; held = holds_all shards (h ++ e ∷ []) v.held }
+
+  -- a seat between two calls: no slot is out, and nothing else is under way
+  abbrev pub at_rest : Known S E → View S E
+  at_rest v = record { known = v; out = None; heard = []; gives = 0; ends = 0; gathers = false; gathered = []; closed = false }
+
+  -- the slot of a shard is out with the seat; a history was told
+  abbrev pub reaching : Known S E → ℕ → View S E
+  reaching v i = record (at_rest v) { out = Some i }
+
+  abbrev pub hearing : Known S E → List E → View S E
+  hearing v h = record (at_rest v) { heard = h }
+
+  -- the seat that makes the passes from k on and below n
+  abbrev pub maker : S → ℕ → ℕ → View S E
+  maker start k n = record (at_rest (new_pass start None [])) { gives = k; ends = n }
+
+  -- the seat that takes in all passes to close the table; and then the same when it has looked last
+  abbrev pub gatherer : S → List (Known S E) → View S E
+  gatherer start passes = record (at_rest (new_pass start None [])) { gathers = true; gathered = passes }
+
+  abbrev pub closer : S → List E → List (Known S E) → View S E
+  closer start h passes = record (at_rest (new_pass start None h)) { gathers = true; gathered = passes; closed = true }
+
+  -- what a seat that closed the table has seen and taken in, alone
+  abbrev pub tally_of : View S E → View S E
+  tally_of v = record (at_rest (noted v.known)) { gathered = v.gathered }
+
+  -- what is left of a seat that another took in
+  abbrev pub spent : View S E
+  spent = at_rest (record { start = None; party = None; seen = []; mine = []; commits = []; looks = []; held = []; missed = [] })

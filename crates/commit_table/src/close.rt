@@ -1,0 +1,130 @@
+//! A table that no thread uses any more gives its shards and what is known of its history.
+ghost use Rattle.std.specs.Prelude.{◌≡◌, ℕ, ◌+◌, ◌<◌, ◌≤◌, false, IsTrue, Option, Some, None, List, [], ◌∷◌, ◌++◌, map, length, slice_get, slice_set, slice_index_or, vec_len, vec_capacity};
+ghost use Rattle.commit_table.specs.Views.{gatherer, closer, tally_of};
+ghost use Rattle.commit_table.specs.Steps.{Ends};
+ghost use Rattle.commit_table.specs.Calls.{IsSized, AreWhole, Closed, AreShards};
+ghost use Rattle.atomic_table.specs.Table.{Final, Seen};
+ghost use Rattle.std.specs.Mem.Slots.{IsFull, slots_items, slots_filled, slots_len};
+ghost use mathlib.Core.Option.{some};
+ghost use lib.ListN.{get_elem?};
+
+use crate::board::{Board, Place, Whole};
+use crate::pass::Pass;
+use crate::seats::{gather_pass, keep_tally, last_look, open_gatherer};
+use crate::sharded::Sharded;
+use crate::table::CommitTable;
+use std::alloc::Global;
+use std::marker::Model;
+
+/// What is known of a closed table's history. Its length is known when the program runs, the rest in proofs.
+#[derive(Drop)]
+pub struct Tally<M: Sharded> {
+    seat: Place<M>,
+    length: u64,
+}
+
+impl<M: Sharded> Model for Tally<M> {
+    ghost use Rattle.std.specs.Prelude.{◌≡◌, length as count};
+    ghost use Rattle.commit_table.specs.Calls.{TallyValue};
+
+    ghost Value = { TallyValue M M.Event };
+
+    ghost view = { λ t. record { journal = t.seat.me.0.known.seen; passes = t.seat.me.0.gathered } };
+
+    ghost invariant = { λ t. t.length ≡ count t.seat.me.0.known.seen };
+}
+
+impl<M: Sharded> Tally<M> {
+    /// How many events there are.
+    pub fn events(&self) -> u64
+        ensures { result ≡ length self.now.journal }
+    {
+        self.length
+    }
+}
+
+/// A table that was closed.
+#[derive(Drop)]
+pub struct Ended<M: Sharded> {
+    /// The values of all shards, in order.
+    pub shards: Vec<M::Shard>,
+    pub tally: Tally<M>,
+}
+
+// Takes in all passes, in order.
+fn gather_all<M: Sharded>(board: &Board<M>, passes: Vec<Pass<M>>) -> Place<M>
+    requires size { IsSized board.now.table_id (M.machine board.now.key.start).shards }
+    requires whole { AreWhole (record { table = board.now.table_id; start = board.now.key.start; passes = board.now.key.passes }) passes.items }
+    ensures seat { result.table_id ≡ board.now.table_id }
+    ensures told { result.me ≡ (gatherer board.now.key.start (map (λ p. p.known) passes.items), []) }
+{
+    let mut seat = open_gatherer(board);
+    for pass in passes {
+        gather_pass(board, &mut seat, pass.into_seat());
+    }
+    seat
+}
+
+fn take_value<X: Drop>(closed: &mut atomic_table::Closed<Option<X>, Global>, i: usize) -> X
+    requires place { (i < slots_len closed.old.slots) × IsTrue (slice_index_or (slots_filled closed.old.slots) i false) }
+    requires value { (x : X) × (get_elem? (slots_items closed.old.slots) i ≡ some (Some x)) }
+    ensures value { get_elem? (slots_items closed.old.slots) i ≡ some (Some result) }
+    ensures others { (slots_items closed.new.slots ≡ slots_items closed.old.slots) × (slots_filled closed.new.slots ≡ slice_set (slots_filled closed.old.slots) i false) × (slots_len closed.new.slots ≡ slots_len closed.old.slots) }
+{
+    match closed.take(i) {
+        Some(value) => value,
+        None => unreachable!(),
+    }
+}
+
+// Moves the values into the room, in order.
+fn move_values<X: Drop>(
+    mut closed: atomic_table::Closed<Option<X>, Global>,
+    mut room: Vec<X>,
+) -> Vec<X>
+    requires full { IsFull closed.slots }
+    requires values { (k : ℕ) → k < slots_len closed.slots → (x : X) × (get_elem? (slots_items closed.slots) k ≡ some (Some x)) }
+    requires room { (room.items ≡ []) × (vec_len room ≡ 0) × (slots_len closed.slots ≤ vec_capacity room) }
+    ensures count { length result.items ≡ slots_len closed.slots }
+    ensures values { (k : ℕ) (x : X) → slice_get result.items k ≡ Some x → get_elem? (slots_items closed.slots) k ≡ some (Some x) }
+{
+    let count = closed.slot_count();
+    let mut i = 0;
+    while i < count {
+        room.push_reserved(take_value(&mut closed, i));
+        i += 1;
+    }
+    closed.free();
+    room
+}
+
+// Closes the table that the seat looked at last, with nothing of it held.
+fn values_of<M: Sharded>(table: Whole<M>, seat: Place<M>, room: Vec<M::Shard>) -> Vec<M::Shard>
+    requires table { seat.table_id ≡ table.shared.table_id }
+    requires size { IsSized table.shared.table_id (M.machine table.shared.key.start).shards }
+    requires ready { seat.me ≡ (closer table.shared.key.start seat.me.0.known.seen seat.me.0.gathered, []) }
+    requires room { (room.items ≡ []) × (vec_len room ≡ 0) × ((M.machine table.shared.key.start).shards ≤ vec_capacity room) }
+    ensures { AreShards (M.machine table.shared.key.start) result.items seat.me.0.known.seen }
+{
+    move_values(table.close_with(seat), room)
+}
+
+impl<M: Sharded> CommitTable<M> {
+    /// Closes the table, with all its passes. It takes no memory.
+    pub fn close(self, passes: Vec<Pass<M>>) -> Ended<M>
+        requires { AreWhole self passes.items }
+        ensures passes { result.tally.passes ≡ map (λ p. p.known) passes.items }
+        ensures journal { Closed (M.machine self.start) result.tally.journal result.tally.passes }
+        ensures shards { AreShards (M.machine self.start) result.shards.items result.tally.journal }
+    {
+        let CommitTable { table, begin, room } = self;
+        let mut seat = gather_all(&table.shared, passes);
+        let length = last_look(&table.shared, &mut seat);
+        let kept = keep_tally(&table.shared, &mut seat);
+        drop(begin);
+        Ended {
+            shards: values_of(table, seat, room),
+            tally: Tally { seat: kept, length },
+        }
+    }
+}

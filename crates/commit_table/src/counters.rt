@@ -1,0 +1,143 @@
+//! Two counters that threads raise: the smallest machine for a table, for tests and as an example.
+ghost use Rattle.std.specs.Prelude.{◌≡◌, ◌≢◌, ℕ, ◌<◌, List, Some, None, MatchOption};
+ghost use Rattle.commit_table.specs.declared.counters.Deal.{Deal};
+ghost use Rattle.commit_table.specs.declared.counters.Deal.TheVariants.{Raise, Carry};
+ghost use Rattle.commit_table.specs.Views.{held_at};
+ghost use Rattle.commit_table.specs.Counters.{most, counters};
+ghost use Rattle.commit_table.specs.Calls.{IsOf, HoldsNone};
+ghost use Rattle.commit_table.specs.Attempts.{Recorded};
+ghost use Rattle.commit_table.specs.Outcomes.{Told};
+
+use crate::pass::Pass;
+use crate::sharded::Sharded;
+use crate::table::CommitTable;
+
+/// No counter goes beyond it.
+const MOST: u64 = 1_000_000;
+
+/// An event of the counters.
+#[derive(Drop)]
+pub enum Deal {
+    /// A party raises a counter by 1.
+    Raise(u32, u32),
+    /// 1 goes from the first counter to the second. No party is named, so any pass may do it.
+    Carry,
+}
+
+/// Two counters, which start at 0.
+#[derive(Drop)]
+pub struct Counters;
+
+impl Sharded for Counters {
+    type Shard = u64;
+
+    type Event = Deal;
+
+    ghost use Rattle.commit_table.specs.Counters.{counters};
+    ghost use Rattle.commit_table.specs.CounterLaws.{counters_lawful};
+
+    ghost machine = { λ start. counters };
+
+    ghost lawful = { λ start. counters_lawful };
+}
+
+/// Raises a counter that the pass holds, and gives it back. The place of the event is answered.
+pub fn raise_held(
+    table: &CommitTable<Counters>,
+    pass: &mut Pass<Counters>,
+    counter: u32,
+    value: u64,
+) -> u64
+    requires pass { IsOf table.now pass.old }
+    requires counter { counter < 2 }
+    requires held { (g : List Deal) × (held_at pass.old.known.held counter ≡ Some g) × counters.Stands counter value g }
+    requires room { value < most }
+    ensures table { pass.new.table ≡ pass.old.table }
+    ensures told { (p : ℕ) × (pass.old.known.party ≡ Some p) × Recorded counters pass.old.known (Raise p counter) result pass.new.known }
+    ensures given { held_at pass.new.known.held counter ≡ None }
+    ensures others { (i : ℕ) → i ≢ counter → held_at pass.new.known.held i ≡ held_at pass.old.known.held i }
+{
+    let _ = table.look(pass);
+    let deal = Deal::Raise(CommitTable::number(pass), counter);
+    let place = table.commit(pass, &deal);
+    table.give_back(pass, counter, value + 1);
+    place
+}
+
+/// What an attempt came to.
+#[derive(Drop)]
+pub enum Outcome {
+    /// The event stands at this place.
+    Done(u64),
+    /// Another pass held a counter. Nothing was done.
+    Busy,
+    /// No such event may follow. Nothing was done but a look.
+    Stuck,
+}
+
+/// Raises a counter.
+pub fn raise(table: &CommitTable<Counters>, pass: &mut Pass<Counters>, counter: u32) -> Outcome
+    requires pass { IsOf table.now pass.old }
+    requires counter { counter < 2 }
+    requires free { HoldsNone pass.old.known }
+    ensures table { pass.new.table ≡ pass.old.table }
+    ensures free { HoldsNone pass.new.known }
+    ensures told { Told 2 (λ e. (p : ℕ) × (e ≡ Raise p counter) × (pass.old.known.party ≡ Some p)) pass.old.known result pass.new.known }
+{
+    let Some(value) = table.try_take(pass, counter) else {
+        return Outcome::Busy;
+    };
+    if value < MOST {
+        return Outcome::Done(raise_held(table, pass, counter, value));
+    }
+    table.look(pass);
+    table.give_back(pass, counter, value);
+    Outcome::Stuck
+}
+
+/// Carries 1 from the first counter to the second, which the pass holds both, and gives them back.
+fn carry_held(
+    table: &CommitTable<Counters>,
+    pass: &mut Pass<Counters>,
+    first: u64,
+    second: u64,
+) -> u64
+    requires pass { IsOf table.now pass.old }
+    requires first { (g : List Deal) × (held_at pass.old.known.held 0 ≡ Some g) × counters.Stands 0 first g }
+    requires second { (g : List Deal) × (held_at pass.old.known.held 1 ≡ Some g) × counters.Stands 1 second g }
+    requires room { (0 < first) × (second < most) }
+    requires others { (i : ℕ) → 1 < i → held_at pass.old.known.held i ≡ None }
+    ensures table { pass.new.table ≡ pass.old.table }
+    ensures free { HoldsNone pass.new.known }
+    ensures told { Recorded counters pass.old.known Carry result pass.new.known }
+{
+    table.look(pass);
+    let place = table.commit(pass, &Deal::Carry);
+    table.give_back(pass, 1, second + 1);
+    table.give_back(pass, 0, first - 1);
+    place
+}
+
+/// Carries 1 from the first counter to the second. Where the second is missed, the first is given back.
+pub fn carry(table: &CommitTable<Counters>, pass: &mut Pass<Counters>) -> Outcome
+    requires pass { IsOf table.now pass.old }
+    requires free { HoldsNone pass.old.known }
+    ensures table { pass.new.table ≡ pass.old.table }
+    ensures free { HoldsNone pass.new.known }
+    ensures told { Told 2 (λ e. e ≡ Carry) pass.old.known result pass.new.known }
+{
+    let Some(first) = table.try_take(pass, 0) else {
+        return Outcome::Busy;
+    };
+    let Some(second) = table.try_take(pass, 1) else {
+        table.give_back(pass, 0, first);
+        return Outcome::Busy;
+    };
+    if first > 0 && second < MOST {
+        return Outcome::Done(carry_held(table, pass, first, second));
+    }
+    table.look(pass);
+    table.give_back(pass, 1, second);
+    table.give_back(pass, 0, first);
+    Outcome::Stuck
+}

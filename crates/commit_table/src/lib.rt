@@ -1,0 +1,34 @@
+//! One history under locks, committed by one addition.
+//!
+//! The state of a machine lies in shards. Threads share a `CommitTable` of them, and each holds a `Pass`: it takes the
+//! shards of an event, looks, commits the event by one atomic addition, and gives the shards back. What they commit is one
+//! legal history, which exists in proofs alone. A contract sees a pass as what it knows (`Known`): the history as it was
+//! seen, its own events, its looks, and the shards that it holds.
+//!
+//! `specs/Machine.antt` says what a machine has to be, `specs/Rule.antt` what holds between any two steps, and
+//! `specs/Calls.antt` what each call tells. Nothing here waits, and nothing but `CommitTable::new` takes memory.
+#![tactic(auto)]
+
+mod board;
+mod close;
+mod counters;
+mod holds;
+mod pass;
+mod plays;
+mod ranks;
+mod seats;
+mod sharded;
+mod steps;
+mod table;
+mod views;
+
+pub use close::{Ended, Tally};
+pub use counters::{Counters, Deal, Outcome, carry, raise, raise_held};
+pub use pass::{Note, Pass};
+pub use ranks::{Act, Noted, RankPart, TwoRanks};
+pub use sharded::Sharded;
+pub use table::CommitTable;
+pub use views::{Known, View};
+
+#[cfg(test)]
+mod tests;

@@ -1,0 +1,168 @@
+//! What the holder of a pass has, and notes that passes send to one another.
+ghost use Rattle.std.specs.Prelude.{◌≡◌, ℕ, ◌+◌, ◌-◌, ◌^◌, ◌<◌, Option, Some, None, List, [], ◌∷◌, length, min, slice_index, slice_set, vec_len, IfOk, IfSome, IfNone};
+ghost use Rattle.commit_table.specs.Views.{at_rest, held_at, new_pass, noted, took, missed, gave_back};
+ghost use Rattle.commit_table.specs.Calls.{IsSized, Taken, Looked, MayCommit, Committed, misses_in};
+ghost use mathlib.Core.List.{IsPrefix};
+
+use crate::board::{Board, Place};
+use crate::holds::{add, give, take};
+use crate::seats::{hear_note, part_note};
+use crate::sharded::Sharded;
+use crate::steps::look_word;
+use std::alloc::{AllocError, Global};
+use std::marker::Model;
+
+/// The right to act as one party of a machine. It may move to another thread, and it holds what that thread knows.
+#[derive(Drop)]
+pub struct Pass<M: Sharded> {
+    seat: Place<M>,
+    party: u32,
+    misses: Vec<u64>,
+}
+
+impl<M: Sharded> Model for Pass<M> {
+    ghost use Rattle.std.specs.Prelude.{◌≡◌, ℕ, [], Some, length, vec_len};
+    ghost use Rattle.commit_table.specs.Views.{at_rest};
+    ghost use Rattle.commit_table.specs.Calls.{PassValue, Counts};
+
+    ghost Value = { PassValue M M.Event };
+
+    ghost view = { λ p. record { table = p.seat.table_id; known = p.seat.me.0.known } };
+
+    ghost invariant = { λ p. (p.seat.me ≡ (at_rest p.seat.me.0.known, [])) × (p.seat.me.0.known.party ≡ Some p.party) × (vec_len p.misses ≡ p.seat.table_id.slots) × (length p.misses.items ≡ p.seat.table_id.slots) × Counts p.misses.items p.seat.me.0.known.missed };
+}
+
+/// What a pass has seen, to be told to another pass. It has no party.
+#[derive(Drop)]
+pub struct Note<M: Sharded> {
+    seat: Place<M>,
+}
+
+impl<M: Sharded> Model for Note<M> {
+    ghost use Rattle.std.specs.Prelude.{◌≡◌, [], None};
+    ghost use Rattle.commit_table.specs.Views.{at_rest};
+    ghost use Rattle.commit_table.specs.Calls.{PassValue};
+
+    ghost Value = { PassValue M M.Event };
+
+    ghost view = { λ p. record { table = p.seat.table_id; known = p.seat.me.0.known } };
+
+    ghost invariant = { λ p. (p.seat.me ≡ (at_rest p.seat.me.0.known, [])) × (p.seat.me.0.known.party ≡ None) };
+}
+
+impl<M: Sharded> Pass<M> {
+    pub(crate) fn new(
+        alloc: Global,
+        seat: Place<M>,
+        party: u32,
+        shards: usize,
+    ) -> Result<Pass<M>, AllocError>
+        requires { (shards ≡ seat.table_id.slots) × ((start : M) × (seat.me ≡ (at_rest (new_pass start (Some party) []), []))) }
+        ensures { IfOk result (λ p. (p.table ≡ seat.table_id) × (p.known ≡ seat.me.0.known)) }
+    {
+        let misses = Vec::from_elem(alloc, 0, shards)?;
+        Ok(Pass {
+            seat,
+            party,
+            misses,
+        })
+    }
+
+    pub(crate) fn into_seat(self) -> Place<M>
+        ensures seat { (result.table_id ≡ self.table) × (result.me ≡ (at_rest self.known, [])) }
+        ensures party { (p : ℕ) × (self.known.party ≡ Some p) }
+    {
+        let Pass {
+            seat,
+            party: _,
+            misses,
+        } = self;
+        drop(misses);
+        seat
+    }
+
+    pub(crate) fn misses(&self, shard: u32) -> u64
+        requires { shard < self.now.table.slots }
+        ensures { result ≡ misses_in self.now.known.missed shard }
+    {
+        self.misses[shard as usize]
+    }
+
+    pub(crate) fn number(&self) -> u32
+        ensures { self.now.known.party ≡ Some result }
+    {
+        self.party
+    }
+
+    fn count_miss(misses: &mut Vec<u64>, shard: u32)
+        requires { shard < vec_len misses.old }
+        ensures len { vec_len misses.new ≡ vec_len misses.old }
+        ensures items { misses.new.items ≡ slice_set misses.old.items shard (min (slice_index misses.old.items shard + 1) (2 ^ 64 - 1)) }
+    {
+        misses[shard as usize] = misses[shard as usize].saturating_add(1);
+    }
+
+    pub(crate) fn try_take(&mut self, board: &Board<M>, shard: u32) -> Option<M::Shard>
+        requires table { (self.old.table ≡ board.now.table_id) × (self.old.known.start ≡ Some board.now.key.start) }
+        requires size { IsSized board.now.table_id (M.machine board.now.key.start).shards }
+        requires shard { shard < (M.machine board.now.key.start).shards }
+        ensures taken { IfSome result (λ x. (g : List M.Event) × (self.new ≡ record self.old { known = took self.old.known shard g }) × Taken (M.machine board.now.key.start) self.old.known shard x g) }
+        ensures missed { IfNone result (self.new ≡ record self.old { known = missed self.old.known shard }) }
+    {
+        let Some(value) = take(board, &mut self.seat, shard) else {
+            Self::count_miss(&mut self.misses, shard);
+            return None;
+        };
+        Some(value)
+    }
+
+    pub(crate) fn look(&mut self, board: &Board<M>) -> u64
+        requires table { (self.old.table ≡ board.now.table_id) × (self.old.known.start ≡ Some board.now.key.start) }
+        requires size { IsSized board.now.table_id (M.machine board.now.key.start).shards }
+        ensures table { self.new.table ≡ self.old.table }
+        ensures told { (h : List M.Event) × Looked (M.machine board.now.key.start) self.old.known result h self.new.known }
+    {
+        look_word(board, &mut self.seat)
+    }
+
+    pub(crate) fn commit(&mut self, board: &Board<M>, event: &M::Event) -> u64
+        requires table { (self.old.table ≡ board.now.table_id) × (self.old.known.start ≡ Some board.now.key.start) }
+        requires size { IsSized board.now.table_id (M.machine board.now.key.start).shards }
+        requires may { MayCommit (M.machine board.now.key.start) self.old.known event.now }
+        ensures table { self.new.table ≡ self.old.table }
+        ensures told { (h : List M.Event) × Committed (M.machine board.now.key.start) self.old.known event.now result h self.new.known }
+    {
+        add(board, &mut self.seat, event)
+    }
+
+    pub(crate) fn give_back(&mut self, board: &Board<M>, shard: u32, value: M::Shard)
+        requires table { self.old.table ≡ board.now.table_id }
+        requires size { IsSized board.now.table_id (M.machine board.now.key.start).shards }
+        requires shard { shard < (M.machine board.now.key.start).shards }
+        requires value { (g : List M.Event) × (held_at self.old.known.held shard ≡ Some g) × (M.machine board.now.key.start).Stands shard value g }
+        ensures { self.new ≡ record self.old { known = gave_back self.old.known shard } }
+    {
+        give(board, &mut self.seat, shard, value);
+    }
+
+    pub(crate) fn note(&mut self, board: &Board<M>) -> Note<M>
+        requires table { self.old.table ≡ board.now.table_id }
+        requires size { IsSized board.now.table_id (M.machine board.now.key.start).shards }
+        ensures same { self.new ≡ self.old }
+        ensures note { result ≡ record { table = self.old.table; known = noted self.old.known } }
+    {
+        let seat = part_note(board, &mut self.seat);
+        Note { seat }
+    }
+
+    pub(crate) fn learn(&mut self, board: &Board<M>, note: Note<M>)
+        requires table { (self.old.table ≡ board.now.table_id) × (self.old.known.start ≡ Some board.now.key.start) × (note.table ≡ board.now.table_id) }
+        requires size { IsSized board.now.table_id (M.machine board.now.key.start).shards }
+        ensures table { self.new.table ≡ self.old.table }
+        ensures told { (h : List M.Event) × Looked (M.machine board.now.key.start) self.old.known (length h) h self.new.known × IsPrefix note.known.seen h }
+    {
+        let Note { seat } = note;
+        hear_note(board, &mut self.seat, seat);
+        look_word(board, &mut self.seat);
+    }
+}

@@ -1,0 +1,92 @@
+//! The atomic steps on the words, each in a function of its own, whose clause says what the step told. Between two of
+//! them other threads take theirs.
+ghost use Rattle.std.specs.Prelude.{◌≡◌, ℕ, ◌+◌, ◌<◌, Option, Some, None, List, [], ◌∷◌};
+ghost use Rattle.commit_table.specs.Views.{held_at, at_rest, reaching, hearing, gave_back};
+ghost use Rattle.commit_table.specs.Steps.{Takes, Reaches, Looks, Commits};
+ghost use Rattle.commit_table.specs.Calls.{IsSized, MayCommit};
+
+use crate::board::{Board, Place};
+use crate::plays::{Commit, Free, Look, Park, Reach, Take, Told};
+use crate::sharded::Sharded;
+
+const JOURNAL: usize = 0;
+
+// Take, or miss: a compare-exchange from 0 to 1. It found 0 where the shard was free, and 1 where it was missed.
+pub fn take_word<M: Sharded>(board: &Board<M>, seat: &mut Place<M>, shard: u32) -> u64
+    requires table { seat.old.table_id ≡ board.now.table_id }
+    requires size { IsSized board.now.table_id (M.machine board.now.key.start).shards }
+    requires shard { shard < (M.machine board.now.key.start).shards }
+    requires ready { seat.old.me ≡ (at_rest seat.old.me.0.known, []) }
+    requires party { (p : ℕ) × (seat.old.me.0.known.party ≡ Some p) }
+    ensures seat { (seat.new.table_id ≡ seat.old.table_id) × (seat.new.id ≡ seat.old.id) }
+    ensures told { Takes M.machine shard seat.old.me.0.known result seat.new.me }
+{
+    board.compare_exchange::<Take>(seat, shard as usize + 1, 0, 1)
+}
+
+// The slot of a held shard goes home, with what is in it.
+pub fn park_slot<M: Sharded>(board: &Board<M>, seat: &mut Place<M>, shard: u32)
+    requires table { seat.old.table_id ≡ board.now.table_id }
+    requires size { IsSized board.now.table_id (M.machine board.now.key.start).shards }
+    requires ready { (y : Option M.Shard) × (seat.old.me ≡ (reaching seat.old.me.0.known shard, (shard, y) ∷ [])) }
+    requires held { (g : List M.Event) × (held_at seat.old.me.0.known.held shard ≡ Some g) }
+    requires shard { shard < (M.machine board.now.key.start).shards }
+    ensures seat { (seat.new.table_id ≡ seat.old.table_id) × (seat.new.id ≡ seat.old.id) }
+    ensures told { seat.new.me ≡ (at_rest seat.old.me.0.known, []) }
+{
+    board.load::<Park>(seat, shard as usize + 1);
+}
+
+// The slot of a held shard goes out with the seat.
+pub fn reach_slot<M: Sharded>(board: &Board<M>, seat: &mut Place<M>, shard: u32)
+    requires table { seat.old.table_id ≡ board.now.table_id }
+    requires size { IsSized board.now.table_id (M.machine board.now.key.start).shards }
+    requires ready { seat.old.me ≡ (at_rest seat.old.me.0.known, []) }
+    requires held { (g : List M.Event) × (held_at seat.old.me.0.known.held shard ≡ Some g) }
+    requires shard { shard < (M.machine board.now.key.start).shards }
+    ensures seat { (seat.new.table_id ≡ seat.old.table_id) × (seat.new.id ≡ seat.old.id) }
+    ensures told { Reaches M.machine shard seat.old.me.0.known seat.new.me }
+{
+    board.load::<Reach>(seat, shard as usize + 1);
+}
+
+// Release: a store of 0. The value is in its slot, and stands for the history that the shard is held with.
+pub fn free_word<M: Sharded>(board: &Board<M>, seat: &mut Place<M>, shard: u32)
+    requires table { seat.old.table_id ≡ board.now.table_id }
+    requires size { IsSized board.now.table_id (M.machine board.now.key.start).shards }
+    requires ready { (x : M.Shard) × (seat.old.me ≡ (reaching seat.old.me.0.known shard, (shard, Some x) ∷ [])) × ((g : List M.Event) × (held_at seat.old.me.0.known.held shard ≡ Some g) × (M.machine board.now.key.start).Stands shard x g) }
+    requires shard { shard < (M.machine board.now.key.start).shards }
+    ensures seat { (seat.new.table_id ≡ seat.old.table_id) × (seat.new.id ≡ seat.old.id) }
+    ensures told { seat.new.me ≡ (at_rest (gave_back seat.old.me.0.known shard), []) }
+{
+    board.store::<Free>(seat, shard as usize + 1, 0);
+}
+
+// Look: a load of the journal word.
+pub fn look_word<M: Sharded>(board: &Board<M>, seat: &mut Place<M>) -> u64
+    requires table { seat.old.table_id ≡ board.now.table_id }
+    requires size { IsSized board.now.table_id (M.machine board.now.key.start).shards }
+    requires ready { seat.old.me ≡ (hearing seat.old.me.0.known seat.old.me.0.heard, []) }
+    ensures seat { (seat.new.table_id ≡ seat.old.table_id) × (seat.new.id ≡ seat.old.id) }
+    ensures told { Looks M.machine seat.old.me.0.known seat.old.me.0.heard result seat.new.me }
+{
+    board.load::<Look>(seat, JOURNAL)
+}
+
+// Commit: an addition of 1 to the journal word.
+pub fn add_told<M: Sharded, J: Told<M::Event>>(
+    board: &Board<M>,
+    seat: &mut Place<M>,
+    event: &M::Event,
+) -> u64
+    requires table { seat.old.table_id ≡ board.now.table_id }
+    requires size { IsSized board.now.table_id (M.machine board.now.key.start).shards }
+    requires ready { seat.old.me ≡ (at_rest seat.old.me.0.known, []) }
+    requires told { J.told ≡ event.now ∷ [] }
+    requires party { (p : ℕ) × (seat.old.me.0.known.party ≡ Some p) }
+    requires may { MayCommit (M.machine board.now.key.start) seat.old.me.0.known event.now }
+    ensures seat { (seat.new.table_id ≡ seat.old.table_id) × (seat.new.id ≡ seat.old.id) }
+    ensures told { Commits M.machine seat.old.me.0.known event.now result seat.new.me }
+{
+    board.fetch_add::<Commit<J>>(seat, JOURNAL, 1)
+}

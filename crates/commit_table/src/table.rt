@@ -1,0 +1,175 @@
+//! The table, as its users call it.
+ghost use Rattle.std.specs.Prelude.{◌≡◌, ℕ, ◌+◌, ◌^◌, ◌<◌, ◌≤◌, Option, Some, None, List, [], ◌∷◌, map, length, slice_get, replicate, vec_len, vec_capacity, IfOk, IfSome, IfNone};
+ghost use mathlib.Core.List.{IsPrefix};
+ghost use Rattle.commit_table.specs.Views.{held_at, at_rest, maker, new_pass, noted, took, missed, gave_back};
+ghost use Rattle.commit_table.specs.Calls.{IsSized, IsOf, Taken, Looked, MayCommit, Committed, AreShards, misses_in};
+
+use crate::board::{Begin, Board, Place, Whole};
+use crate::pass::{Note, Pass};
+use crate::seats::part_pass;
+use crate::sharded::Sharded;
+use atomic_table::Table;
+use std::alloc::{AllocError, Global};
+use std::marker::Model;
+
+/// The shards of a machine, and the history of its events, which exists in proofs alone. Threads share it by `&`.
+#[derive(Drop)]
+pub struct CommitTable<M: Sharded> {
+    pub(crate) table: Whole<M>,
+    pub(crate) begin: Begin<M>,
+    // Room for the shards' values, so that closing takes no memory.
+    pub(crate) room: Vec<M::Shard>,
+}
+
+impl<M: Sharded> Model for CommitTable<M> {
+    ghost use Rattle.std.specs.Prelude.{◌≡◌, ◌≤◌, ◌<◌, ◌^◌, [], vec_len, vec_capacity};
+    ghost use Rattle.commit_table.specs.Calls.{TableValue, IsSized};
+
+    ghost Value = { TableValue M };
+
+    ghost view = { λ t. record { table = t.table.shared.table_id; start = t.begin.start; passes = t.begin.passes } };
+
+    ghost invariant = { λ t. (t.table.shared.key ≡ t.begin) × IsSized t.table.shared.table_id (M.machine t.begin.start).shards × (t.room.items ≡ []) × (vec_len t.room ≡ 0) × ((M.machine t.begin.start).shards ≤ vec_capacity t.room) × ((M.machine t.begin.start).shards < 2 ^ 32) };
+}
+
+// Each shard's value in a slot of its own.
+fn filled<X: Drop>(alloc: Global, shards: Vec<X>) -> Result<Vec<Option<X>>, AllocError>
+    ensures { IfOk result (λ v. v.items ≡ map (λ x. Some x) shards.items) }
+{
+    let mut slots = Vec::with_capacity(alloc, shards.len())?;
+    for shard in shards {
+        slots.push(Some(shard))?;
+    }
+    Ok(slots)
+}
+
+fn make_passes<M: Sharded>(
+    alloc: Global,
+    board: &Board<M>,
+    mut seat: Place<M>,
+    shards: usize,
+    n: u32,
+) -> Result<Vec<Pass<M>>, AllocError>
+    requires table { (seat.table_id ≡ board.now.table_id) × (shards ≡ seat.table_id.slots) × (n ≡ board.now.key.passes) }
+    requires size { IsSized board.now.table_id (M.machine board.now.key.start).shards }
+    requires ready { seat.me ≡ (maker board.now.key.start 0 n, []) }
+    ensures count { IfOk result (λ ps. length ps.items ≡ n) }
+    ensures passes { IfOk result (λ ps. (k : ℕ) → k < n → slice_get ps.items k ≡ Some (record { table = board.now.table_id; known = new_pass board.now.key.start (Some k) [] })) }
+{
+    let mut passes = Vec::with_capacity(alloc, n as usize)?;
+    for party in 0..n {
+        let own = part_pass(board, &mut seat, party);
+        passes.push(Pass::new(alloc, own, party, shards)?)?;
+    }
+    Ok(passes)
+}
+
+impl<M: Sharded> CommitTable<M> {
+    /// Makes a table of a machine's shards, and all its passes: those of the parties 0 to n - 1, in order.
+    pub fn new(
+        alloc: Global,
+        start: M,
+        shards: Vec<M::Shard>,
+        n: u32,
+    ) -> Result<(CommitTable<M>, Vec<Pass<M>>), AllocError>
+        requires few { vec_len shards < 2 ^ 32 }
+        requires shards { AreShards (M.machine start) shards.items [] }
+        ensures table { IfOk result (λ r. (r.0.start ≡ start) × (r.0.passes ≡ n) × (r.0.table.slots ≡ (M.machine start).shards)) }
+        ensures count { IfOk result (λ r. length r.1.items ≡ n) }
+        ensures passes { IfOk result (λ r. (k : ℕ) → k < n → slice_get r.1.items k ≡ Some (record { table = r.0.table; known = new_pass start (Some k) [] })) }
+    {
+        let count = shards.len();
+        let room = Vec::with_capacity(alloc, count)?;
+        let words = Vec::from_elem(alloc, 0u64, count + 1)?;
+        let slots = filled(alloc, shards)?;
+        let begin = Begin { start, passes: n };
+        let Ok((table, seat)) = Table::new(alloc, words.as_slice(), slots, &begin) else {
+            return Err(AllocError);
+        };
+        let passes = make_passes(alloc, &table.shared, seat, count, n)?;
+        let table = CommitTable { table, begin, room };
+        Ok((table, passes))
+    }
+
+    /// The value that tells the machine's start.
+    pub fn start(&self) -> &M
+        ensures { result.now ≡ self.now.start }
+    {
+        &self.begin.start
+    }
+
+    /// Takes a shard with its value, in one compare-exchange and, where it has it, one exchange and one load. Where
+    /// another pass holds the shard it is missed, which counts.
+    pub fn try_take(&self, pass: &mut Pass<M>, shard: u32) -> Option<M::Shard>
+        requires pass { IsOf self.now pass.old }
+        requires shard { shard < (M.machine self.now.start).shards }
+        requires free { held_at pass.old.known.held shard ≡ None }
+        ensures taken { IfSome result (λ x. (g : List M.Event) × (pass.new ≡ record pass.old { known = took pass.old.known shard g }) × Taken (M.machine self.now.start) pass.old.known shard x g) }
+        ensures missed { IfNone result (pass.new ≡ record pass.old { known = missed pass.old.known shard }) }
+    {
+        pass.try_take(&self.table.shared, shard)
+    }
+
+    /// Sees the history so far, and says its length.
+    pub fn look(&self, pass: &mut Pass<M>) -> u64
+        requires pass { IsOf self.now pass.old }
+        ensures table { pass.new.table ≡ pass.old.table }
+        ensures told { (h : List M.Event) × Looked (M.machine self.now.start) pass.old.known result h pass.new.known }
+    {
+        pass.look(&self.table.shared)
+    }
+
+    /// Adds an event behind the history so far, in one addition, and says its place.
+    pub fn commit(&self, pass: &mut Pass<M>, event: &M::Event) -> u64
+        requires pass { IsOf self.now pass.old }
+        requires may { MayCommit (M.machine self.now.start) pass.old.known event.now }
+        ensures table { pass.new.table ≡ pass.old.table }
+        ensures told { (h : List M.Event) × Committed (M.machine self.now.start) pass.old.known event.now result h pass.new.known }
+    {
+        pass.commit(&self.table.shared, event)
+    }
+
+    /// Gives a shard back, with a value that stands for the history that it is held with.
+    pub fn give_back(&self, pass: &mut Pass<M>, shard: u32, value: M::Shard)
+        requires pass { IsOf self.now pass.old }
+        requires shard { shard < (M.machine self.now.start).shards }
+        requires value { (g : List M.Event) × (held_at pass.old.known.held shard ≡ Some g) × (M.machine self.now.start).Stands shard value g }
+        ensures { pass.new ≡ record pass.old { known = gave_back pass.old.known shard } }
+    {
+        pass.give_back(&self.table.shared, shard, value);
+    }
+
+    /// Makes a note of what the pass has seen, for another pass to learn.
+    pub fn note(&self, pass: &mut Pass<M>) -> Note<M>
+        requires pass { IsOf self.now pass.old }
+        ensures same { pass.new ≡ pass.old }
+        ensures note { result ≡ record { table = pass.old.table; known = noted pass.old.known } }
+    {
+        pass.note(&self.table.shared)
+    }
+
+    /// Looks, after what the note tells. It is one look.
+    pub fn learn(&self, pass: &mut Pass<M>, note: Note<M>)
+        requires pass { IsOf self.now pass.old }
+        requires note { note.table ≡ self.now.table }
+        ensures table { pass.new.table ≡ pass.old.table }
+        ensures told { (h : List M.Event) × Looked (M.machine self.now.start) pass.old.known (length h) h pass.new.known × IsPrefix note.known.seen h }
+    {
+        pass.learn(&self.table.shared, note);
+    }
+
+    /// How often the pass missed a shard. A count that stands at the type's end stays there.
+    pub fn misses(pass: &Pass<M>, shard: u32) -> u64
+        requires { shard < pass.now.table.slots }
+        ensures { result ≡ misses_in pass.now.known.missed shard }
+    {
+        pass.misses(shard)
+    }
+
+    /// The party of the pass.
+    pub fn number(pass: &Pass<M>) -> u32
+        ensures { pass.now.known.party ≡ Some result }
+    {
+        pass.number()
+    }
+}

@@ -1,0 +1,40 @@
+//! What a pass knows. The types are for proofs alone: no value of them is made.
+use std::collections::LinkedList;
+
+/// What the holder of a pass knows, as contracts see it.
+pub struct Known<S, E> {
+    /// The value that tells the machine's start. What is left of a pass that was taken in by another has none.
+    pub start: Option<S>,
+    /// The number of the pass, which no other pass has. A note has none.
+    pub party: Option<u32>,
+    /// The history so far as it was seen.
+    pub seen: LinkedList<E>,
+    /// The party's events that this pass committed.
+    pub mine: LinkedList<E>,
+    /// The places of all events that this pass committed.
+    pub commits: LinkedList<u64>,
+    /// The lengths of the history at each look.
+    pub looks: LinkedList<u64>,
+    /// The shards that were taken, the newest first, each with the history that its value stands for. One that was given
+    /// back has none.
+    pub held: LinkedList<(u32, Option<LinkedList<E>>)>,
+    /// The shards that were missed.
+    pub missed: LinkedList<u32>,
+}
+
+/// What a seat at the table knows: what contracts see, and what is between the steps of a call.
+pub struct View<S, E> {
+    pub known: Known<S, E>,
+    /// The shard whose slot is out with the seat.
+    pub out: Option<u32>,
+    /// A history that was told.
+    pub heard: LinkedList<E>,
+    /// The passes from `gives` on and below `ends` are this seat's to make.
+    pub gives: u32,
+    pub ends: u32,
+    /// The seat takes in all passes, to close the table, and remembers each.
+    pub gathers: bool,
+    pub gathered: LinkedList<Known<S, E>>,
+    /// It has taken in all passes, and looked since.
+    pub closed: bool,
+}
