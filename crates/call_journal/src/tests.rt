@@ -1,7 +1,8 @@
 use crate::{Journal, JournalFault, Verdict, check, journals_differ_in_text, read, write};
 use gaspi_model::Why;
 use gaspi_types::{
-    Bytes, Call, CallerId, Event, Outcome, QueueId, RankId, Reply, Rows, Shape, ThreadId,
+    Bytes, Call, CallerId, Event, Notify, Outcome, QueueId, RankId, Reply, Rows, Shape, Store,
+    ThreadId,
 };
 use std::alloc::Global;
 use std::process::Abort;
@@ -16,22 +17,22 @@ fn caller() -> CallerId {
 }
 
 fn store(alloc: Global) -> Result<Event, Fail> {
-    let call = Call::Store {
+    let call = Call::Store(Store {
         seg: 0,
         offset: 0,
         bytes: Rows::copied_from(alloc, &[0, 255])?,
-    };
+    });
     Ok(Event::Called(caller(), call, Reply::Done))
 }
 
 fn notify(reply: Reply) -> Event {
-    let call = Call::Notify {
+    let call = Call::Notify(Notify {
         rseg: 0,
         rank: 1,
         note: 3,
         value: 7,
         queue: 0,
-    };
+    });
     Event::Called(caller(), call, reply)
 }
 
