@@ -1,5 +1,5 @@
 -- Calls keep the queues of a rank sound.
-use Rattle.std.proofs.Common.{◌≡◌, ℕ, ◌+◌, ◌≤◌, Bool, true, false, List, length, Option, None, Some, Result, Ok, Err, refl, sym, ap, ◌∙◌, ◌⊎◌, inl, inr, if◌then◌else◌}
+use Rattle.std.proofs.Common.{◌≡◌, ℕ, ◌+◌, ◌≤◌, Bool, true, false, List, length, Option, None, Some, Result, Ok, refl, sym, ◌∙◌, ◌⊎◌, inl, inr, if◌then◌else◌}
 use Rattle.std.specs.List.{slice_get, list_any}
 use Rattle.std.proofs.lemmas.Bool.{leb-true}
 use Rattle.gaspi_types.specs.Lanes.{has_posted, posted_entries}
@@ -16,7 +16,6 @@ use Rattle.gaspi_types.specs.declared.replies.Reply.{Reply}
 use Rattle.gaspi_types.specs.declared.replies.Reply.TheVariants as replies
 use Rattle.gaspi_types.specs.declared.replies.Refusal.{Refusal}
 use Rattle.gaspi_types.specs.declared.replies.Refusal.TheVariants.{BadQueue, QueueBroken}
-use Rattle.gaspi_model.specs.State.{is_running, thread_at}
 use Rattle.gaspi_model.specs.Posting.{changed_at, with_entries, with_post}
 use Rattle.gaspi_model.specs.PostCalls.{asked_finds}
 use Rattle.gaspi_model.specs.QueueCalls.{wait_finds}

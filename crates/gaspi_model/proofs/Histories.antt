@@ -1,6 +1,6 @@
 -- Histories, one event after another.
-use Rattle.std.proofs.Common.{◌≡◌, true, zero, suc, List, [], ◌∷◌, ◌++◌, Some, Result, Ok, Err, refl, sym, ap, ◌∙◌, is_ok}
-use Rattle.std.specs.List.{slice_get, slice_set}
+use Rattle.std.proofs.Common.{◌≡◌, true, List, [], ◌∷◌, ◌++◌, Result, Ok, Err, refl, sym, ap, ◌∙◌, is_ok}
+use Rattle.std.specs.List.{slice_set}
 use Rattle.gaspi_types.specs.Replies.{is_idle}
 use Rattle.gaspi_types.specs.World.{World, IsWorld}
 use Rattle.gaspi_types.specs.declared.shapes.CallerId.{CallerId}

@@ -26,6 +26,7 @@ pub mod CorruptMarks
 pub mod Histories
 pub mod PutDone
 pub mod NotificationOrder
+pub mod OwnCalls
 pub mod PostStands
 pub mod CallerEnds
 pub mod WorkedHistories

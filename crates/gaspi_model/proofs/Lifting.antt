@@ -1,10 +1,10 @@
 -- A step on the parts of a reach reads and changes the shards of that reach alone, whatever the step is.
-use Rattle.std.proofs.Common.{◌≡◌, ℕ, zero, suc, Bool, true, false, ◌==◌, ◌||◌, List, [], ◌∷◌, Option, None, Some, Result, Ok, Err, refl, sym, ap, ◌∙◌, subst, if◌then◌else◌}
-use Rattle.std.specs.List.{slice_get, slice_set, list_any}
+use Rattle.std.proofs.Common.{◌≡◌, ℕ, zero, suc, Bool, true, false, ◌==◌, ◌||◌, List, [], ◌∷◌, Option, None, Some, Result, Ok, Err, refl, sym, ap, ◌∙◌, subst}
+use Rattle.std.specs.List.{slice_get, slice_set}
 use Rattle.std.proofs.lemmas.Bool.{eq-eqb, eqb-true, eqb-false}
 use Rattle.gaspi_types.specs.declared.touches.Reach.{Reach}
 use Rattle.gaspi_types.specs.declared.touches.Reach.TheVariants.{Alone, OwnMemory, PeerMemory, PeerPosts}
-use Rattle.gaspi_model.specs.Parts.{Parts, Touched, touched_of, part_at, with_part, parts_of, with_parts, lifted}
+use Rattle.gaspi_model.specs.Parts.{Parts, touched_of, with_part, parts_of, with_parts, lifted}
 use Rattle.gaspi_model.specs.Shards.{reach_shards, is_shard, same_shard, HaveSamePart, AgreeOn, ComeToSame}
 use Rattle.gaspi_model.specs.declared.states.Posts.{Posts}
 use Rattle.gaspi_model.specs.declared.states.Memory.{Memory}

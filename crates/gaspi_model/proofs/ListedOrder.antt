@@ -1,5 +1,5 @@
 -- Transfers are listed by origin, queue, target and number.
-use Rattle.std.proofs.Common.{◌≡◌, ℕ, zero, suc, ◌+◌, ◌-◌, ◌<◌, Bool, true, false, ◌==◌, ◌&&◌, ◌||◌, nat_lt, List, [], ◌∷◌, ◌++◌, length, Option, None, Some, refl, sym, ap, ◌∙◌, subst, arith, is_none, ◌⊎◌, inl, inr, if◌then◌else◌}
+use Rattle.std.proofs.Common.{◌≡◌, ℕ, zero, suc, ◌+◌, ◌<◌, Bool, true, false, ◌==◌, ◌&&◌, ◌||◌, List, [], ◌∷◌, ◌++◌, length, Some, refl, sym, ◌∙◌, subst, arith, is_none, ◌⊎◌, inl, inr}
 use Rattle.std.specs.List.{slice_get, flat_map, enumerate_from}
 use Rattle.std.proofs.lemmas.Bool.{lt-ltb, eq-eqb}
 use Rattle.std.proofs.lemmas.Option.{slice_get_within}
@@ -12,7 +12,7 @@ use Rattle.gaspi_model.specs.Sound.{IsSound, IsSoundPosts, AreRising, AreAbove}
 use Rattle.gaspi_model.specs.declared.states.Queue.{Queue}
 use Rattle.gaspi_model.specs.declared.states.Posts.{Posts}
 use Rattle.gaspi_model.specs.declared.states.State.{State}
-use Rattle.gaspi_model.proofs.Tables.{flat_map-parts, enumerate-at, front-of-joined}
+use Rattle.gaspi_model.proofs.Tables.{flat_map-parts, enumerate-at}
 
 -- what comes earlier in a list comes before what comes later
 abbrev IsOrdered : (T : Type 0) → (T → T → Bool) → List T → Type 0

@@ -1,17 +1,15 @@
 -- A transfer that is a step is listed.
-use Rattle.std.proofs.Common.{◌≡◌, ℕ, zero, suc, ◌+◌, Bool, true, false, List, [], ◌∷◌, ◌++◌, length, Option, None, Some, Ok, refl, sym, ap, ◌∙◌, subst, arith, is_none, ◌&&◌, if◌then◌else◌}
+use Rattle.std.proofs.Common.{◌≡◌, ℕ, zero, suc, ◌+◌, true, false, List, [], ◌∷◌, length, Some, Ok, refl, ap, ◌∙◌, arith, is_none}
 use Rattle.std.specs.List.{slice_get, flat_map, enumerate_from}
-use Rattle.gaspi_types.specs.Lanes.{may_take, may_put, is_posted, is_posted_phase, is_carried, is_carried_phase}
+use Rattle.gaspi_types.specs.Lanes.{may_take, is_carried, is_carried_phase}
 use Rattle.gaspi_types.specs.declared.entries.Entry.{Entry}
 use Rattle.gaspi_types.specs.declared.entries.Phase.{Phase}
 use Rattle.gaspi_types.specs.declared.entries.Phase.TheVariants as phases
 use Rattle.gaspi_types.specs.declared.events.Outcome.{Outcome}
 use Rattle.gaspi_types.specs.declared.events.Event.TheVariants.{Take, Put}
 use Rattle.gaspi_types.specs.declared.events.Transfer.{Transfer}
-use Rattle.gaspi_types.specs.declared.shapes.Limits.{Limits}
 use Rattle.gaspi_model.specs.Transfers.{Found, transfer_of, lane_transfers, queue_transfers, rank_transfers, transfers}
 use Rattle.gaspi_model.specs.Step.{step}
-use Rattle.gaspi_model.specs.declared.states.Queue.{Queue}
 use Rattle.gaspi_model.specs.declared.states.Posts.{Posts}
 use Rattle.gaspi_model.specs.declared.states.State.{State}
 use Rattle.gaspi_model.proofs.Chains.{both}

@@ -1,15 +1,18 @@
 -- An event reads and changes the parts of its shards alone.
-use Rattle.std.proofs.Common.{◌≡◌, ℕ, ◌+◌, ◌≤◌, Bool, true, false, ◌==◌, ◌||◌, List, [], ◌∷◌, map, Option, None, Some, Result, Ok, Err, refl, sym, ap, ◌∙◌, subst, arith, cond, if◌then◌else◌}
-use Rattle.std.specs.List.{slice_get, list_any, count_by}
-use Rattle.std.proofs.lemmas.Bool.{eq-eqb, eqb-true, eqb-false}
+use Rattle.std.proofs.Common.{◌≡◌, ℕ, ◌+◌, ◌≤◌, Bool, true, false, ◌==◌, ◌||◌, List, [], ◌∷◌, map, length, Option, None, Some, Ok, refl, sym, ap, ◌∙◌, subst, arith, cond}
+use Rattle.std.specs.List.{slice_get, count_by}
+use Rattle.std.proofs.lemmas.Bool.{eq-eqb, eqb-true}
 use Rattle.gaspi_types.specs.CallRows.{row_of}
 use Rattle.gaspi_types.specs.Touches.{reach_of}
 use Rattle.gaspi_types.specs.declared.shapes.CallerId.{CallerId}
 use Rattle.gaspi_types.specs.declared.shapes.Limits.{Limits}
 use Rattle.gaspi_types.specs.declared.calls.Call.{Call}
+use Rattle.gaspi_types.specs.declared.calls.Call.TheVariants.{Write, Notify, WriteNotify, Wait}
+use Rattle.gaspi_types.specs.declared.calls.queues.Wait as wait
+use Rattle.gaspi_types.specs.declared.call_rows.Posting.{Posting}
 use Rattle.gaspi_types.specs.declared.replies.Reply.{Reply}
 use Rattle.gaspi_types.specs.declared.events.Event.{Event}
-use Rattle.gaspi_types.specs.declared.events.Event.TheVariants.{Called, Take, Put}
+use Rattle.gaspi_types.specs.declared.events.Event.TheVariants.{Called}
 use Rattle.gaspi_types.specs.declared.touches.Touch.{Touch}
 use Rattle.gaspi_types.specs.declared.touches.Touch.TheVariants as touches
 use Rattle.gaspi_types.specs.declared.touches.Reach.{Reach}
@@ -21,7 +24,6 @@ use Rattle.gaspi_model.specs.declared.states.Posts.{Posts}
 use Rattle.gaspi_model.specs.declared.states.State.{State}
 use Rattle.gaspi_model.specs.declared.states.Shard.{Shard}
 use Rattle.gaspi_model.specs.declared.states.Shard.TheVariants as shards
-use Rattle.gaspi_model.specs.declared.states.Why.{Why}
 use Rattle.gaspi_model.proofs.Chains.{found_then}
 use Rattle.gaspi_model.proofs.Lifting.{first-is-shard, owner-is-shard, lifted-frame, lifted-determined}
 use Rattle.gaspi_model.proofs.Told.{peer-touched}
@@ -83,6 +85,40 @@ once s e shard = go (slice_get s.posts (owner_of e)) refl
     go : (o : Option Posts) → slice_get s.posts (owner_of e) ≡ o → count_by (λ x. same_shard x shard) (footprint s e) ≤ 1
     go None at = rw at (reach-once (owner_of e) Alone (λ rank is. (let no : ⊥ = cc in absurd no)) shard)
     go (Some posts) at = rw at (reach-once (owner_of e) (event_reach s.limits posts e) (λ rank is. (peer-touched s.limits.ranks (owner_of e) rank (event_touch posts e) is).1) shard)
+
+-- an event has at most one shard beside its owner's posts
+reach-few : (me : ℕ) (r : Reach) → length (reach_shards me r) ≤ 2
+reach-few me Alone = omega arith
+reach-few me OwnMemory = omega arith
+reach-few me (PeerMemory rank) = omega arith
+reach-few me (PeerPosts rank) = omega arith
+
+pub few : (s : State) (e : Event) → length (footprint s e) ≤ 2
+few s e = go (slice_get s.posts (owner_of e)) refl
+  where
+    go : (o : Option Posts) → slice_get s.posts (owner_of e) ≡ o → length (footprint s e) ≤ 2
+    go None at = rw at (omega arith)
+    go (Some posts) at = rw at (reach-few (owner_of e) (event_reach s.limits posts e))
+
+-- a call that posts reaches its owner's posts alone
+posting-reaches-none : (call : Call) (to : Posting) → (row_of call).posting ≡ Some to → (row_of call).touch ≡ touches.Nothing
+posting-reaches-none (Write call) to is = refl
+posting-reaches-none (Notify call) to is = refl
+posting-reaches-none (WriteNotify call) to is = refl
+posting-reaches-none call to is = absurd (let no : ⊥ = cc in no)
+
+untouched : (s : State) (c : CallerId) (call : Call) (reply : Reply) → (row_of call).touch ≡ touches.Nothing → footprint s (Called c call reply) ≡ shards.Posts c.rank ∷ []
+untouched s c call reply none = go (slice_get s.posts c.rank) refl
+  where
+    go : (o : Option Posts) → slice_get s.posts c.rank ≡ o → footprint s (Called c call reply) ≡ shards.Posts c.rank ∷ []
+    go None at = rw at refl
+    go (Some posts) at = rw at (ap (λ (touch : Touch). reach_shards c.rank (reach_of s.limits.ranks c.rank touch)) none)
+
+pub posting-alone : (s : State) (c : CallerId) (call : Call) (reply : Reply) (to : Posting) → (row_of call).posting ≡ Some to → footprint s (Called c call reply) ≡ shards.Posts c.rank ∷ []
+posting-alone s c call reply to posts = untouched s c call reply (posting-reaches-none call to posts)
+
+pub wait-alone : (s : State) (c : CallerId) (call : wait.Wait) (reply : Reply) → footprint s (Called c (Wait call) reply) ≡ shards.Posts c.rank ∷ []
+wait-alone s c call reply = untouched s c (Wait call) reply refl
 
 -- Coarser shards.
 

@@ -1,5 +1,5 @@
 -- What a transfer that was made says, and what a call that was recorded says.
-use Rattle.std.proofs.Common.{◌≡◌, ℕ, zero, suc, ◌+◌, true, false, List, [], ◌∷◌, Option, None, Some, Ok, refl, sym, ap, ◌∙◌, subst, is_none, length, nat_le}
+use Rattle.std.proofs.Common.{◌≡◌, ℕ, zero, suc, ◌+◌, true, List, [], ◌∷◌, Option, None, Some, Ok, refl, sym, ap, ◌∙◌, subst, is_none, length, nat_le}
 use Rattle.std.specs.List.{slice_get, slice_set}
 use Rattle.gaspi_types.specs.Lanes.{may_take, may_put, place_of}
 use Rattle.gaspi_types.specs.Replies.{same_reply}

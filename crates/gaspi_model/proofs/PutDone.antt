@@ -1,5 +1,5 @@
 -- What a put changes.
-use Rattle.std.proofs.Common.{◌≡◌, ℕ, zero, suc, ◌+◌, ◌<◌, ◌≤◌, Bool, true, false, List, ◌++◌, length, take, drop, Option, None, Some, Ok, refl, sym, ap, ◌∙◌, subst, arith}
+use Rattle.std.proofs.Common.{◌≡◌, ℕ, zero, suc, ◌+◌, ◌<◌, ◌≤◌, Bool, true, false, List, ◌++◌, length, take, drop, Option, None, Some, Ok, refl, sym, ap, ◌∙◌, subst, arith, is_none}
 use Rattle.std.specs.List.{slice_get, slice_set}
 use Rattle.std.specs.Option.{option_map}
 use Rattle.std.proofs.lemmas.Bool.{le-leb, leb-true, eqb-true}
@@ -65,7 +65,7 @@ stored bytes new offset within =
         difference (suc a) (suc b) less = let rest = difference a b (omega arith) in (rest.0, let at = rest.1 in omega arith)
 
 -- a slot set, where it is one of the segment's
-slot-set : (slots : List ℕ) (note value : ℕ) → note < length slots → IsSlotSet slots (slice_set slots note value) note value
+pub slot-set : (slots : List ℕ) (note value : ℕ) → note < length slots → IsSlotSet slots (slice_set slots note value) note value
 slot-set slots note value within = go (slice_get slots note) refl
   where
     go : (o : Option ℕ) → slice_get slots note ≡ o → IsSlotSet slots (slice_set slots note value) note value
@@ -105,7 +105,7 @@ pub changed-elsewhere : (memory : Memory) (segment : ℕ) (x : Option Segment) (
 changed-elsewhere memory segment x k apart = rw (slice_get-set_other memory.segments segment k x (λ same. apart (sym same))) refl
 
 -- how many slots a segment has
-slots-there : (memory : Memory) (segment notes : ℕ) (s : Segment) → ((k n : ℕ) → entry_at (slot_counts memory) k ≡ Some n → n ≡ notes) → segment_at memory segment ≡ Some s → length s.slots ≡ notes
+pub slots-there : (memory : Memory) (segment notes : ℕ) (s : Segment) → ((k n : ℕ) → entry_at (slot_counts memory) k ≡ Some n → n ≡ notes) → segment_at memory segment ≡ Some s → length s.slots ≡ notes
 slots-there memory segment notes s counts h =
     let at = joined memory.segments segment s h in
     counts segment (length s.slots) (rw (slice_get-map (option_map (λ (x : Segment). length x.slots)) memory.segments segment, at) refl)
@@ -154,6 +154,11 @@ puts-into notes memory number (Notify target value) phase mine theirs old there 
       puts = (subst (λ (b : List ℕ). IsSlotSet old.slots (slice_set b target.note value) target.note value) (sym same) (slot-set old.slots target.note value within), refl);
     }
 
+-- a queue that is not broken
+pub none-broken : (o : Option ℕ) → is_none o ≡ true → o ≡ None
+none-broken None h = refl
+none-broken (Some x) h = absurd (let no : ⊥ = cc in no)
+
 pub put-done : (s t : State) (origin queue target number : ℕ) → IsSound s → step s (Put origin queue target number Applied) ≡ Ok t → IsPutDone s t origin queue target number
 put-done s t origin queue target number sound h =
     let made = sound-put s t origin queue target number Applied sound h in
@@ -183,6 +188,7 @@ put-done s t origin queue target number sound h =
           entry_there = m.is.is.in_lane;
           numbered = found-number at.lane number at.place at.entry m.is.is.numbered m.is.is.in_lane;
           carried = carried;
+          whole = none-broken at.queue.broken m.is.whole;
           posts_after = ap (λ (x : State). x.posts) m.leaves ∙ rw m.is.leaves refl;
           old = memory;
           new = memory_put memory at.entry;

@@ -1,20 +1,17 @@
 -- A settled state stays settled: its callers are refused, and there is no transfer to be made.
-use Rattle.std.proofs.Common.{◌≡◌, ℕ, Bool, true, false, ◌==◌, List, [], ◌∷◌, Option, None, Some, Ok, refl, sym, ap, ◌∙◌, subst, is_none, ◌⊎◌, inl, inr}
-use Rattle.std.specs.List.{slice_get, slice_set}
+use Rattle.std.proofs.Common.{◌≡◌, ℕ, true, false, List, [], ◌∷◌, Some, Ok, refl, sym, ◌∙◌, subst, is_none, ◌⊎◌, inl, inr}
+use Rattle.std.specs.List.{slice_get}
 use Rattle.gaspi_types.specs.Replies.{is_idle}
-use Rattle.gaspi_types.specs.declared.calls.Call.{Call}
 use Rattle.gaspi_types.specs.declared.entries.Entry.{Entry}
 use Rattle.gaspi_types.specs.declared.events.Event.{Event}
 use Rattle.gaspi_types.specs.declared.events.Event.TheVariants.{Called, Take, Put}
-use Rattle.gaspi_types.specs.declared.replies.Reply.{Reply}
 use Rattle.gaspi_types.specs.declared.replies.Reply.TheVariants as replies
 use Rattle.gaspi_types.specs.declared.replies.Refusal.TheVariants.{CallerEnded}
-use Rattle.gaspi_types.specs.declared.shapes.CallerId.{CallerId}
 use Rattle.gaspi_model.specs.State.{thread_at, is_running}
 use Rattle.gaspi_model.specs.Posting.{counted}
 use Rattle.gaspi_model.specs.Calls.{answer, recorded_reply}
 use Rattle.gaspi_model.specs.Transfers.{Found}
-use Rattle.gaspi_model.specs.Step.{step, after, is_active}
+use Rattle.gaspi_model.specs.Step.{step, after}
 use Rattle.gaspi_model.specs.Settled.{AreLanesEmpty, IsSettled}
 use Rattle.gaspi_model.specs.Changes.{IsOnlyCounted}
 use Rattle.gaspi_model.specs.declared.states.Queue.{Queue}

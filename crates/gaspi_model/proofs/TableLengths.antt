@@ -1,5 +1,5 @@
 -- Every step keeps the lengths of all tables.
-use Rattle.std.proofs.Common.{◌≡◌, ℕ, Bool, true, false, ◌==◌, List, length, Option, None, Some, Result, Ok, Err, refl, sym, ap, ◌∙◌, subst, arith, remove, if◌then◌else◌, ◌⊎◌, inl, inr}
+use Rattle.std.proofs.Common.{◌≡◌, ℕ, Bool, true, false, ◌==◌, List, length, Option, None, Some, Result, Ok, Err, refl, sym, ap, ◌∙◌, arith, remove, if◌then◌else◌}
 use Rattle.std.specs.List.{slice_get, slice_set}
 use Rattle.std.specs.Option.{option_map}
 use Rattle.std.proofs.lemmas.List.{length-set, length-map}
@@ -17,7 +17,7 @@ use Rattle.gaspi_types.specs.declared.events.Outcome.TheVariants.{Applied, Faile
 use Rattle.gaspi_types.specs.declared.replies.Reply.{Reply}
 use Rattle.gaspi_types.specs.declared.replies.Refusal.{Refusal}
 use Rattle.gaspi_types.specs.declared.shapes.Limits.{Limits}
-use Rattle.gaspi_model.specs.Posting.{changed_at, with_post, counted}
+use Rattle.gaspi_model.specs.Posting.{with_post, counted}
 use Rattle.gaspi_model.specs.SegmentCalls.{with_known}
 use Rattle.gaspi_model.specs.Calls.{plain_done, posts_done, call_asks}
 use Rattle.gaspi_model.specs.Transfers.{Found, Worked, with_lane}

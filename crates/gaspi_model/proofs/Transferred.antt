@@ -1,5 +1,5 @@
 -- What a take leaves, and what a put that failed.
-use Rattle.std.proofs.Common.{◌≡◌, ◌≢◌, ℕ, ◌+◌, Ok, arith, Bool, true, false, ◌==◌, List, Option, None, Some, refl, sym, ap, ◌∙◌, subst, is_none, if◌then◌else◌}
+use Rattle.std.proofs.Common.{◌≡◌, ◌≢◌, ℕ, ◌+◌, Ok, arith, true, List, Option, None, Some, refl, ap, ◌∙◌, subst}
 use Rattle.std.specs.List.{slice_get, slice_set}
 use Rattle.std.proofs.lemmas.Bool.{eq-eqb}
 use Rattle.gaspi_types.specs.Lanes.{is_posted, is_carried}
@@ -19,7 +19,7 @@ use Rattle.gaspi_model.specs.State.{segment_at}
 use Rattle.gaspi_model.specs.Memories.{bytes_of, bytes_in, is_generation}
 use Rattle.gaspi_model.specs.Transfers.{Found, put_outcome, same_outcome, taken_bytes, target_segment, target_generation}
 use Rattle.gaspi_model.specs.Step.{step}
-use Rattle.gaspi_model.specs.Coherence.{Fits, HasSource, extent_of, extents_of, tables_of}
+use Rattle.gaspi_model.specs.Coherence.{Fits, HasSource, extents_of, tables_of}
 use Rattle.gaspi_model.specs.Sound.{IsSound}
 use Rattle.gaspi_model.specs.Changes.{IsPutFailed, IsTaken, Takes}
 use Rattle.gaspi_model.specs.declared.states.Posts.{Posts}
@@ -27,16 +27,13 @@ use Rattle.gaspi_model.specs.declared.states.Segment.{Segment}
 use Rattle.gaspi_model.specs.declared.states.Memory.{Memory}
 use Rattle.gaspi_model.specs.declared.states.State.{State}
 use Rattle.gaspi_model.proofs.Chains.{both}
+use Rattle.gaspi_model.proofs.PutDone.{none-broken}
 use Rattle.gaspi_model.proofs.CoherentSteps.{mine-there}
 use Rattle.gaspi_model.proofs.FittingEntries.{segment-behind}
 use Rattle.gaspi_model.proofs.NotificationOrder.{found-number}
 use Rattle.gaspi_model.proofs.Tables.{set-there, past-none}
 use Rattle.gaspi_model.proofs.Worked.{IsTakeThere, sound-take, sound-put}
 use Rattle.std.proofs.lemmas.Option.{slice_get_within}
-
-none-broken : (o : Option ℕ) → is_none o ≡ true → o ≡ None
-none-broken None h = refl
-none-broken (Some x) h = absurd (let no : ⊥ = cc in no)
 
 -- where a put fails, no segment of that generation is there
 failed-gone : (memory : Memory) (kind : Kind) → same_outcome Failed (put_outcome memory kind) ≡ true
@@ -125,6 +122,7 @@ take-done s t origin queue target number outcome sound h =
           entry_there = m.is.is.in_lane;
           numbered = found-number at.lane number at.place at.entry m.is.is.numbered m.is.is.in_lane;
           posted = posted;
+          whole = none-broken at.queue.broken m.is.whole;
           memory_there = m.memory_there;
           takes = takes s posts theirs memory at.entry (coherent.own origin posts memory m.posts_there m.memory_there) posted fits;
           after = m.leaves ∙ rw (m.is.leaves, m.is.is.in_posts) refl;

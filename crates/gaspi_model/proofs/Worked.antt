@@ -1,5 +1,5 @@
 -- In a sound state the memory that an event works on is there: its owner's, or that of a rank that it names.
-use Rattle.std.proofs.Common.{◌≡◌, ℕ, ◌<◌, Bool, true, false, ◌==◌, nat_lt, List, length, Option, None, Some, Result, Ok, Err, refl, sym, ap, ◌∙◌, subst, arith, if◌then◌else◌}
+use Rattle.std.proofs.Common.{◌≡◌, ℕ, ◌<◌, Bool, true, false, ◌==◌, nat_lt, List, length, Some, Ok, refl, sym, ap, ◌∙◌, subst, arith, if◌then◌else◌}
 use Rattle.std.specs.List.{slice_get, slice_set}
 use Rattle.std.proofs.lemmas.Bool.{ltb-true, lt-ltb, eqb-true}
 use Rattle.std.proofs.lemmas.Option.{slice_get_within}
@@ -19,7 +19,6 @@ use Rattle.gaspi_types.specs.declared.touches.Reach.{Reach}
 use Rattle.gaspi_types.specs.declared.touches.Reach.TheVariants.{Alone, OwnMemory, PeerMemory, PeerPosts}
 use Rattle.gaspi_model.specs.State.{thread_at, is_running}
 use Rattle.gaspi_model.specs.Calls.{call_finds, answer, recorded_reply, ready_of, memory_done, memory_after}
-use Rattle.gaspi_model.specs.AtomicCalls.{word_finds}
 use Rattle.gaspi_model.specs.Parts.{memory_or_none}
 use Rattle.gaspi_model.specs.Transfers.{Found, Worked}
 use Rattle.gaspi_model.specs.Step.{step}

@@ -10,7 +10,7 @@ use Rattle.gaspi_types.specs.declared.replies.Refusal.TheVariants.{Unregistered,
 use Rattle.gaspi_model.specs.Step.{is_legal, reached}
 use Rattle.gaspi_model.specs.declared.states.Why.TheVariants as whys
 
--- two ranks with a segment of four bytes and eight slots each
+-- two ranks with a segment of 16 bytes and eight slots each
 abbrev pub two_ranks : World
 two_ranks = record {
   limits = record { ranks = 2; queues = 1; depth = 4; notes = 8; inbox = 4; events = 1000 };

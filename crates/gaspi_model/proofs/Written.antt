@@ -21,7 +21,7 @@ use Rattle.gaspi_types.specs.CallRows.{row_of}
 use Rattle.gaspi_types.specs.Touches.{reach_of}
 use Rattle.gaspi_types.specs.declared.touches.Touch.{Touch}
 use Rattle.gaspi_types.specs.declared.touches.Touch.TheVariants as touches
-use Rattle.gaspi_types.specs.declared.touches.Reach.TheVariants.{Alone, OwnMemory, PeerMemory, PeerPosts}
+use Rattle.gaspi_types.specs.declared.touches.Reach.TheVariants.{Alone, OwnMemory, PeerMemory}
 use Rattle.gaspi_types.specs.declared.replies.Reply.{Reply}
 use Rattle.gaspi_types.specs.declared.replies.Reply.TheVariants as replies
 use Rattle.gaspi_types.specs.declared.events.Event.TheVariants.{Called}
@@ -31,9 +31,10 @@ use Rattle.gaspi_model.specs.Posting.{counted}
 use Rattle.gaspi_model.specs.MemoryCalls.{store_finds}
 use Rattle.gaspi_model.specs.AtomicCalls.{word_finds}
 use Rattle.gaspi_model.specs.Step.{step}
+use Rattle.gaspi_model.specs.Transfers.{Worked}
 use Rattle.gaspi_model.specs.Coherence.{extent_of, tables_of}
 use Rattle.gaspi_model.specs.Sound.{IsSound}
-use Rattle.gaspi_model.specs.Changes.{IsOnlyCounted, IsStored, IsWritten}
+use Rattle.gaspi_model.specs.Changes.{IsOnlyCounted, IsStored, IsWritten, IsAnswered}
 use Rattle.gaspi_model.specs.declared.states.Posts.{Posts}
 use Rattle.gaspi_model.specs.declared.states.Segment.{Segment}
 use Rattle.gaspi_model.specs.declared.states.Memory.{Memory}
@@ -184,6 +185,38 @@ word-written s t c call seg offset rank old new posts memory memory' sound m tou
     let within = leb-true (offset + 8) found.theirs.size found.within in
     let eight = length-bytes_low_first 0 8 new in
     written s t c call (replies.Value old) rank seg offset (little_bytes 8 new) posts memory memory' there.0 m worked same leaves there.1 (omega arith)
+
+-- what an atomic answers stands in the word
+word-answered : (s t : State) (c : CallerId) (call : Call) (reply : Reply) (seg offset rank old : ℕ) (posts : Posts) (memory : Memory) (after : Worked)
+    → IsCalledThere s t c call reply posts memory after → (row_of call).touch ≡ touches.MemoryOf rank → IsWordFound s.limits c.rank posts memory seg offset rank old
+    → IsAnswered s rank seg (λ x. word_at x.bytes offset ≡ old)
+word-answered s t c call reply seg offset rank old posts memory after m touches_rank found =
+    let worked : memory_rank s.limits c.rank call ≡ rank =
+    ap (λ (touch : Touch). memory_place (reach_of s.limits.ranks c.rank touch) c.rank) touches_rank ∙ worked-there s.limits.ranks rank c.rank found.ranked in
+    let there = there-in-generation memory seg found.theirs.generation found.there in
+    record {
+      memory = memory;
+      memory_there = ap (slice_get s.memories) (sym worked) ∙ m.memory_there;
+      item = there.0;
+      item_there = there.1;
+      answers = ap (λ (b : List ℕ). word_at b offset) (sym (ap bytes_in there.1)) ∙ found.value;
+    }
+
+pub sum-answered : (s t : State) (c : CallerId) (call : fetch_add.FetchAdd) (old : ℕ) → IsSound s → step s (Called c (FetchAdd call) (replies.Value old)) ≡ Ok t
+    → IsAnswered s call.rank call.seg (λ x. word_at x.bytes call.offset ≡ old)
+sum-answered s t c call old sound h =
+    let made = sound-called s t c (FetchAdd call) (replies.Value old) sound h in
+    let m = made.3 in
+    let found = word-found s.limits c.rank made.0 made.1 call.seg call.offset call.rank old (found-reply s.limits c.rank made.0 made.1 c.thread (FetchAdd call) (replies.Value old) (same_reply-same _ _ m.is.answered) refl) in
+    word-answered s t c (FetchAdd call) (replies.Value old) call.seg call.offset call.rank old made.0 made.1 made.2 m refl found
+
+pub swap-answered : (s t : State) (c : CallerId) (call : compare_swap.CompareSwap) (old : ℕ) → IsSound s → step s (Called c (CompareSwap call) (replies.Value old)) ≡ Ok t
+    → IsAnswered s call.rank call.seg (λ x. word_at x.bytes call.offset ≡ old)
+swap-answered s t c call old sound h =
+    let made = sound-called s t c (CompareSwap call) (replies.Value old) sound h in
+    let m = made.3 in
+    let found = word-found s.limits c.rank made.0 made.1 call.seg call.offset call.rank old (found-reply s.limits c.rank made.0 made.1 c.thread (CompareSwap call) (replies.Value old) (same_reply-same _ _ m.is.answered) refl) in
+    word-answered s t c (CompareSwap call) (replies.Value old) call.seg call.offset call.rank old made.0 made.1 made.2 m refl found
 
 pub sum-written : (s t : State) (c : CallerId) (call : fetch_add.FetchAdd) (old : ℕ) → IsSound s → step s (Called c (FetchAdd call) (replies.Value old)) ≡ Ok t
     → IsWritten s t c.rank call.rank call.seg call.offset (little_bytes 8 ((old + call.value) % 2 ^ 64))

@@ -1,6 +1,7 @@
 -- What events change, in the words of what they are for.
-use Rattle.std.specs.Prelude.{◌≡◌, ◌≢◌, ℕ, ◌+◌, ◌<◌, ◌≤◌, Bool, true, false, List, [], length, remove, slice_get, slice_set, Option, None, Some}
-use Rattle.gaspi_types.specs.Lanes.{is_posted, is_carried}
+use Rattle.std.specs.Prelude.{◌≡◌, ◌≢◌, ℕ, ◌+◌, ◌<◌, ◌≤◌, Bool, true, false, List, [], length, remove, replicate, slice_get, slice_set, Option, None, Some}
+use Rattle.std.specs.List.{list_any}
+use Rattle.gaspi_types.specs.Lanes.{is_posted, is_carried, has_posted}
 use Rattle.gaspi_types.specs.SegmentBytes.{range_of}
 use Rattle.gaspi_types.specs.SegmentTables.{extent_in}
 use Rattle.gaspi_types.specs.declared.entries.Extent.{Extent}
@@ -10,6 +11,7 @@ use Rattle.gaspi_types.specs.declared.entries.Kind.{Kind}
 use Rattle.gaspi_types.specs.declared.entries.Kind.TheVariants.{Write, Notify}
 use Rattle.gaspi_model.specs.State.{segment_at}
 use Rattle.gaspi_model.specs.Posting.{counted}
+use Rattle.gaspi_model.specs.SegmentCalls.{user_of}
 use Rattle.gaspi_model.specs.Transfers.{with_lane, carried_bytes, target_segment, target_generation}
 use Rattle.gaspi_model.specs.declared.states.Queue.{Queue}
 use Rattle.gaspi_model.specs.declared.states.Posts.{Posts}
@@ -50,6 +52,18 @@ pub record IsWritten (s t : State) (me rank segment offset : ℕ) (written : Lis
   pub slots : new_segment.slots ≡ old_segment.slots
   pub stored : IsStored old_segment.bytes new_segment.bytes written offset
   pub limits : t.limits ≡ s.limits
+
+-- what a call answers of a segment of a rank
+pub record IsAnswered (s : State) (rank segment : ℕ) (P : Segment → Type 0) : Type 0 where
+  pub memory : Memory
+  pub memory_there : slice_get s.memories rank ≡ Some memory
+  pub item : Segment
+  pub item_there : segment_at memory segment ≡ Some item
+  pub answers : P item
+
+-- A call that answers what stands in a segment of its caller's rank, and changes nothing but the count of events.
+abbrev pub IsRead : (s t : State) (me segment : ℕ) (P : Segment → Type 0) → Type 0
+IsRead s t me segment P = IsAnswered s me segment P × IsOnlyCounted s t me
 
 -- whether a rank is corrupt for a rank (state vector)
 abbrev pub is_corrupt : State → ℕ → ℕ → Bool
@@ -93,6 +107,7 @@ pub record IsPutDone (s t : State) (origin queue target number : ℕ) : Type 0 w
   pub entry_there : slice_get lane place ≡ Some entry
   pub numbered : entry.number ≡ number
   pub carried : is_carried entry ≡ true
+  pub whole : q.broken ≡ None
   pub posts_after : t.posts ≡ slice_set s.posts origin (counted (with_lane posts queue target (remove lane place)))
   pub old : Memory
   pub new : Memory
@@ -160,6 +175,7 @@ pub record IsTaken (s t : State) (origin queue target number : ℕ) : Type 0 whe
   pub entry_there : slice_get lane place ≡ Some entry
   pub numbered : entry.number ≡ number
   pub posted : is_posted entry ≡ true
+  pub whole : q.broken ≡ None
   pub memory_there : slice_get s.memories origin ≡ Some memory
   pub takes : Takes entry memory bytes
   pub after : t ≡ record s {
@@ -182,3 +198,69 @@ pub record IsRegistered (s t : State) (me segment rank : ℕ) : Type 0 where
   pub itself : rank ≡ me → t ≡ record s { posts = slice_set s.posts me (counted posts) }
   pub peer : (rank ≡ me → ⊥) → (p : Posts) × (table : List (Option Extent)) × (slice_get s.posts rank ≡ Some p) × (slice_get p.known me ≡ Some table)
       × (t ≡ record s { posts = slice_set (slice_set s.posts me (counted posts)) rank (with_told p me segment extent table) })
+
+-- A notification that is taken: its slot had the value that was answered and is 0, and nothing else has changed but the
+-- count of events of the caller's rank. (notifications: notify_reset)
+pub record IsReset (s t : State) (me segment note value : ℕ) : Type 0 where
+  pub posts : Posts
+  pub posts_there : slice_get s.posts me ≡ Some posts
+  pub old : Memory
+  pub new : Memory
+  pub old_there : slice_get s.memories me ≡ Some old
+  pub after : t ≡ record s { posts = slice_set s.posts me (counted posts); memories = slice_set s.memories me new }
+  pub old_segment : Segment
+  pub new_segment : Segment
+  pub old_segment_there : segment_at old segment ≡ Some old_segment
+  pub new_segment_there : segment_at new segment ≡ Some new_segment
+  pub segments : (other : ℕ) → other ≢ segment → segment_at new other ≡ segment_at old other
+  pub generation : new_segment.generation ≡ old_segment.generation
+  pub bytes : new_segment.bytes ≡ old_segment.bytes
+  pub answered : slice_get old_segment.slots note ≡ Some value
+  pub slots : IsSlotSet old_segment.slots new_segment.slots note 0
+
+-- A wait that is done: the queue is not broken, none of its entries has still to take its bytes, its open count is 0, and
+-- nothing else has changed but the count of events of its rank. (one-sided communication: wait)
+pub record IsWaited (s t : State) (me queue : ℕ) : Type 0 where
+  pub posts : Posts
+  pub q : Queue
+  pub posts_there : slice_get s.posts me ≡ Some posts
+  pub queue_there : slice_get posts.queues queue ≡ Some q
+  pub whole : q.broken ≡ None
+  pub taken : list_any has_posted q.lanes ≡ false
+  pub after : t ≡ record s { posts = slice_set s.posts me (record (counted posts) { queues = slice_set posts.queues queue (record q { open_count = 0 }) }) }
+
+-- A segment that is made: there was none of its number; it is there with its size, all bytes and slots 0, in the next
+-- generation of its number, which no segment of that number had; the rank's table of segments says so; and nothing else
+-- has changed but the count of events of its rank. (segments: segment_alloc)
+pub record IsMade (s t : State) (me segment size : ℕ) : Type 0 where
+  pub posts : Posts
+  pub memory : Memory
+  pub generation : ℕ
+  pub posts_there : slice_get s.posts me ≡ Some posts
+  pub memory_there : slice_get s.memories me ≡ Some memory
+  pub next : slice_get posts.next_generations segment ≡ Some generation
+  pub free : segment_at memory segment ≡ None
+  pub after : t ≡ record s {
+    posts = slice_set s.posts me (record (counted posts) {
+      own = slice_set posts.own segment (Some (record { generation = generation; size = size }));
+      next_generations = slice_set posts.next_generations segment (generation + 1);
+    });
+    memories = slice_set s.memories me (record {
+      segments = slice_set memory.segments segment (Some (record { generation = generation; bytes = replicate size 0; slots = replicate s.limits.notes 0 }));
+    });
+  }
+
+-- A segment that is gone: it was there, none of its rank's entries used it, and nothing else has changed but the rank's
+-- table of segments and its count of events. (segments: segment_delete)
+pub record IsGone (s t : State) (me segment : ℕ) : Type 0 where
+  pub posts : Posts
+  pub memory : Memory
+  pub old : Segment
+  pub posts_there : slice_get s.posts me ≡ Some posts
+  pub memory_there : slice_get s.memories me ≡ Some memory
+  pub old_there : segment_at memory segment ≡ Some old
+  pub unused : user_of posts.queues segment ≡ None
+  pub after : t ≡ record s {
+    posts = slice_set s.posts me (record (counted posts) { own = slice_set posts.own segment None });
+    memories = slice_set s.memories me (record { segments = slice_set memory.segments segment None });
+  }

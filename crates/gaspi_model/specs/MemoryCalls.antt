@@ -1,5 +1,5 @@
 -- The calls of a rank on the bytes of its own segments: what they find, and what they leave. (own choice)
-use Rattle.std.specs.Prelude.{ℕ, length, Option, Some, Result, Ok}
+use Rattle.std.specs.Prelude.{length, Option, Some, Result, Ok}
 use Rattle.gaspi_types.specs.Checks.{◌>>=◌}
 use Rattle.gaspi_types.specs.SegmentBytes.{range_of, with_range}
 use Rattle.gaspi_types.specs.SegmentTables.{own_range_checks}

@@ -1,5 +1,5 @@
 -- The calls on notification slots: what they find, and what they leave. (GASPI: notifications)
-use Rattle.std.specs.Prelude.{ℕ, nat_lt, Option, Some, Result, Ok, slice_set, slice_index}
+use Rattle.std.specs.Prelude.{nat_lt, Option, Some, Result, Ok, slice_set, slice_index}
 use Rattle.std.specs.Option.{option_map}
 use Rattle.gaspi_types.specs.Checks.{◌>>=◌, check, found}
 use Rattle.gaspi_types.specs.SegmentTables.{extent_in}

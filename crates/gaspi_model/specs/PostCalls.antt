@@ -1,4 +1,4 @@
--- The calls that post entries to a lane: what they find, and what they leave. (GASPI: one-sided communication)
+-- The calls that post entries to a lane: what they ask for, and what they find. (GASPI: one-sided communication)
 use Rattle.std.specs.Prelude.{ℕ, ◌+◌, nat_le, nat_lt, List, length, Option, Some, Result, Ok, slice_get}
 use Rattle.gaspi_types.specs.Checks.{◌>>=◌, check, found, absent}
 use Rattle.gaspi_types.specs.Posts.{write_kinds, notify_kinds, write_notify_kinds}

@@ -1,6 +1,6 @@
 -- The calls of segments: what they find, and what they leave. The lines of what a call finds stand in the order of its
 -- checks. (GASPI: segments)
-use Rattle.std.specs.Prelude.{ℕ, ◌==◌, nat_lt, List, Option, None, Some, Result, Ok, slice_set, position}
+use Rattle.std.specs.Prelude.{ℕ, nat_lt, List, Option, None, Some, Result, Ok, slice_set, position}
 use Rattle.std.specs.List.{list_any}
 use Rattle.gaspi_types.specs.Checks.{◌>>=◌, check, found, absent}
 use Rattle.gaspi_types.specs.Lanes.{has_user}

@@ -1,6 +1,6 @@
 -- The step of the machine, and its legal histories.
-use Rattle.std.specs.Prelude.{◌&&◌, ◌≡◌, ℕ, ◌+◌, Bool, true, false, nat_le, List, [], ◌∷◌, Option, None, Some, Result, Ok, Err, if◌then◌else◌, slice_get, slice_set, is_ok}
-use Rattle.gaspi_types.specs.Checks.{◌>>=◌, check, found}
+use Rattle.std.specs.Prelude.{◌&&◌, ◌≡◌, ℕ, ◌+◌, Bool, true, false, nat_le, List, [], ◌∷◌, Option, None, Some, Result, Ok, Err, if◌then◌else◌, slice_get, is_ok}
+use Rattle.gaspi_types.specs.Checks.{◌>>=◌, check}
 use Rattle.gaspi_types.specs.CallRows.{row_of, is_end}
 use Rattle.gaspi_types.specs.Replies.{same_reply}
 use Rattle.gaspi_types.specs.Touches.{reach_of, take_touch, put_touch}

@@ -2,14 +2,24 @@
 
 ghost use Rattle.std.specs.Prelude.{◌≡◌, ◌≢◌, ℕ, ◌+◌, ◌%◌, ◌^◌, ◌<◌, ◌≤◌, ◌∷◌, ◌++◌, [], List, Ok, Some, IsOk, true, false, length, slice_get};
 ghost use Rattle.byteorder.specs.Endian.{little_bytes};
-ghost use Rattle.gaspi_types.specs.CallRows.{need_of};
+ghost use Rattle.gaspi_types.specs.CallRows.{need_of, row_of};
+ghost use Rattle.gaspi_types.specs.declared.call_rows.Posting.{Posting};
 ghost use Rattle.gaspi_types.specs.Replies.{is_idle};
 ghost use Rattle.std.specs.List.{list_any, count_by};
 ghost use Rattle.gaspi_types.specs.World.{World, IsWorld, is_caller};
 ghost use Rattle.gaspi_types.specs.declared.calls.Call.{Call};
-ghost use Rattle.gaspi_types.specs.declared.calls.Call.TheVariants.{Register, Store, Write, Notify, WriteNotify, FetchAdd, CompareSwap, End};
+ghost use Rattle.gaspi_types.specs.declared.calls.Call.TheVariants.{Alloc, Register, Delete, Store, Load, Write, Notify, WriteNotify, Wait, Waitsome, Reset, FetchAdd, CompareSwap, End};
+ghost use Rattle.gaspi_types.specs.SegmentBytes.{range_of};
+ghost use Rattle.gaspi_types.specs.SegmentWords.{word_at};
+ghost use Rattle.gaspi_types.specs.Slots.{first_set};
+ghost use Rattle.gaspi_types.specs.declared.calls.segments.Alloc as alloc;
 ghost use Rattle.gaspi_types.specs.declared.calls.segments.Register as register;
+ghost use Rattle.gaspi_types.specs.declared.calls.segments.Delete as delete;
 ghost use Rattle.gaspi_types.specs.declared.calls.memory.Store as store;
+ghost use Rattle.gaspi_types.specs.declared.calls.memory.Load as load;
+ghost use Rattle.gaspi_types.specs.declared.calls.queues.Wait as wait;
+ghost use Rattle.gaspi_types.specs.declared.calls.notifications.Waitsome as waitsome;
+ghost use Rattle.gaspi_types.specs.declared.calls.notifications.Reset as reset;
 ghost use Rattle.gaspi_types.specs.declared.calls.posts.Write as write;
 ghost use Rattle.gaspi_types.specs.declared.calls.posts.Notify as notify;
 ghost use Rattle.gaspi_types.specs.declared.calls.posts.WriteNotify as write_notify;
@@ -25,7 +35,7 @@ ghost use Rattle.gaspi_types.specs.declared.replies.Reply.{Reply};
 ghost use Rattle.gaspi_types.specs.declared.replies.Reply.TheVariants as replies;
 ghost use Rattle.gaspi_types.specs.declared.shapes.CallerId.{CallerId};
 ghost use Rattle.gaspi_model.specs.Calls.{recorded_reply};
-ghost use Rattle.gaspi_model.specs.Changes.{IsOnlyCounted, IsPutDone, IsPutFailed, IsTaken, IsRegistered, IsWritten, is_corrupt};
+ghost use Rattle.gaspi_model.specs.Changes.{IsOnlyCounted, IsAnswered, IsRead, IsReset, IsWaited, IsMade, IsGone, IsPutDone, IsPutFailed, IsTaken, IsRegistered, IsWritten, is_corrupt};
 ghost use Rattle.gaspi_model.specs.Order.{IsNotificationStanding, IsWriteStanding};
 ghost use Rattle.gaspi_model.specs.Shards.{AgreeOn, ComeToSame, HaveSamePart, is_shard, same_shard, footprint, numbers_of, is_among};
 ghost use Rattle.gaspi_model.specs.declared.states.Shard.{Shard};
@@ -73,10 +83,13 @@ pub fn enabled()
 
 /// What events change. A put that is made changes exactly the range or the one slot that its entry states, and takes the
 /// entry out of its lane; one that fails leaves its entry failed in its place, its queue broken and its target corrupt; a
-/// take takes the bytes that the entry's source has now; a segment that is made known is known in its present generation and
-/// size to the rank that is named; a store changes exactly its range, and an atomic exactly its word, a `compare_swap` only where
-/// it answers the comparator; a refusal or a timeout changes nothing; and in each case nothing else has changed but the
-/// count of events. (GASPI: one-sided communication, notifications, state vector, segments, atomics, timeouts)
+/// take takes the bytes that the entry's source has now; neither comes from a broken queue. A segment that is made is new,
+/// all zero, in the next generation of its number; one that is dropped was used by no entry; and one that is made known is
+/// known in its present generation and size to the rank that is named. A wait that is done closes its queue, none of whose
+/// entries has still to take its bytes. A load and a `waitsome` answer what stands there, and a reset takes it. A store
+/// changes exactly its range, and an atomic, which answers what stood there, exactly its word, a `compare_swap` only where it
+/// answers the comparator. A refusal or a timeout changes nothing; and in each case nothing else has changed but the count
+/// of events. (GASPI: one-sided communication, notifications, state vector, segments, atomics, timeouts)
 pub fn changes()
     ensures put { (s t : State) (origin queue target number : ℕ) → IsSound s → step s (Put origin queue target number Applied) ≡ Ok t
         → IsPutDone s t origin queue target number }
@@ -88,10 +101,26 @@ pub fn changes()
         → IsRegistered s t c.rank call.seg call.rank }
     ensures idle { (s t : State) (c : CallerId) (call : Call) (reply : Reply) → is_idle reply ≡ true → step s (Called c call reply) ≡ Ok t
         → IsOnlyCounted s t c.rank }
+    ensures made { (s t : State) (c : CallerId) (call : alloc.Alloc) → IsSound s → step s (Called c (Alloc call) replies.Done) ≡ Ok t
+        → IsMade s t c.rank call.seg call.size }
+    ensures gone { (s t : State) (c : CallerId) (call : delete.Delete) → IsSound s → step s (Called c (Delete call) replies.Done) ≡ Ok t
+        → IsGone s t c.rank call.seg }
+    ensures waited { (s t : State) (c : CallerId) (call : wait.Wait) → IsSound s → step s (Called c (Wait call) replies.Done) ≡ Ok t
+        → IsWaited s t c.rank call.queue }
+    ensures load { (s t : State) (c : CallerId) (call : load.Load) (bytes : List ℕ) → IsSound s → step s (Called c (Load call) (replies.Bytes bytes)) ≡ Ok t
+        → IsRead s t c.rank call.seg (λ x. bytes ≡ range_of x.bytes call.offset call.size) }
+    ensures waitsome { (s t : State) (c : CallerId) (call : waitsome.Waitsome) (note : ℕ) → IsSound s → step s (Called c (Waitsome call) (replies.Id note)) ≡ Ok t
+        → IsRead s t c.rank call.seg (λ x. first_set x.slots call.begin call.num ≡ Some note) }
+    ensures reset { (s t : State) (c : CallerId) (call : reset.Reset) (value : ℕ) → IsSound s → step s (Called c (Reset call) (replies.Value value)) ≡ Ok t
+        → IsReset s t c.rank call.seg call.note value }
     ensures store { (s t : State) (c : CallerId) (call : store.Store) → IsSound s → step s (Called c (Store call) replies.Done) ≡ Ok t
         → IsWritten s t c.rank c.rank call.seg call.offset call.bytes }
     ensures fetch_add { (s t : State) (c : CallerId) (call : fetch_add.FetchAdd) (old : ℕ) → IsSound s → step s (Called c (FetchAdd call) (replies.Value old)) ≡ Ok t
         → IsWritten s t c.rank call.rank call.seg call.offset (little_bytes 8 ((old + call.value) % 2 ^ 64)) }
+    ensures fetched { (s t : State) (c : CallerId) (call : fetch_add.FetchAdd) (old : ℕ) → IsSound s → step s (Called c (FetchAdd call) (replies.Value old)) ≡ Ok t
+        → IsAnswered s call.rank call.seg (λ x. word_at x.bytes call.offset ≡ old) }
+    ensures compared { (s t : State) (c : CallerId) (call : compare_swap.CompareSwap) (old : ℕ) → IsSound s → step s (Called c (CompareSwap call) (replies.Value old)) ≡ Ok t
+        → IsAnswered s call.rank call.seg (λ x. word_at x.bytes call.offset ≡ old) }
     ensures swapped { (s t : State) (c : CallerId) (call : compare_swap.CompareSwap) → IsSound s → step s (Called c (CompareSwap call) (replies.Value call.comparator)) ≡ Ok t
         → IsWritten s t c.rank call.rank call.seg call.offset (little_bytes 8 call.new) }
     ensures kept { (s t : State) (c : CallerId) (call : compare_swap.CompareSwap) (old : ℕ) → old ≢ call.comparator → step s (Called c (CompareSwap call) (replies.Value old)) ≡ Ok t
@@ -133,20 +162,25 @@ pub fn prefixes()
 {}
 
 /// An event is a matter of its shards: the posts of its owner's rank, and with them at most the memory or the posts that it
-/// touches. It leaves every other shard as it was; whether it is a step, the cause where it is none, and the new parts of
-/// its shards depend on the limits and on those parts alone; and which shards it has, its owner's posts among them and none
-/// twice, depends on its owner's posts and on the event without its reply.
+/// touches; a post and a wait have their owner's posts alone. It leaves every other shard as it was; whether it is a step,
+/// the cause where it is none, and the new parts of its shards depend on the limits and on those parts alone; and which
+/// shards it has, its owner's posts among them and none twice, depends on the limits, on its owner's posts and on the event
+/// without its reply.
 pub fn locality()
     ensures frame { (s t : State) (e : Event) (shard : Shard) → step s e ≡ Ok t → is_shard (footprint s e) shard ≡ false → HaveSamePart t s shard }
     ensures determined { (s s' : State) (e : Event) → AgreeOn (is_shard (footprint s e)) s s' → ComeToSame s s' (step s e) (step s' e) }
     ensures owner { (s : State) (e : Event) → is_shard (footprint s e) (shards.Posts (owner_of e)) ≡ true }
     ensures footprint { (s s' : State) (e : Event) → s.limits ≡ s'.limits → HaveSamePart s s' (shards.Posts (owner_of e)) → footprint s e ≡ footprint s' e }
     ensures reply { (s : State) (c : CallerId) (call : Call) (reply reply' : Reply) → footprint s (Called c call reply) ≡ footprint s (Called c call reply') }
+    ensures few { (s : State) (e : Event) → length (footprint s e) ≤ 2 }
+    ensures posting { (s : State) (c : CallerId) (call : Call) (reply : Reply) (to : Posting) → (row_of call).posting ≡ Some to
+        → footprint s (Called c call reply) ≡ shards.Posts c.rank ∷ [] }
+    ensures waiting { (s : State) (c : CallerId) (call : wait.Wait) (reply : Reply) → footprint s (Called c (Wait call) reply) ≡ shards.Posts c.rank ∷ [] }
     ensures once { (s : State) (e : Event) (shard : Shard) → count_by (λ x. same_shard x shard) (footprint s e) ≤ 1 }
 {}
 
 /// The same of coarser shards, where each shard has a number and those of one number are one: so of a rank's posts and
-/// memory as one shard, or of the whole state.
+/// memory as one shard, or of the whole state. A number may stand twice in the list of an event's.
 pub fn coarser_locality()
     ensures frame { (number : Shard → ℕ) (s t : State) (e : Event) (shard : Shard) → step s e ≡ Ok t → is_among (numbers_of number s e) (number shard) ≡ false
         → HaveSamePart t s shard }

@@ -1,9 +1,19 @@
 use Rattle.gaspi_model.proofs.Histories.{only-counted}
 use Rattle.gaspi_model.proofs.PutDone.{put-done}
-use Rattle.gaspi_model.proofs.Written.{store-written, sum-written, swap-written, swap-kept}
+use Rattle.gaspi_model.proofs.Written.{store-written, sum-written, sum-answered, swap-written, swap-answered, swap-kept}
 use Rattle.gaspi_model.proofs.Transferred.{put-failed, take-done}
 use Rattle.gaspi_model.proofs.Registered.{registered}
+use Rattle.gaspi_model.proofs.OwnCalls.{load-read, slot-read, slot-reset, waited, segment-made, segment-gone}
 use Rattle.gaspi_model.proofs.laws.changes.Goals as goal
+
+pub returns-clause-load : goal.returns-clause-load
+returns-clause-load c = load-read
+
+pub returns-clause-waitsome : goal.returns-clause-waitsome
+returns-clause-waitsome c = slot-read
+
+pub returns-clause-reset : goal.returns-clause-reset
+returns-clause-reset c = slot-reset
 
 pub returns-clause-put : goal.returns-clause-put
 returns-clause-put c = put-done
@@ -31,3 +41,18 @@ returns-clause-taken c = take-done
 
 pub returns-clause-registered : goal.returns-clause-registered
 returns-clause-registered c = registered
+
+pub returns-clause-waited : goal.returns-clause-waited
+returns-clause-waited c = waited
+
+pub returns-clause-made : goal.returns-clause-made
+returns-clause-made c = segment-made
+
+pub returns-clause-gone : goal.returns-clause-gone
+returns-clause-gone c = segment-gone
+
+pub returns-clause-fetched : goal.returns-clause-fetched
+returns-clause-fetched c = sum-answered
+
+pub returns-clause-compared : goal.returns-clause-compared
+returns-clause-compared c = swap-answered

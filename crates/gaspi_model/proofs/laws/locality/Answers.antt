@@ -1,4 +1,4 @@
-use Rattle.gaspi_model.proofs.LocalSteps.{frame, determined, owner-among, footprint-by-owner, footprint-by-call, once}
+use Rattle.gaspi_model.proofs.LocalSteps.{frame, determined, owner-among, footprint-by-owner, footprint-by-call, once, few, posting-alone, wait-alone}
 use Rattle.gaspi_model.proofs.laws.locality.Goals as goal
 
 pub returns-clause-frame : goal.returns-clause-frame
@@ -18,3 +18,12 @@ returns-clause-reply c = footprint-by-call
 
 pub returns-clause-once : goal.returns-clause-once
 returns-clause-once c = once
+
+pub returns-clause-few : goal.returns-clause-few
+returns-clause-few c = few
+
+pub returns-clause-posting : goal.returns-clause-posting
+returns-clause-posting c = posting-alone
+
+pub returns-clause-waiting : goal.returns-clause-waiting
+returns-clause-waiting c = wait-alone
