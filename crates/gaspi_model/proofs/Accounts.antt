@@ -19,24 +19,26 @@ use Rattle.gaspi_types.specs.declared.shapes.Limits.{Limits}
 use Rattle.gaspi_model.specs.Calls.{call_asks}
 use Rattle.gaspi_types.specs.declared.events.Outcome.{Outcome}
 use Rattle.gaspi_types.specs.declared.events.Outcome.TheVariants.{Applied, Failed}
-use Rattle.gaspi_model.specs.State.{owed, queue_owed}
-use Rattle.gaspi_model.specs.Posting.{changed_at, counted}
+use Rattle.gaspi_model.specs.State.{owed}
+use Rattle.gaspi_types.specs.Queues.{queue_owed}
+use Rattle.gaspi_model.specs.Posting.{counted}
+use Rattle.gaspi_types.specs.Tables.{changed_at}
 use Rattle.gaspi_model.specs.PostCalls.{asked_finds}
 use Rattle.gaspi_model.specs.Transfers.{Found, with_lane, with_phase, taken_bytes, Worked}
-use Rattle.gaspi_model.specs.declared.states.Queue.{Queue}
+use Rattle.gaspi_types.specs.declared.entries.Queue.{Queue}
 use Rattle.gaspi_model.specs.declared.states.Posts.{Posts}
 use Rattle.gaspi_model.specs.declared.states.Memory.{Memory}
 use Rattle.gaspi_types.specs.Posts.{write_kinds, notify_kinds, write_notify_kinds}
 use Rattle.gaspi_types.specs.SegmentTables.{extent_in, known_extent}
 use Rattle.gaspi_types.specs.SegmentBytes.{is_transfer_size, is_within}
-use Rattle.gaspi_types.specs.declared.entries.Extent.{Extent}
+use Rattle.gaspi_types.specs.declared.segments.SegmentTable.{SegmentTable}
 use Rattle.gaspi_types.specs.declared.replies.Reply.{Reply}
 use Rattle.gaspi_types.specs.declared.replies.Reply.TheVariants as replies
 use Rattle.gaspi_types.specs.declared.replies.Refusal.{Refusal}
 use Rattle.gaspi_types.specs.declared.replies.Refusal.TheVariants.{BadRank, BadQueue, QueueBroken}
 use Rattle.gaspi_model.proofs.Chains.{both, bind_then, check_then, found_then, absent_then, same_Ok}
 use Rattle.gaspi_model.proofs.Made.{IsFound, IsTake, IsPut}
-use Rattle.gaspi_model.proofs.Tables.{sum_by-changed, changed_at-found}
+use Rattle.gaspi_types.proofs.Items.{sum_by-changed, changed_at-found}
 
 -- a queue of a rank changed
 pub entries_owed-queue : (queues : List Queue) (queue : ℕ) (q : Queue) (change : Queue → Queue) → slice_get queues queue ≡ Some q
@@ -111,29 +113,29 @@ put-owed posts memory queue target number Failed after at h =
 -- A call that is recorded: the room that is taken grows by its charge.
 
 -- a write asks for one entry, and so does a notification
-kinds-write : (me : ℕ) (own : List (Option Extent)) (known : List (List (Option Extent))) (call : write.Write) (kinds : List Kind) → write_kinds me own known call ≡ Ok kinds → length kinds ≡ 1
-kinds-write me own known call kinds h =
-    found_then (extent_in own call.seg) _ _ kinds h (λ mine hm h1.
-    found_then (known_extent me own known call.rank call.rseg) _ _ kinds h1 (λ theirs ht h2.
+kinds-write : (me : ℕ) (table : SegmentTable) (call : write.Write) (kinds : List Kind) → write_kinds me table call ≡ Ok kinds → length kinds ≡ 1
+kinds-write me table call kinds h =
+    found_then (extent_in table.own call.seg) _ _ kinds h (λ mine hm h1.
+    found_then (known_extent me table call.rank call.rseg) _ _ kinds h1 (λ theirs ht h2.
     check_then (is_transfer_size call.size) _ _ kinds h2 (λ sized h3.
     check_then (is_within call.offset call.size mine.size) _ _ kinds h3 (λ from h4.
     check_then (is_within call.roffset call.size theirs.size) _ _ kinds h4 (λ to h5.
     sym (ap length (same_Ok _ _ h5)))))))
 
-kinds-notify : (notes me : ℕ) (own : List (Option Extent)) (known : List (List (Option Extent))) (call : notify.Notify) (kinds : List Kind)
-    → notify_kinds notes me own known call ≡ Ok kinds → length kinds ≡ 1
-kinds-notify notes me own known call kinds h =
-    found_then (known_extent me own known call.rank call.rseg) _ _ kinds h (λ theirs ht h1.
+kinds-notify : (notes me : ℕ) (table : SegmentTable) (call : notify.Notify) (kinds : List Kind)
+    → notify_kinds notes me table call ≡ Ok kinds → length kinds ≡ 1
+kinds-notify notes me table call kinds h =
+    found_then (known_extent me table call.rank call.rseg) _ _ kinds h (λ theirs ht h1.
     check_then (nat_lt call.note notes) _ _ kinds h1 (λ noted h2.
     check_then (not (call.value == 0)) _ _ kinds h2 (λ valued h3.
     sym (ap length (same_Ok _ _ h3)))))
 
 -- a write with its notification asks for two
-kinds-two : (notes me : ℕ) (own : List (Option Extent)) (known : List (List (Option Extent))) (call : write_notify.WriteNotify) (kinds : List Kind)
-    → write_notify_kinds notes me own known call ≡ Ok kinds → length kinds ≡ 2
-kinds-two notes me own known call kinds h =
-    found_then (extent_in own call.seg) _ _ kinds h (λ mine hm h1.
-    found_then (known_extent me own known call.rank call.rseg) _ _ kinds h1 (λ theirs ht h2.
+kinds-two : (notes me : ℕ) (table : SegmentTable) (call : write_notify.WriteNotify) (kinds : List Kind)
+    → write_notify_kinds notes me table call ≡ Ok kinds → length kinds ≡ 2
+kinds-two notes me table call kinds h =
+    found_then (extent_in table.own call.seg) _ _ kinds h (λ mine hm h1.
+    found_then (known_extent me table call.rank call.rseg) _ _ kinds h1 (λ theirs ht h2.
     check_then (is_transfer_size call.size) _ _ kinds h2 (λ sized h3.
     check_then (is_within call.offset call.size mine.size) _ _ kinds h3 (λ from h4.
     check_then (is_within call.roffset call.size theirs.size) _ _ kinds h4 (λ to h5.
@@ -145,11 +147,11 @@ kinds-two notes me own known call kinds h =
 pub asks-counted : (limits : Limits) (me : ℕ) (posts : Posts) (call : Call) (to : Posting) (kinds : List Kind) → (row_of call).posting ≡ Some to
     → call_asks limits me posts call ≡ Ok kinds → length kinds ≡ to.entries
 asks-counted limits me posts (Write call) to kinds is h =
-    kinds-write me posts.own posts.known call kinds h ∙ (let same : ◌≡◌ {A = Posting} (record { entries = 1; rank = call.rank; queue = call.queue }) to = cc in ap (λ (p : Posting). p.entries) same)
+    kinds-write me posts.segments call kinds h ∙ (let same : ◌≡◌ {A = Posting} (record { entries = 1; rank = call.rank; queue = call.queue }) to = cc in ap (λ (p : Posting). p.entries) same)
 asks-counted limits me posts (Notify call) to kinds is h =
-    kinds-notify limits.notes me posts.own posts.known call kinds h ∙ (let same : ◌≡◌ {A = Posting} (record { entries = 1; rank = call.rank; queue = call.queue }) to = cc in ap (λ (p : Posting). p.entries) same)
+    kinds-notify limits.notes me posts.segments call kinds h ∙ (let same : ◌≡◌ {A = Posting} (record { entries = 1; rank = call.rank; queue = call.queue }) to = cc in ap (λ (p : Posting). p.entries) same)
 asks-counted limits me posts (WriteNotify call) to kinds is h =
-    kinds-two limits.notes me posts.own posts.known call kinds h ∙ (let same : ◌≡◌ {A = Posting} (record { entries = 2; rank = call.rank; queue = call.queue }) to = cc in ap (λ (p : Posting). p.entries) same)
+    kinds-two limits.notes me posts.segments call kinds h ∙ (let same : ◌≡◌ {A = Posting} (record { entries = 2; rank = call.rank; queue = call.queue }) to = cc in ap (λ (p : Posting). p.entries) same)
 asks-counted limits me posts other to kinds is h = absurd (let no : ⊥ = cc in no)
 
 -- and is no end

@@ -7,7 +7,7 @@ use Rattle.gaspi_types.specs.declared.entries.Kind.{Kind}
 use Rattle.gaspi_types.specs.declared.shapes.Limits.{Limits}
 use Rattle.gaspi_types.specs.declared.calls.Call.{Call}
 use Rattle.gaspi_types.specs.declared.calls.Call.TheVariants.{End}
-use Rattle.gaspi_types.specs.CallRows.{row_of}
+use Rattle.gaspi_types.specs.CallRows.{row_of, is_end}
 use Rattle.gaspi_types.specs.declared.call_rows.Posting.{Posting}
 use Rattle.gaspi_types.specs.declared.replies.Reply.{Reply}
 use Rattle.gaspi_types.specs.declared.replies.Refusal.{Refusal}
@@ -19,14 +19,13 @@ use Rattle.gaspi_model.specs.State.{thread_at}
 use Rattle.gaspi_model.specs.Posting.{with_post}
 use Rattle.gaspi_model.specs.Calls.{posts_done, plain_done, call_asks}
 use Rattle.gaspi_model.specs.Transfers.{Found, Worked}
-use Rattle.gaspi_types.specs.CallRows.{is_end}
 use Rattle.gaspi_model.specs.Step.{step, is_active, ends_caller}
 use Rattle.gaspi_model.specs.declared.states.ThreadState.{ThreadState}
 use Rattle.gaspi_model.specs.declared.states.ThreadState.TheVariants.{Ended}
 use Rattle.gaspi_model.specs.declared.states.Posts.{Posts}
 use Rattle.gaspi_model.specs.declared.states.Memory.{Memory}
 use Rattle.gaspi_model.specs.declared.states.State.{State}
-use Rattle.gaspi_model.proofs.Tables.{slice_get-set_other, slice_get-set_same}
+use Rattle.gaspi_types.proofs.Items.{slice_get-set_other, slice_get-set_same}
 use Rattle.gaspi_model.proofs.Told.{IsTold, told, told-get}
 use Rattle.gaspi_model.proofs.Made.{IsPut, memories_at, call_reach, put_reach, step-called, step-take, step-put}
 

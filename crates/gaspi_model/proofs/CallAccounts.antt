@@ -17,17 +17,19 @@ use Rattle.gaspi_types.specs.declared.replies.Reply.{Reply}
 use Rattle.gaspi_types.specs.declared.replies.Reply.TheVariants as replies
 use Rattle.gaspi_types.specs.declared.replies.Refusal.{Refusal}
 use Rattle.gaspi_types.specs.declared.replies.Refusal.TheVariants.{CallerEnded}
-use Rattle.gaspi_model.specs.State.{owed, queue_owed, is_running, thread_at}
-use Rattle.gaspi_model.specs.Posting.{changed_at, with_entries, with_post, counted}
+use Rattle.gaspi_model.specs.State.{owed, is_running, thread_at}
+use Rattle.gaspi_types.specs.Queues.{queue_owed, with_entries}
+use Rattle.gaspi_model.specs.Posting.{with_post, counted}
+use Rattle.gaspi_types.specs.Tables.{changed_at}
 use Rattle.gaspi_model.specs.SegmentCalls.{with_own, without_own}
 use Rattle.gaspi_model.specs.PostCalls.{asked_finds}
 use Rattle.gaspi_model.specs.Calls.{posts_after, charge, answer, call_finds, ready_of, recorded_reply, plain_finds, plain_done, call_asks}
-use Rattle.gaspi_model.specs.declared.states.Queue.{Queue}
+use Rattle.gaspi_types.specs.declared.entries.Queue.{Queue}
 use Rattle.gaspi_model.specs.declared.states.ThreadState.{ThreadState}
 use Rattle.gaspi_model.specs.declared.states.ThreadState.TheVariants as threads
 use Rattle.gaspi_model.specs.declared.states.Posts.{Posts}
 use Rattle.gaspi_model.specs.declared.states.Memory.{Memory}
-use Rattle.gaspi_model.proofs.Tables.{sum_by-changed, changed_at-found}
+use Rattle.gaspi_types.proofs.Items.{sum_by-changed, changed_at-found}
 use Rattle.gaspi_model.proofs.Accounts.{entries_owed-queue, queue_owed-lane, lane_owed-posted, asks-counted, posting-goes_on, IsPosted, post-ok}
 
 -- each queue has that many lanes

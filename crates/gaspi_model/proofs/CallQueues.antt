@@ -16,17 +16,19 @@ use Rattle.gaspi_types.specs.declared.replies.Reply.{Reply}
 use Rattle.gaspi_types.specs.declared.replies.Reply.TheVariants as replies
 use Rattle.gaspi_types.specs.declared.replies.Refusal.{Refusal}
 use Rattle.gaspi_types.specs.declared.replies.Refusal.TheVariants.{BadQueue, QueueBroken}
-use Rattle.gaspi_model.specs.Posting.{changed_at, with_entries, with_post}
+use Rattle.gaspi_model.specs.Posting.{with_post}
+use Rattle.gaspi_types.specs.Tables.{changed_at}
+use Rattle.gaspi_types.specs.Queues.{with_entries}
 use Rattle.gaspi_model.specs.PostCalls.{asked_finds}
 use Rattle.gaspi_model.specs.QueueCalls.{wait_finds}
 use Rattle.gaspi_model.specs.Calls.{posts_done, plain_done, posts_after, answer, call_finds, plain_finds, call_asks, recorded_reply}
 use Rattle.gaspi_model.specs.Sound.{AreRising, IsSoundQueue}
-use Rattle.gaspi_model.specs.declared.states.Queue.{Queue}
+use Rattle.gaspi_types.specs.declared.entries.Queue.{Queue}
 use Rattle.gaspi_model.specs.declared.states.Posts.{Posts}
 use Rattle.gaspi_model.specs.declared.states.Memory.{Memory}
 use Rattle.gaspi_model.proofs.Chains.{found_then, absent_then}
 use Rattle.gaspi_model.proofs.FoundReplies.{found-reply}
-use Rattle.gaspi_model.proofs.Tables.{slice_get-set}
+use Rattle.gaspi_types.proofs.Items.{slice_get-set}
 use Rattle.gaspi_model.proofs.Accounts.{post-ok}
 use Rattle.gaspi_model.proofs.OpenCounts.{queue-posted, queue-waited}
 

@@ -1,5 +1,5 @@
 -- What a call leaves of the tables of segments, of what its rank knows, and of the entries that stand.
-use Rattle.std.proofs.Common.{◌≡◌, ℕ, ◌+◌, ◌%◌, ◌^◌, ◌<◌, ◌≤◌, not, Bool, true, false, ◌==◌, nat_lt, List, [], ◌∷◌, length, Option, None, Some, Result, Ok, Err, refl, sym, ap, ◌∙◌, subst, arith, ◌⊎◌, inl, inr, if◌then◌else◌, position, zero, suc}
+use Rattle.std.proofs.Common.{◌≡◌, ℕ, ◌+◌, ◌%◌, ◌^◌, ◌<◌, ◌≤◌, not, Bool, true, false, ◌==◌, nat_lt, List, [], ◌∷◌, length, Option, None, Some, Result, Ok, Err, refl, sym, ap, ◌∙◌, arith, ◌⊎◌, inl, inr, if◌then◌else◌, position, zero, suc}
 use Rattle.std.specs.List.{slice_get, slice_set, list_any, prefix_len}
 use Rattle.std.specs.Option.{option_map}
 use Rattle.std.proofs.lemmas.Bool.{ltb-true, ltb-false, eq-eqb, eqb-true}
@@ -10,7 +10,7 @@ use Rattle.gaspi_types.specs.Replies.{is_idle}
 use Rattle.gaspi_types.specs.SegmentTables.{extent_in, alloc_checks, next_generation}
 use Rattle.gaspi_types.specs.SegmentWords.{word_at, with_sum, with_swap}
 use Rattle.gaspi_types.specs.declared.entries.Entry.{Entry}
-use Rattle.gaspi_types.specs.declared.entries.Extent.{Extent}
+use Rattle.gaspi_types.specs.declared.segments.Extent.{Extent}
 use Rattle.gaspi_types.specs.declared.entries.ByteRange.{ByteRange}
 use Rattle.gaspi_types.specs.declared.entries.Kind.{Kind}
 use Rattle.gaspi_types.specs.declared.entries.Kind.TheVariants as kinds_of
@@ -23,22 +23,26 @@ use Rattle.gaspi_types.specs.CallRows.{row_of}
 use Rattle.gaspi_types.specs.declared.call_rows.Posting.{Posting}
 use Rattle.gaspi_types.specs.declared.replies.Refusal.{Refusal}
 use Rattle.gaspi_types.specs.declared.replies.Reply.{Reply}
-use Rattle.gaspi_model.specs.State.{entry_at, new_segment}
+use Rattle.gaspi_types.specs.Tables.{changed_at}
+use Rattle.gaspi_types.specs.Segments.{new_segment, extent_of, extents_of}
+use Rattle.gaspi_model.specs.State.{new_slots}
 use Rattle.gaspi_model.specs.Memories.{bytes_of}
-use Rattle.gaspi_model.specs.Posting.{changed_at, with_post, counted}
-use Rattle.gaspi_model.specs.SegmentCalls.{alloc_finds, delete_finds, user_of, with_known}
+use Rattle.gaspi_model.specs.Posting.{with_post, counted}
+use Rattle.gaspi_model.specs.SegmentCalls.{alloc_finds, delete_finds, with_known}
+use Rattle.gaspi_types.specs.Queues.{user_of}
 use Rattle.gaspi_model.specs.Calls.{posts_done, plain_done, posts_after, memory_done, memory_after, call_finds, plain_finds, call_asks, answer, recorded_reply}
-use Rattle.gaspi_model.specs.Coherence.{extent_of, extents_of, slot_counts, Tables, tables_of, AreMade, AllFit, Knows}
-use Rattle.gaspi_model.specs.declared.states.Queue.{Queue}
+use Rattle.gaspi_model.specs.Coherence.{counts_of, HasSlots, Tables, tables_of, AreMade, AllFit, Knows}
+use Rattle.gaspi_types.specs.declared.entries.Queue.{Queue}
 use Rattle.gaspi_model.specs.declared.states.Posts.{Posts}
-use Rattle.gaspi_model.specs.declared.states.Segment.{Segment}
+use Rattle.gaspi_types.specs.declared.segments.Segment.{Segment}
 use Rattle.gaspi_model.specs.declared.states.Memory.{Memory}
 use Rattle.gaspi_model.proofs.Chains.{bind_then, check_then, found_then, absent_then}
-use Rattle.gaspi_model.proofs.Tables.{slice_get-set, joined}
-use Rattle.gaspi_model.proofs.Layouts.{with_range-length, HaveSameLayout, same-layout, bytes-layout, slots-layout, replaced-layout, with_swap-length}
+use Rattle.gaspi_model.proofs.Layouts.{HaveSameLayout, same-layout, bytes-layout, slots-layout, replaced-layout}
+use Rattle.gaspi_types.proofs.Written.{with_range-length, with_swap-length}
 use Rattle.gaspi_model.proofs.Told.{changed_at-get, told, told-cases}
 use Rattle.gaspi_model.proofs.Worked.{memory_rank}
-use Rattle.gaspi_model.proofs.Successors.{extent-set, lies-other, Succeeds, succeeds-itself, SourcesStay, alloc-succeeds, delete-succeeds}
+use Rattle.gaspi_model.proofs.Successors.{lies-other, Succeeds, succeeds-itself, SourcesStay, alloc-succeeds, delete-succeeds}
+use Rattle.gaspi_types.proofs.Extents.{extent-set}
 use Rattle.gaspi_model.proofs.FittingEntries.{MayPost, KindsFit, fits-post, fits-queue, asks-fit}
 use Rattle.gaspi_model.proofs.FoundReplies.{found-reply}
 
@@ -46,13 +50,13 @@ use Rattle.gaspi_model.proofs.FoundReplies.{found-reply}
 
 pub record IsAllocated (posts : Posts) (seg size : ℕ) : Type 0 where
   pub numbered : nat_lt seg 32 ≡ true
-  pub free : extent_in posts.own seg ≡ None
+  pub free : extent_in posts.segments.own seg ≡ None
 
 pub alloc-found : (posts : Posts) (call : alloc.Alloc) (reply : Reply) → alloc_finds posts call ≡ Ok (Some reply) → IsAllocated posts call.seg call.size
 alloc-found posts call reply h =
-    bind_then (alloc_checks posts.own call.seg call.size) _ (Some reply) h (λ fits hc h1.
+    bind_then (alloc_checks posts.segments.own call.seg call.size) _ (Some reply) h (λ fits hc h1.
     check_then (nat_lt call.seg 32) _ _ fits hc (λ numbered h2.
-    absent_then (extent_in posts.own call.seg) _ _ fits h2 (λ free h3. record { numbered = numbered; free = free })))
+    absent_then (extent_in posts.segments.own call.seg) _ _ fits h2 (λ free h3. record { numbered = numbered; free = free })))
 
 -- a test that no item passes
 not-any : {A : Type 0} (p : A → Bool) (xs : List A) (k : ℕ) (x : A) → list_any p xs ≡ false → slice_get xs k ≡ Some x → p x ≡ false
@@ -83,7 +87,7 @@ no-position p xs k x none at = go (nat_lt (prefix_len (λ y. not (p y)) xs) (len
 
 pub delete-found : (posts : Posts) (call : delete.Delete) (reply : Reply) → delete_finds posts call ≡ Ok (Some reply) → user_of posts.queues call.seg ≡ None
 delete-found posts call reply h =
-    found_then (extent_in posts.own call.seg) _ _ (Some reply) h (λ mine hm h1.
+    found_then (extent_in posts.segments.own call.seg) _ _ (Some reply) h (λ mine hm h1.
     absent_then (user_of posts.queues call.seg) _ _ (Some reply) h1 (λ unused h2. unused))
 
 -- where no entry uses a segment, the source of each posted write is another
@@ -101,11 +105,11 @@ unused-apart queues seg none queue q hq target lane hl place e he own range is p
 -- entries fit in the old tables, and the sources of posted writes stay.
 pub record KeepsFit (notes : ℕ) (tables : List Tables) (me : ℕ) (before after : Posts) : Type 0 where
   pub succeeds : Succeeds (tables_of before) (tables_of after)
-  pub known : Knows tables after.known
+  pub known : Knows tables after.segments.known
   pub entries : AllFit notes tables me after.queues
-  pub sources : SourcesStay before.own after.own after.queues
+  pub sources : SourcesStay before.segments.own after.segments.own after.queues
 
-pub fits-itself : (notes : ℕ) (tables : List Tables) (me : ℕ) (posts : Posts) → Knows tables posts.known → AllFit notes tables me posts.queues → KeepsFit notes tables me posts posts
+pub fits-itself : (notes : ℕ) (tables : List Tables) (me : ℕ) (posts : Posts) → Knows tables posts.segments.known → AllFit notes tables me posts.queues → KeepsFit notes tables me posts posts
 fits-itself notes tables me posts knows all = record {
   succeeds = succeeds-itself (tables_of posts);
   known = knows;
@@ -114,7 +118,7 @@ fits-itself notes tables me posts knows all = record {
 }
 
 -- posts whose queues are other ones
-pub fits-requeued : (notes : ℕ) (tables : List Tables) (me : ℕ) (posts : Posts) (queues : List Queue) → Knows tables posts.known → AllFit notes tables me queues → KeepsFit notes tables me posts (record posts { queues = queues })
+pub fits-requeued : (notes : ℕ) (tables : List Tables) (me : ℕ) (posts : Posts) (queues : List Queue) → Knows tables posts.segments.known → AllFit notes tables me queues → KeepsFit notes tables me posts (record posts { queues = queues })
 fits-requeued notes tables me posts queues knows all = record {
   succeeds = succeeds-itself (tables_of posts);
   known = knows;
@@ -122,7 +126,7 @@ fits-requeued notes tables me posts queues knows all = record {
   sources = λ queue q hq target lane hl place e he own range is posted lies. lies;
 }
 
-post-fits : (notes : ℕ) (tables : List Tables) (me : ℕ) (posts : Posts) (queue rank : ℕ) (asked : Result (List Kind) Refusal) → MayPost tables me (tables_of posts) posts.known
+post-fits : (notes : ℕ) (tables : List Tables) (me : ℕ) (posts : Posts) (queue rank : ℕ) (asked : Result (List Kind) Refusal) → MayPost tables me (tables_of posts) posts.segments.known
     → ((kinds : List Kind) (theirs : Tables) → asked ≡ Ok kinds → slice_get tables rank ≡ Some theirs → KindsFit notes (tables_of posts) theirs kinds)
     → AllFit notes tables me posts.queues → KeepsFit notes tables me posts (with_post posts queue rank asked)
 post-fits notes tables me posts queue rank (Err refusal) may fit all = fits-itself notes tables me posts may.knows all
@@ -133,30 +137,30 @@ post-fits notes tables me posts queue rank (Ok kinds) may fit all = record {
   sources = λ queue q hq target lane hl place e he own range is posted lies. lies;
 }
 
-plain-fits : (limits : Limits) (tables : List Tables) (me : ℕ) (posts : Posts) (memory : Memory) (thread : ℕ) (call : Call) (reply : Reply) → MayPost tables me (tables_of posts) posts.known
-    → length posts.next_generations ≡ 32 → AllFit limits.notes tables me posts.queues → plain_finds limits me posts memory call ≡ Ok (Some reply)
+plain-fits : (limits : Limits) (tables : List Tables) (me : ℕ) (posts : Posts) (memory : Memory) (thread : ℕ) (call : Call) (reply : Reply) → MayPost tables me (tables_of posts) posts.segments.known
+    → length posts.segments.next_generations ≡ 32 → AllFit limits.notes tables me posts.queues → plain_finds limits me posts memory call ≡ Ok (Some reply)
     → KeepsFit limits.notes tables me posts (plain_done posts thread call)
 plain-fits limits tables me posts memory thread (Alloc call) reply may many all finds =
     let found = alloc-found posts call reply finds in
     record {
-      succeeds = alloc-succeeds posts.own posts.next_generations call.seg call.size found.free (let less = ltb-true call.seg 32 found.numbered in omega arith);
+      succeeds = alloc-succeeds posts.segments.own posts.segments.next_generations call.seg call.size found.free (let less = ltb-true call.seg 32 found.numbered in omega arith);
       known = may.knows;
       entries = all;
       sources = λ queue q hq target lane hl place e he own range is posted lies.
-          lies-other posts.own call.seg (Some (record { generation = next_generation posts.next_generations call.seg; size = call.size })) own
+          lies-other posts.segments.own call.seg (Some (record { generation = next_generation posts.segments.next_generations call.seg; size = call.size })) own
           (λ same.
-          let there : extent_in posts.own call.seg ≡ Some lies.extent = rw same lies.there in
+          let there : extent_in posts.segments.own call.seg ≡ Some lies.extent = rw same lies.there in
           let never : ◌≡◌ {A = Option Extent} None (Some lies.extent) = sym found.free ∙ there in
           let no : ⊥ = cc in no) lies;
     }
 plain-fits limits tables me posts memory thread (Delete call) reply may many all finds =
     let unused = delete-found posts call reply finds in
     record {
-      succeeds = delete-succeeds posts.own posts.next_generations call.seg;
+      succeeds = delete-succeeds posts.segments.own posts.segments.next_generations call.seg;
       known = may.knows;
       entries = all;
       sources = λ queue q hq target lane hl place e he own range is posted lies.
-          lies-other posts.own call.seg None own (unused-apart posts.queues call.seg unused queue q hq target lane hl place e he own range is posted) lies;
+          lies-other posts.segments.own call.seg None own (unused-apart posts.queues call.seg unused queue q hq target lane hl place e he own range is posted) lies;
     }
 plain-fits limits tables me posts memory thread (Wait call) reply may many all finds =
     fits-requeued limits.notes tables me posts (changed_at posts.queues call.queue (λ (q : Queue). record q { open_count = 0 })) may.knows
@@ -169,8 +173,8 @@ plain-fits limits tables me posts memory thread End reply may many all finds = r
 }
 plain-fits limits tables me posts memory thread other reply may many all finds = fits-itself limits.notes tables me posts may.knows all
 
-done-fits : (limits : Limits) (tables : List Tables) (me : ℕ) (posts : Posts) (memory : Memory) (thread : ℕ) (call : Call) (reply : Reply) → MayPost tables me (tables_of posts) posts.known
-    → length posts.next_generations ≡ 32 → AllFit limits.notes tables me posts.queues → call_finds limits me posts memory call ≡ Ok (Some reply)
+done-fits : (limits : Limits) (tables : List Tables) (me : ℕ) (posts : Posts) (memory : Memory) (thread : ℕ) (call : Call) (reply : Reply) → MayPost tables me (tables_of posts) posts.segments.known
+    → length posts.segments.next_generations ≡ 32 → AllFit limits.notes tables me posts.queues → call_finds limits me posts memory call ≡ Ok (Some reply)
     → KeepsFit limits.notes tables me posts (posts_done limits me posts thread call)
 done-fits limits tables me posts memory thread call reply may many all finds = go (row_of call).posting refl
   where
@@ -183,8 +187,8 @@ done-fits limits tables me posts memory thread call reply may many all finds = g
 pub counted-fits : (notes : ℕ) (tables : List Tables) (me : ℕ) (before after : Posts) → KeepsFit notes tables me before after → KeepsFit notes tables me before (counted after)
 counted-fits notes tables me before after keeps = record { succeeds = keeps.succeeds; known = keeps.known; entries = keeps.entries; sources = keeps.sources }
 
-pub called-fits : (limits : Limits) (tables : List Tables) (me : ℕ) (posts : Posts) (memory : Memory) (thread : ℕ) (call : Call) (reply : Reply) → MayPost tables me (tables_of posts) posts.known
-    → length posts.next_generations ≡ 32 → AllFit limits.notes tables me posts.queues → reply ≡ recorded_reply (answer limits me posts memory thread call)
+pub called-fits : (limits : Limits) (tables : List Tables) (me : ℕ) (posts : Posts) (memory : Memory) (thread : ℕ) (call : Call) (reply : Reply) → MayPost tables me (tables_of posts) posts.segments.known
+    → length posts.segments.next_generations ≡ 32 → AllFit limits.notes tables me posts.queues → reply ≡ recorded_reply (answer limits me posts memory thread call)
     → KeepsFit limits.notes tables me posts (posts_after limits me posts thread call reply)
 called-fits limits tables me posts memory thread call reply may many all is = go (is_idle reply) refl
   where
@@ -196,55 +200,45 @@ called-fits limits tables me posts memory thread call reply may many all is = go
 
 -- The own table of a rank and the memory that a call works on.
 
--- each segment has its slots
-abbrev pub HasSlots : ℕ → Memory → Type 0
-HasSlots notes memory = (segment n : ℕ) → entry_at (slot_counts memory) segment ≡ Some n → n ≡ notes
-
 -- both keep their segments, or they are of one rank and change together
 abbrev pub KeepsTables : ℕ → ℕ → ℕ → Posts → Posts → Memory → Memory → Type 0
 KeepsTables notes me worked posts posts' memory memory' =
-    ((posts'.own ≡ posts.own) × HaveSameLayout memory memory')
-    ⊎ ((worked ≡ me) × (posts.own ≡ extents_of memory → posts'.own ≡ extents_of memory') × (HasSlots notes memory → HasSlots notes memory'))
+    ((posts'.segments.own ≡ posts.segments.own) × HaveSameLayout memory memory')
+    ⊎ ((worked ≡ me) × (posts.segments.own ≡ extents_of memory.segments → posts'.segments.own ≡ extents_of memory'.segments) × (HasSlots notes memory → HasSlots notes memory'))
 
-with_post-own : (posts : Posts) (queue target : ℕ) (asked : Result (List Kind) Refusal) → (with_post posts queue target asked).own ≡ posts.own
+with_post-own : (posts : Posts) (queue target : ℕ) (asked : Result (List Kind) Refusal) → (with_post posts queue target asked).segments.own ≡ posts.segments.own
 with_post-own posts queue target (Ok kinds) = refl
 with_post-own posts queue target (Err refusal) = refl
 
 -- a segment set in a memory
-set-extents : (memory : Memory) (seg : ℕ) (o : Option Segment) (own : List (Option Extent)) → own ≡ extents_of memory
-    → slice_set own seg (option_map extent_of o) ≡ extents_of (record { segments = slice_set memory.segments seg o })
+set-extents : (memory : Memory) (seg : ℕ) (o : Option Segment) (own : List (Option Extent)) → own ≡ extents_of memory.segments
+    → slice_set own seg (option_map extent_of o) ≡ extents_of (slice_set memory.segments seg o)
 set-extents memory seg o own agrees = ap (λ (t : List (Option Extent)). slice_set t seg (option_map extent_of o)) agrees ∙ sym (map-set (option_map extent_of) memory.segments seg o)
 
-set-slots : (notes : ℕ) (memory : Memory) (seg : ℕ) (o : Option Segment) → ((s : Segment) → o ≡ Some s → length s.slots ≡ notes) → HasSlots notes memory → HasSlots notes (record { segments = slice_set memory.segments seg o })
-set-slots notes memory seg o fresh all segment n at =
-    let counts = λ (s : Segment). length s.slots in
-    let there = joined (slot_counts (record { segments = slice_set memory.segments seg o })) segment n at in
-    let set : slice_get (slice_set (slot_counts memory) seg (option_map counts o)) segment ≡ Some (Some n) =
-    subst (λ (t : List (Option ℕ)). slice_get t segment ≡ Some (Some n)) (map-set (option_map counts) memory.segments seg o) there in
-    parts (slice_get-set (slot_counts memory) seg segment (option_map counts o) (Some n) set)
-  where
-    by-segment : (x : Option Segment) → o ≡ x → Some n ≡ option_map (λ (s : Segment). length s.slots) x → n ≡ notes
-    by-segment None is h = absurd (let no : ⊥ = cc in no)
-    by-segment (Some s) is h = (let same : n ≡ length s.slots = cc in same) ∙ fresh s is
-
-    parts : ((segment ≡ seg) × (Some n ≡ option_map (λ (s : Segment). length s.slots) o)) ⊎ (slice_get (slot_counts memory) segment ≡ Some (Some n)) → n ≡ notes
-    parts (inl is) = by-segment o refl is.1
-    parts (inr was) = all segment n (rw was refl)
+set-slots : (notes : ℕ) (memory : Memory) (seg : ℕ) (o : Option Segment) (slots : Option (List ℕ)) → option_map length slots ≡ option_map (λ (x : Extent). notes) (option_map extent_of o)
+    → HasSlots notes memory → HasSlots notes (record { segments = slice_set memory.segments seg o; slots = slice_set memory.slots seg slots })
+set-slots notes memory seg o slots fresh all =
+    let count = option_map (λ (x : Extent). notes) in
+    map-set (option_map length) memory.slots seg slots
+    ∙ ap (λ (t : List (Option ℕ)). slice_set t seg (option_map length slots)) all
+    ∙ ap (slice_set (counts_of notes (extents_of memory.segments)) seg) fresh
+    ∙ sym (map-set count (extents_of memory.segments) seg (option_map extent_of o))
+    ∙ ap (counts_of notes) (sym (map-set (option_map extent_of) memory.segments seg o))
 
 plain-tables : (limits : Limits) (me : ℕ) (posts : Posts) (memory : Memory) (thread : ℕ) (call : Call)
     → KeepsTables limits.notes me (memory_rank limits me call) posts (plain_done posts thread call) memory (memory_done limits posts memory call)
 plain-tables limits me posts memory thread (Alloc call) =
-    let generation = next_generation posts.next_generations call.seg in
-    let new = new_segment limits.notes generation call.size in
+    let generation = next_generation posts.segments.next_generations call.seg in
+    let new = new_segment generation call.size in
     let extent : ◌≡◌ {A = Extent} (extent_of new) (record { generation = generation; size = call.size }) = (let many = length-replicate {A = ℕ} call.size 0 in rw many refl) in
     inr (
       refl,
       (λ agrees.
-          ap (λ (e : Extent). slice_set posts.own call.seg (Some e)) (sym extent) ∙ set-extents memory call.seg (Some new) posts.own agrees),
-      set-slots limits.notes memory call.seg (Some new) (λ s is. ap (λ (x : Segment). length x.slots) (let same : s ≡ new = cc in same) ∙ length-replicate limits.notes 0),
+          ap (λ (e : Extent). slice_set posts.segments.own call.seg (Some e)) (sym extent) ∙ set-extents memory call.seg (Some new) posts.segments.own agrees),
+      set-slots limits.notes memory call.seg (Some new) (Some (new_slots limits.notes)) (ap (λ (n : ℕ). Some n) (length-replicate limits.notes 0)),
     )
 plain-tables limits me posts memory thread (Delete call) =
-    inr (refl, (λ agrees. set-extents memory call.seg None posts.own agrees), set-slots limits.notes memory call.seg None (λ s is. absurd (let no : ⊥ = cc in no)))
+    inr (refl, (λ agrees. set-extents memory call.seg None posts.segments.own agrees), set-slots limits.notes memory call.seg None None refl)
 plain-tables limits me posts memory thread (Store call) = inl (refl, bytes-layout memory call.seg call.offset call.bytes)
 plain-tables limits me posts memory thread (Reset call) = inl (refl, slots-layout memory call.seg call.note 0)
 plain-tables limits me posts memory thread (FetchAdd call) =
@@ -309,18 +303,18 @@ known-told tables known me mine seg here made knows rank table theirs hk ht segm
 
 -- what ranks know when one of them is told a segment
 pub told-knows : (tables : List Tables) (ranks me : ℕ) (p : Posts) (call : Call) (reply : Reply) (all : List Posts) → slice_get tables me ≡ Some (tables_of p) → AreMade (tables_of p)
-    → ((r : ℕ) (x : Posts) → slice_get all r ≡ Some x → Knows tables x.known) → (r : ℕ) (x : Posts) → slice_get (told ranks me p call reply all) r ≡ Some x → Knows tables x.known
+    → ((r : ℕ) (x : Posts) → slice_get all r ≡ Some x → Knows tables x.segments.known) → (r : ℕ) (x : Posts) → slice_get (told ranks me p call reply all) r ≡ Some x → Knows tables x.segments.known
 told-knows tables ranks me p call reply all here made know r x h =
     told-cases ranks me p call reply
     (λ same. know r x (rw (same all) at h))
     (λ x' is awake other same.
-    by-rank x'.seg x'.rank (x'.rank == r) refl (slice_get all r) refl (sym (ap (λ (xs : List Posts). slice_get xs r) (same all) ∙ changed_at-get all x'.rank r (with_known me x'.seg (extent_in p.own x'.seg))) ∙ h))
+    by-rank x'.seg x'.rank (x'.rank == r) refl (slice_get all r) refl (sym (ap (λ (xs : List Posts). slice_get xs r) (same all) ∙ changed_at-get all x'.rank r (with_known me x'.seg (extent_in p.segments.own x'.seg))) ∙ h))
   where
     by-rank : (seg rank : ℕ) (b : Bool) → (rank == r) ≡ b → (o : Option Posts) → slice_get all r ≡ o
-        → (if rank == r then option_map (with_known me seg (extent_in p.own seg)) (slice_get all r) else slice_get all r) ≡ Some x → Knows tables x.known
+        → (if rank == r then option_map (with_known me seg (extent_in p.segments.own seg)) (slice_get all r) else slice_get all r) ≡ Some x → Knows tables x.segments.known
     by-rank seg rank false is o at h = know r x (rw is at h)
     by-rank seg rank true is None at h = absurd (let none : ◌≡◌ {A = Option Posts} None (Some x) = rw (is, at) at h in let no : ⊥ = cc in no)
     by-rank seg rank true is (Some y) at h =
-        let some : ◌≡◌ {A = Option Posts} (Some (with_known me seg (extent_in p.own seg) y)) (Some x) = rw (is, at) at h in
-        let new : with_known me seg (extent_in p.own seg) y ≡ x = cc in
-        rw (sym new) (known-told tables y.known me (tables_of p) seg here made (know r y at))
+        let some : ◌≡◌ {A = Option Posts} (Some (with_known me seg (extent_in p.segments.own seg) y)) (Some x) = rw (is, at) at h in
+        let new : with_known me seg (extent_in p.segments.own seg) y ≡ x = cc in
+        rw (sym new) (known-told tables y.segments.known me (tables_of p) seg here made (know r y at))

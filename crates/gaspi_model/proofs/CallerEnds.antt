@@ -26,7 +26,7 @@ use Rattle.gaspi_model.specs.Transfers.{Worked}
 use Rattle.gaspi_model.proofs.Chains.{both}
 use Rattle.gaspi_model.proofs.Made.{step-called}
 use Rattle.gaspi_model.proofs.Same.{same_reply-same}
-use Rattle.gaspi_model.proofs.Tables.{slice_get-set_same, map-at}
+use Rattle.gaspi_types.proofs.Items.{slice_get-set_same, map-at}
 use Rattle.gaspi_model.proofs.Told.{told-mine}
 use Rattle.gaspi_model.proofs.Activity.{active}
 use Rattle.gaspi_model.proofs.Histories.{after-first}

@@ -7,14 +7,13 @@ use Rattle.std.proofs.lemmas.Option.{slice_get-map, get_or_from_slice_get}
 use Rattle.gaspi_types.specs.SegmentTables.{extent_in, next_generation}
 use Rattle.gaspi_types.specs.World.{World}
 use Rattle.gaspi_types.specs.declared.entries.Entry.{Entry}
-use Rattle.gaspi_types.specs.declared.entries.Extent.{Extent}
-use Rattle.gaspi_model.specs.State.{opening, opening_extents, opening_posts, opening_memory, opening_segment, opening_queue, opening_generations, generations_used, declared_size, entry_at}
-use Rattle.gaspi_model.specs.Coherence.{extent_of, extents_of, slot_counts, Tables, tables_of, AreMade, AllFit, IsCoherent}
-use Rattle.gaspi_model.specs.declared.states.Queue.{Queue}
-use Rattle.gaspi_model.specs.declared.states.Segment.{Segment}
-use Rattle.gaspi_model.specs.declared.states.Memory.{Memory}
-use Rattle.gaspi_model.proofs.Successors.{extent-at}
-use Rattle.gaspi_model.proofs.Tables.{slice_get-replicate, joined, map-at}
+use Rattle.gaspi_types.specs.declared.segments.Extent.{Extent}
+use Rattle.gaspi_model.specs.State.{opening, opening_extents, opening_posts, opening_memory, opening_queue, opening_generations, generations_used, declared_size, new_slots}
+use Rattle.gaspi_model.specs.Coherence.{counts_of, HasSlots, Tables, tables_of, AreMade, AllFit, IsCoherent}
+use Rattle.gaspi_types.specs.Segments.{new_segment, extent_of, extents_of}
+use Rattle.gaspi_types.specs.declared.entries.Queue.{Queue}
+use Rattle.gaspi_types.proofs.Extents.{extent-at}
+use Rattle.gaspi_types.proofs.Items.{slice_get-replicate, map-at}
 
 map-alike : {A B C : Type 0} (f : B → C) (g : A → B) (h : A → C) (xs : List A) → ((x : A) → h x ≡ f (g x)) → map h xs ≡ map f (map g xs)
 map-alike f g h [] alike = refl
@@ -23,37 +22,39 @@ map-alike f g h (x ∷ xs) alike =
     let rest = map-alike f g h xs alike in
     cc
 
-segment-extent : (notes : ℕ) (o : Option ℕ) → option_map (λ (size : ℕ). (let e : Extent = record { generation = 0; size = size } in e)) o ≡ option_map extent_of (option_map (opening_segment notes) o)
-segment-extent notes None = refl
-segment-extent notes (Some size) =
+segment-extent : (o : Option ℕ) → option_map (λ (size : ℕ). (let e : Extent = record { generation = 0; size = size } in e)) o ≡ option_map extent_of (option_map (new_segment 0) o)
+segment-extent None = refl
+segment-extent (Some size) =
     let same = length-replicate {A = ℕ} size 0 in
     rw same refl
 
-segment-slots : (notes : ℕ) (o : Option ℕ) → option_map (λ (size : ℕ). notes) o ≡ option_map (λ (s : Segment). length s.slots) (option_map (opening_segment notes) o)
-segment-slots notes None = refl
-segment-slots notes (Some size) =
+own-agrees : (w : World) (rank : ℕ) → (opening_posts w rank).segments.own ≡ extents_of (opening_memory w rank).segments
+own-agrees w rank =
+    map-alike (option_map extent_of) (λ (segment : ℕ). option_map (new_segment 0) (declared_size w rank segment))
+    (λ (segment : ℕ). option_map (λ (size : ℕ). (let e : Extent = record { generation = 0; size = size } in e)) (declared_size w rank segment)) (range_with_len 0 32)
+    (λ segment. segment-extent (declared_size w rank segment))
+
+-- the slots of a declared segment are as many as there are to be
+slot-count : (notes : ℕ) (o : Option ℕ) → option_map (λ (size : ℕ). notes) o ≡ option_map length (option_map (λ (size : ℕ). new_slots notes) o)
+slot-count notes None = refl
+slot-count notes (Some size) =
     let same = length-replicate {A = ℕ} notes 0 in
     rw same refl
 
-own-agrees : (w : World) (rank : ℕ) → (opening_posts w rank).own ≡ extents_of (opening_memory w rank)
-own-agrees w rank =
-    map-alike (option_map extent_of) (λ (segment : ℕ). option_map (opening_segment w.limits.notes) (declared_size w rank segment))
-    (λ (segment : ℕ). option_map (λ (size : ℕ). (let e : Extent = record { generation = 0; size = size } in e)) (declared_size w rank segment)) (range_with_len 0 32)
-    (λ segment. segment-extent w.limits.notes (declared_size w rank segment))
+extent-count : (notes : ℕ) (o : Option ℕ)
+    → option_map (λ (size : ℕ). notes) o ≡ option_map (λ (x : Extent). notes) (option_map (λ (size : ℕ). (let e : Extent = record { generation = 0; size = size } in e)) o)
+extent-count notes None = refl
+extent-count notes (Some size) = refl
 
-constant : (notes : ℕ) (o : Option ℕ) (n : ℕ) → option_map (λ (size : ℕ). notes) o ≡ Some n → n ≡ notes
-constant notes None n h = absurd (let no : ⊥ = cc in no)
-constant notes (Some size) n h = let same : notes ≡ n = cc in sym same
-
-slots-agree : (w : World) (rank segment n : ℕ) → entry_at (slot_counts (opening_memory w rank)) segment ≡ Some n → n ≡ w.limits.notes
-slots-agree w rank segment n h =
-    let table : slot_counts (opening_memory w rank) ≡ map (λ (segment : ℕ). option_map (λ (size : ℕ). w.limits.notes) (declared_size w rank segment)) (range_with_len 0 32) =
-    sym (map-alike (option_map (λ (s : Segment). length s.slots)) (λ (segment : ℕ). option_map (opening_segment w.limits.notes) (declared_size w rank segment))
+slots-agree : (w : World) (rank : ℕ) → HasSlots w.limits.notes (opening_memory w rank)
+slots-agree w rank =
+    sym (map-alike (option_map length) (λ (segment : ℕ). option_map (λ (size : ℕ). new_slots w.limits.notes) (declared_size w rank segment))
     (λ (segment : ℕ). option_map (λ (size : ℕ). w.limits.notes) (declared_size w rank segment)) (range_with_len 0 32)
-    (λ segment. segment-slots w.limits.notes (declared_size w rank segment))) in
-    let at = joined (slot_counts (opening_memory w rank)) segment n h in
-    let there = map-at (λ (segment : ℕ). option_map (λ (size : ℕ). w.limits.notes) (declared_size w rank segment)) (range_with_len 0 32) segment (Some n) (subst (λ (t : List (Option ℕ)). slice_get t segment ≡ Some (Some n)) table at) in
-    constant w.limits.notes (declared_size w rank there.0) n (sym there.2)
+    (λ segment. slot-count w.limits.notes (declared_size w rank segment)))
+    ∙ map-alike (option_map (λ (x : Extent). w.limits.notes)) (λ (segment : ℕ). option_map (λ (size : ℕ). (let e : Extent = record { generation = 0; size = size } in e)) (declared_size w rank segment))
+    (λ (segment : ℕ). option_map (λ (size : ℕ). w.limits.notes) (declared_size w rank segment)) (range_with_len 0 32)
+    (λ segment. extent-count w.limits.notes (declared_size w rank segment))
+    ∙ ap (counts_of w.limits.notes) (own-agrees w rank)
 
 -- each declared segment uses the first generation of its number
 opening-made : (w : World) (rank : ℕ) → AreMade (tables_of (opening_posts w rank))
@@ -85,9 +86,9 @@ opens-coherent w = record {
       let m = map-at (opening_memory w) (range_with_len 0 w.limits.ranks) rank memory hm in
       let same : p.0 ≡ m.0 = (let some : ◌≡◌ {A = Option ℕ} (Some p.0) (Some m.0) = sym p.1 ∙ m.1 in cc) in
       rw (p.2, m.2, same) (own-agrees w m.0);
-  slots = λ rank memory hm segment n at.
+  slots = λ rank memory hm.
       let m = map-at (opening_memory w) (range_with_len 0 w.limits.ranks) rank memory hm in
-      slots-agree w m.0 segment n (subst (λ (x : Memory). entry_at (slot_counts x) segment ≡ Some n) m.2 at);
+      subst (HasSlots w.limits.notes) (sym m.2) (slots-agree w m.0);
   made = λ rank posts hp.
       let p = map-at (opening_posts w) (range_with_len 0 w.limits.ranks) rank posts hp in
       rw p.2 (opening-made w p.0);

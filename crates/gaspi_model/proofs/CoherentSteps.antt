@@ -4,7 +4,7 @@ use Rattle.std.specs.List.{slice_get, slice_set}
 use Rattle.std.specs.Option.{option_map}
 use Rattle.std.proofs.lemmas.Option.{slice_get-map}
 use Rattle.gaspi_types.specs.Lanes.{is_posted}
-use Rattle.gaspi_types.specs.declared.entries.Extent.{Extent}
+use Rattle.gaspi_types.specs.declared.segments.Extent.{Extent}
 use Rattle.gaspi_types.specs.declared.entries.Phase.TheVariants as phases
 use Rattle.gaspi_types.specs.declared.calls.Call.{Call}
 use Rattle.gaspi_types.specs.declared.replies.Reply.{Reply}
@@ -12,12 +12,13 @@ use Rattle.gaspi_types.specs.declared.events.Outcome.{Outcome}
 use Rattle.gaspi_types.specs.declared.events.Outcome.TheVariants.{Applied, Failed}
 use Rattle.gaspi_types.specs.declared.events.Event.{Event}
 use Rattle.gaspi_types.specs.declared.events.Event.TheVariants.{Called, Take, Put}
-use Rattle.gaspi_model.specs.Posting.{changed_at}
+use Rattle.gaspi_types.specs.Tables.{changed_at}
 use Rattle.gaspi_model.specs.Transfers.{Found, Worked, with_phase, taken_bytes}
 use Rattle.gaspi_model.specs.Step.{step}
-use Rattle.gaspi_model.specs.Coherence.{extents_of, Tables, tables_of, all_tables, HasSource, AreMade, AllFit, Knows, IsCoherent}
+use Rattle.gaspi_model.specs.Coherence.{counts_of, HasSlots, Tables, tables_of, all_tables, HasSource, AreMade, AllFit, Knows, IsCoherent}
+use Rattle.gaspi_types.specs.Segments.{extents_of}
 use Rattle.gaspi_model.specs.Sound.{IsSound}
-use Rattle.gaspi_model.specs.declared.states.Queue.{Queue}
+use Rattle.gaspi_types.specs.declared.entries.Queue.{Queue}
 use Rattle.gaspi_model.specs.declared.states.Posts.{Posts}
 use Rattle.gaspi_model.specs.declared.states.Memory.{Memory}
 use Rattle.gaspi_model.specs.declared.states.State.{State}
@@ -25,19 +26,19 @@ use Rattle.gaspi_model.proofs.Chains.{both}
 use Rattle.gaspi_model.proofs.Same.{same_reply-same}
 use Rattle.gaspi_model.proofs.Made.{IsPut}
 use Rattle.gaspi_model.proofs.Worked.{memory_rank, sound-called, sound-take, sound-put}
-use Rattle.gaspi_model.proofs.Tables.{slice_get-set, slice_get-set_same, slice_get-set_other, map-at, same-or-not}
+use Rattle.gaspi_types.proofs.Items.{slice_get-set, slice_get-set_same, slice_get-set_other, map-at, same-or-not}
 use Rattle.gaspi_model.proofs.Told.{told, told-from}
 use Rattle.gaspi_model.proofs.Layouts.{HaveSameLayout, same-layout, put-layout}
 use Rattle.gaspi_model.proofs.Successors.{Succeeds, Follow, made-stays, knows-follows, all-fit-follows}
 use Rattle.gaspi_model.proofs.FittingEntries.{MayPost, fits-lane, lane-phase, lane-remove, taken-source}
-use Rattle.gaspi_model.proofs.CallTables.{KeepsFit, HasSlots, KeepsTables, fits-itself, fits-requeued, counted-fits, called-fits, called-tables, told-knows}
+use Rattle.gaspi_model.proofs.CallTables.{KeepsFit, KeepsTables, fits-itself, fits-requeued, counted-fits, called-fits, called-tables, told-knows}
 
 -- what a state has of each rank was there before it, with tables that come after the old ones
 record ComesFrom (s t : State) : Type 0 where
   limits : t.limits ≡ s.limits
   posts : (rank : ℕ) (after : Posts) → slice_get t.posts rank ≡ Some after
       → (before : Posts) × (slice_get s.posts rank ≡ Some before) × KeepsFit s.limits.notes (all_tables s.posts) rank before after
-  own : (rank : ℕ) (posts : Posts) (memory : Memory) → slice_get t.posts rank ≡ Some posts → slice_get t.memories rank ≡ Some memory → posts.own ≡ extents_of memory
+  own : (rank : ℕ) (posts : Posts) (memory : Memory) → slice_get t.posts rank ≡ Some posts → slice_get t.memories rank ≡ Some memory → posts.segments.own ≡ extents_of memory.segments
   slots : (rank : ℕ) (memory : Memory) → slice_get t.memories rank ≡ Some memory → HasSlots s.limits.notes memory
 
 pub mine-there : (table : List Posts) (rank : ℕ) (posts : Posts) → slice_get table rank ≡ Some posts → slice_get (all_tables table) rank ≡ Some (tables_of posts)
@@ -57,13 +58,13 @@ keeps-coherent s t coherent from =
     let follow = follows s t from in
     record {
       own = from.own;
-      slots = λ rank memory hm segment n at. rw from.limits (from.slots rank memory hm segment n at);
+      slots = λ rank memory hm. rw from.limits (from.slots rank memory hm);
       made = λ rank posts hp.
           let p = from.posts rank posts hp in
           made-stays (tables_of p.0) (tables_of posts) p.2.succeeds (coherent.made rank p.0 p.1);
       known = λ rank posts hp.
           let p = from.posts rank posts hp in
-          knows-follows (all_tables s.posts) (all_tables t.posts) posts.known follow p.2.known;
+          knows-follows (all_tables s.posts) (all_tables t.posts) posts.segments.known follow p.2.known;
       entries = λ origin posts hp.
           let p = from.posts origin posts hp in
           rw from.limits (all-fit-follows s.limits.notes (all_tables s.posts) (all_tables t.posts) origin posts.queues follow
@@ -90,11 +91,11 @@ told-posts-from ranks notes table place old new call reply at made keeps all ran
     let replaced = posts-from notes table place old new at keeps all in
     let from = told-from ranks place old call reply (slice_set table place new) rank after here in
     let before = replaced rank from.0 from.2 in
-    let known : Knows (all_tables table) after.known =
+    let known : Knows (all_tables table) after.segments.known =
     told-knows (all_tables table) ranks place old call reply (slice_set table place new) (mine-there table place old at) made (λ r x h. (replaced r x h).2.known) rank after here in
     (before.0, before.1, told-fits before.0 from.0 from.1 from.3 before.2 known)
   where
-    told-fits : (before x : Posts) (known : List (List (Option Extent))) → after ≡ record x { known = known } → KeepsFit notes (all_tables table) rank before x → Knows (all_tables table) after.known
+    told-fits : (before x : Posts) (known : List (List (Option Extent))) → after ≡ record x { segments = record x.segments { known = known } } → KeepsFit notes (all_tables table) rank before x → Knows (all_tables table) after.segments.known
         → KeepsFit notes (all_tables table) rank before after
     told-fits before x known is fits knows = record { succeeds = rw is fits.succeeds; known = knows; entries = rw is fits.entries; sources = rw is fits.sources }
 
@@ -104,14 +105,14 @@ keeps-itself s coherent rank p at = fits-itself s.limits.notes (all_tables s.pos
 -- The own tables and the memories.
 
 abbrev OwnAgrees : List Posts → List Memory → Type 0
-OwnAgrees all memories = (rank : ℕ) (posts : Posts) (memory : Memory) → slice_get all rank ≡ Some posts → slice_get memories rank ≡ Some memory → posts.own ≡ extents_of memory
+OwnAgrees all memories = (rank : ℕ) (posts : Posts) (memory : Memory) → slice_get all rank ≡ Some posts → slice_get memories rank ≡ Some memory → posts.segments.own ≡ extents_of memory.segments
 
-own-from : (table : List Posts) (place : ℕ) (old new : Posts) → slice_get table place ≡ Some old → new.own ≡ old.own → (rank : ℕ) (after : Posts) → slice_get (slice_set table place new) rank ≡ Some after
-    → (before : Posts) × (slice_get table rank ≡ Some before) × (after.own ≡ before.own)
+own-from : (table : List Posts) (place : ℕ) (old new : Posts) → slice_get table place ≡ Some old → new.segments.own ≡ old.segments.own → (rank : ℕ) (after : Posts) → slice_get (slice_set table place new) rank ≡ Some after
+    → (before : Posts) × (slice_get table rank ≡ Some before) × (after.segments.own ≡ before.segments.own)
 own-from table place old new at same rank after here = go (slice_get-set table place rank new after here)
   where
-    go : ((rank ≡ place) × (after ≡ new)) ⊎ (slice_get table rank ≡ Some after) → (before : Posts) × (slice_get table rank ≡ Some before) × (after.own ≡ before.own)
-    go (inl is) = (old, subst (λ (k : ℕ). slice_get table k ≡ Some old) (sym is.0) at, ap (λ (p : Posts). p.own) is.1 ∙ same)
+    go : ((rank ≡ place) × (after ≡ new)) ⊎ (slice_get table rank ≡ Some after) → (before : Posts) × (slice_get table rank ≡ Some before) × (after.segments.own ≡ before.segments.own)
+    go (inl is) = (old, subst (λ (k : ℕ). slice_get table k ≡ Some old) (sym is.0) at, ap (λ (p : Posts). p.segments.own) is.1 ∙ same)
     go (inr was) = (after, was, refl)
 
 memories-from : (table : List Memory) (place : ℕ) (old new : Memory) → slice_get table place ≡ Some old → HaveSameLayout old new
@@ -142,7 +143,7 @@ changed-own all memories notes me worked posts posts' memory memory' agrees hp h
 told-own : (ranks : ℕ) (all : List Posts) (memories : List Memory) (me : ℕ) (p : Posts) (call : Call) (reply : Reply) → OwnAgrees all memories → OwnAgrees (told ranks me p call reply all) memories
 told-own ranks all memories me p call reply agrees rank posts memory hp hm =
     let from = told-from ranks me p call reply all rank posts hp in
-    ap (λ (x : Posts). x.own) from.3 ∙ agrees rank from.0 memory from.2 hm
+    ap (λ (x : Posts). x.segments.own) from.3 ∙ agrees rank from.0 memory from.2 hm
 
 changed-slots : (memories : List Memory) (notes worked : ℕ) (memory' : Memory) → ((rank : ℕ) (m : Memory) → slice_get memories rank ≡ Some m → HasSlots notes m) → HasSlots notes memory'
     → (rank : ℕ) (m : Memory) → slice_get (slice_set memories worked memory') rank ≡ Some m → HasSlots notes m
@@ -153,7 +154,7 @@ changed-slots memories notes worked memory' all new rank m at = go (slice_get-se
     go (inr was) = all rank m was
 
 layout-slots : (notes : ℕ) (old new : Memory) → HaveSameLayout old new → HasSlots notes old → HasSlots notes new
-layout-slots notes old new layout all segment n at = all segment n (rw (sym layout.counts) at)
+layout-slots notes old new layout all = layout.counts ∙ all ∙ ap (counts_of notes) (sym layout.extents)
 
 tables-slots : (notes me worked : ℕ) (posts posts' : Posts) (memory memory' : Memory) → KeepsTables notes me worked posts posts' memory memory' → HasSlots notes memory → HasSlots notes memory'
 tables-slots notes me worked posts posts' memory memory' (inl kept) all = layout-slots notes memory memory' kept.1 all
@@ -162,7 +163,7 @@ tables-slots notes me worked posts posts' memory memory' (inr both_change) all =
 -- Puts.
 
 put-keeps : (notes : ℕ) (tables : List Tables) (posts : Posts) (memory : Memory) (origin queue target number : ℕ) (outcome : Outcome) (after : Worked) (at : Found)
-    → IsPut posts memory queue target number outcome after at → Knows tables posts.known → AllFit notes tables origin posts.queues → KeepsFit notes tables origin posts after.posts
+    → IsPut posts memory queue target number outcome after at → Knows tables posts.segments.known → AllFit notes tables origin posts.queues → KeepsFit notes tables origin posts after.posts
 put-keeps notes tables posts memory origin queue target number Applied after at h knows all =
     let lane = remove at.lane at.place in
     let change = λ (q : Queue). record q { lanes = slice_set q.lanes target lane } in
@@ -190,7 +191,7 @@ steps-coherent s t (Called c call reply) sound h =
     let m = made.3 in
     let tables = all_tables s.posts in
     let worked = memory_rank s.limits c.rank call in
-    let may : MayPost tables c.rank (tables_of made.0) made.0.known = record {
+    let may : MayPost tables c.rank (tables_of made.0) made.0.segments.known = record {
       here = mine-there s.posts c.rank made.0 m.posts_there;
       knows = coherent.known c.rank made.0 m.posts_there;
       made = coherent.made c.rank made.0 m.posts_there;
@@ -220,7 +221,7 @@ steps-coherent s t (Take origin queue target number outcome) sound h =
     let own = coherent.own origin made.0 made.1 m.posts_there m.memory_there in
     let fits = fits-lane s.limits.notes tables origin made.0.queues queue change at.queue target at.lane lane m.is.is.in_posts m.is.is.in_queue refl
     (λ mine theirs hm ht old.
-    let same : mine.own ≡ extents_of made.1 = ap (λ (x : Tables). x.own) (same-tables s.posts origin made.0 mine m.posts_there hm) ∙ own in
+    let same : mine.own ≡ extents_of made.1.segments = ap (λ (x : Tables). x.own) (same-tables s.posts origin made.0 mine m.posts_there hm) ∙ own in
     lane-phase s.limits.notes mine theirs at.lane at.place at.entry phase m.is.is.in_lane
     (λ own range is source. taken-source made.1 at.entry own range (both (is_posted at.entry) _ m.is.permitted).0 is (subst (λ (table : List (Option Extent)). HasSource table own at.entry.phase) same source)) old) entries in
     let keeps : KeepsFit s.limits.notes tables origin made.0 made.2 =

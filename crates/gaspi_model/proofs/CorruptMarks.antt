@@ -26,7 +26,7 @@ use Rattle.gaspi_model.specs.declared.states.Memory.{Memory}
 use Rattle.gaspi_model.specs.declared.states.State.{State}
 use Rattle.gaspi_model.specs.declared.states.Why.{Why}
 use Rattle.gaspi_model.proofs.Made.{IsPut, step-called, step-take, step-put}
-use Rattle.gaspi_model.proofs.Tables.{slice_get-set_same, slice_get-set_other, same-or-not}
+use Rattle.gaspi_types.proofs.Items.{slice_get-set_same, slice_get-set_other, same-or-not}
 use Rattle.gaspi_model.proofs.Told.{IsTold, told, told-get}
 use Rattle.gaspi_model.proofs.Histories.{after-first, after-both}
 
@@ -78,7 +78,7 @@ told-marks ranks me p call reply all rank target h = go (told-get ranks me p cal
     go (inl same) = record { posts = h.posts; there = same ∙ h.there; marked = h.marked }
     go (inr (x, known, before, now)) =
         let same : x ≡ h.posts = (let some : ◌≡◌ {A = Option Posts} (Some x) (Some h.posts) = sym before ∙ h.there in cc) in
-        record { posts = record x { known = known }; there = now; marked = rw same h.marked }
+        record { posts = record x { segments = record x.segments { known = known } }; there = now; marked = rw same h.marked }
 
 post-marks : (posts : Posts) (queue target : ℕ) (asked : Result (List Kind) Refusal) → (with_post posts queue target asked).corrupt ≡ posts.corrupt
 post-marks posts queue target (Ok kinds) = refl

@@ -13,7 +13,7 @@ use Rattle.gaspi_types.specs.declared.shapes.Limits.{Limits}
 use Rattle.gaspi_model.specs.Transfers.{transfer_of, lane_transfers, queue_transfers, rank_transfers, transfers}
 use Rattle.gaspi_model.specs.Settled.{AreLanesEmpty}
 use Rattle.gaspi_model.specs.Sound.{AreAbove, AreRising, lane_from, lane_failed, failures, IsSoundQueue, IsSound}
-use Rattle.gaspi_model.specs.declared.states.Queue.{Queue}
+use Rattle.gaspi_types.specs.declared.entries.Queue.{Queue}
 use Rattle.gaspi_model.specs.declared.states.State.{State}
 use Rattle.gaspi_model.proofs.OpenCounts.{one-if, one-if-not}
 

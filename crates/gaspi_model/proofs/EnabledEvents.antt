@@ -26,8 +26,7 @@ use Rattle.gaspi_types.specs.declared.events.Transfer.{Transfer}
 use Rattle.gaspi_types.specs.declared.events.Event.{Event}
 use Rattle.gaspi_types.specs.declared.events.Event.TheVariants.{Called, Take, Put}
 use Rattle.gaspi_model.specs.State.{owed, thread_at, is_running}
-use Rattle.gaspi_model.specs.Calls.{answer, recorded_reply, charge}
-use Rattle.gaspi_model.specs.Calls.{peer_after}
+use Rattle.gaspi_model.specs.Calls.{answer, recorded_reply, charge, peer_after}
 use Rattle.gaspi_model.specs.Parts.{Parts, parts_of, with_parts, touched_of, worked_memory, with_worked_memory}
 use Rattle.gaspi_model.proofs.Made.{worked-at, memory_at, put_reach, entry-found}
 use Rattle.gaspi_types.specs.Touches.{reach_of}
@@ -36,7 +35,7 @@ use Rattle.std.specs.Option.{option_map}
 use Rattle.gaspi_model.specs.Transfers.{find_entry, entry_in, take, put, Worked, put_outcome, same_outcome, transfer_of, lane_transfers, queue_transfers, rank_transfers, transfers}
 use Rattle.gaspi_model.specs.Step.{step, called, is_there, call_memory, event_reach, answer_in, is_active, room_taken, transfer_event}
 use Rattle.gaspi_model.specs.Sound.{IsSound}
-use Rattle.gaspi_model.specs.declared.states.Queue.{Queue}
+use Rattle.gaspi_types.specs.declared.entries.Queue.{Queue}
 use Rattle.gaspi_model.specs.declared.states.ThreadState.{ThreadState}
 use Rattle.gaspi_model.specs.declared.states.ThreadState.TheVariants.{Absent, Running, Ended}
 use Rattle.gaspi_model.specs.declared.states.Posts.{Posts}
@@ -45,7 +44,7 @@ use Rattle.gaspi_model.specs.declared.states.State.{State}
 use Rattle.gaspi_model.specs.declared.states.Why.{Why}
 use Rattle.gaspi_model.specs.declared.states.Why.TheVariants as whys
 use Rattle.gaspi_model.proofs.Rising.{place_of-rising}
-use Rattle.gaspi_model.proofs.Tables.{past-none, flat_map-parts, enumerate-at}
+use Rattle.gaspi_types.proofs.Items.{past-none, flat_map-parts, enumerate-at}
 
 -- Replies compare as the same as themselves.
 

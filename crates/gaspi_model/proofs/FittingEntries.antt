@@ -1,15 +1,14 @@
 -- Entries keep their ranges within their segments.
 use Rattle.std.proofs.Common.{◌≡◌, ℕ, zero, suc, ◌+◌, Bool, true, false, not, ◌==◌, nat_lt, List, [], ◌∷◌, ◌++◌, length, remove, Option, None, Some, Result, Ok, Err, refl, sym, ap, ◌∙◌, subst, arith, ◌⊎◌, inl, inr}
 use Rattle.std.specs.List.{slice_get, slice_set}
-use Rattle.std.specs.Option.{option_map}
 use Rattle.std.proofs.lemmas.Bool.{leb-true, ltb-true, eqb-true}
-use Rattle.std.proofs.lemmas.Option.{slice_get-map}
 use Rattle.gaspi_types.specs.Lanes.{is_posted, is_posted_phase, posted_entries}
 use Rattle.gaspi_types.specs.Posts.{write_kinds, notify_kinds, write_notify_kinds}
 use Rattle.gaspi_types.specs.SegmentTables.{extent_in, known_extent}
 use Rattle.gaspi_types.specs.SegmentBytes.{is_transfer_size, is_within}
 use Rattle.gaspi_types.specs.declared.entries.Entry.{Entry}
-use Rattle.gaspi_types.specs.declared.entries.Extent.{Extent}
+use Rattle.gaspi_types.specs.declared.segments.Extent.{Extent}
+use Rattle.gaspi_types.specs.declared.segments.SegmentTable.{SegmentTable}
 use Rattle.gaspi_types.specs.declared.entries.ByteRange.{ByteRange}
 use Rattle.gaspi_types.specs.declared.entries.Kind.{Kind}
 use Rattle.gaspi_types.specs.declared.entries.Kind.TheVariants as kinds_of
@@ -25,19 +24,20 @@ use Rattle.gaspi_types.specs.declared.calls.posts.WriteNotify as write_notify
 use Rattle.gaspi_types.specs.declared.shapes.Limits.{Limits}
 use Rattle.gaspi_types.specs.declared.replies.Refusal.{Refusal}
 use Rattle.gaspi_model.specs.Calls.{call_asks}
-use Rattle.gaspi_model.specs.State.{segment_at}
-use Rattle.gaspi_model.specs.Memories.{bytes_of, bytes_in}
-use Rattle.gaspi_model.specs.Posting.{changed_at, with_entries, with_post}
+use Rattle.gaspi_model.specs.Memories.{bytes_of}
+use Rattle.gaspi_types.specs.Segments.{bytes_in, extents_of}
+use Rattle.gaspi_model.specs.Posting.{with_post}
+use Rattle.gaspi_types.specs.Tables.{changed_at}
+use Rattle.gaspi_types.specs.Queues.{with_entries}
 use Rattle.gaspi_model.specs.Transfers.{with_phase, taken_bytes}
-use Rattle.gaspi_model.specs.Coherence.{extent_of, extents_of, Tables, WasMade, AreMade, LiesInIfThere, HasSource, Fits, AllFit, Knows}
-use Rattle.gaspi_model.specs.declared.states.Queue.{Queue}
+use Rattle.gaspi_model.specs.Coherence.{Tables, WasMade, AreMade, LiesInIfThere, HasSource, Fits, AllFit, Knows}
+use Rattle.gaspi_types.specs.declared.entries.Queue.{Queue}
 use Rattle.gaspi_model.specs.declared.states.Posts.{Posts}
-use Rattle.gaspi_model.specs.declared.states.Segment.{Segment}
 use Rattle.gaspi_model.specs.declared.states.Memory.{Memory}
 use Rattle.gaspi_model.proofs.Chains.{check_then, found_then, same_Ok}
-use Rattle.gaspi_model.proofs.Tables.{slice_get-set, append-parts, remove-part}
-use Rattle.gaspi_model.proofs.Successors.{extent-at}
-use Rattle.gaspi_model.proofs.Layouts.{range_of-length}
+use Rattle.gaspi_types.proofs.Items.{slice_get-set, append-parts, remove-part}
+use Rattle.gaspi_types.proofs.Extents.{extent-at}
+use Rattle.gaspi_types.proofs.Written.{range_of-length, segment-behind}
 
 -- the entries of one lane fit
 abbrev pub LaneFits : ℕ → Tables → Tables → List Entry → Type 0
@@ -112,17 +112,21 @@ fits-alike notes tables origin queues changed change q0 at lanes all queue q h t
 -- The entries of a post fit.
 
 -- what a rank knows of a target's segment: its table's entry, of its own or of the others'
-pub known-cases : {P : Type 0} (me : ℕ) (own : List (Option Extent)) (known : List (List (Option Extent))) (rank segment : ℕ) (x : Extent) → known_extent me own known rank segment ≡ Some x
-    → (rank ≡ me → extent_in own segment ≡ Some x → P) → ((table : List (Option Extent)) → slice_get known rank ≡ Some table → extent_in table segment ≡ Some x → P) → P
-known-cases {P} me own known rank segment x h mine others = go (rank == me) refl
+pub known-cases : {P : Type 0} (me : ℕ) (segments : SegmentTable) (rank segment : ℕ) (x : Extent) → known_extent me segments rank segment ≡ Some x
+    → (rank ≡ me → extent_in segments.own segment ≡ Some x → P) → ((table : List (Option Extent)) → slice_get segments.known rank ≡ Some table → extent_in table segment ≡ Some x → P) → P
+known-cases {P} me segments rank segment x h mine others = go (rank == me) refl
   where
-    in-table : (o : Option (List (Option Extent))) → slice_get known rank ≡ o → (rank == me) ≡ false → P
+    in-table : (o : Option (List (Option Extent))) → slice_get segments.known rank ≡ o → (rank == me) ≡ false → P
     in-table None at apart = absurd (let none : ◌≡◌ {A = Option Extent} None (Some x) = rw (apart, at) at h in let no : ⊥ = cc in no)
     in-table (Some table) at apart = others table at (rw (apart, at) at h)
 
     go : (b : Bool) → (rank == me) ≡ b → P
     go true is = mine (eqb-true rank me is) (rw is at h)
-    go false is = in-table (slice_get known rank) refl is
+    go false is = in-table (slice_get segments.known rank) refl is
+
+-- the tables of a rank, and what it knows
+abbrev pub table_with : Tables → List (List (Option Extent)) → SegmentTable
+table_with mine known = record { own = mine.own; next_generations = mine.next; known = known }
 
 -- a rank whose tables are those of its posts, and that knows nothing that was not made
 pub record MayPost (tables : List Tables) (me : ℕ) (mine : Tables) (known : List (List (Option Extent))) : Type 0 where
@@ -132,9 +136,9 @@ pub record MayPost (tables : List Tables) (me : ℕ) (mine : Tables) (known : Li
 
 -- what a rank knows of a target's segment was made
 known-made : (me : ℕ) (mine : Tables) (known : List (List (Option Extent))) (tables : List Tables) (rank segment : ℕ) (x : Extent) (theirs : Tables) → MayPost tables me mine known
-    → known_extent me mine.own known rank segment ≡ Some x → slice_get tables rank ≡ Some theirs → WasMade theirs segment x.generation
+    → known_extent me (table_with mine known) rank segment ≡ Some x → slice_get tables rank ≡ Some theirs → WasMade theirs segment x.generation
 known-made me mine known tables rank segment x theirs may h ht =
-    known-cases me mine.own known rank segment x h
+    known-cases me (table_with mine known) rank segment x h
     (λ same at.
     let same_table : mine ≡ theirs = (let some : ◌≡◌ {A = Option Tables} (Some mine) (Some theirs) = sym may.here ∙ rw (sym same) ht in cc) in
     rw (sym same_table) (may.made segment x at))
@@ -142,10 +146,10 @@ known-made me mine known tables rank segment x theirs may h ht =
 
 -- a range that was checked against what its rank knows lies within the segment, where that is there
 known-lies : (me : ℕ) (mine : Tables) (known : List (List (Option Extent))) (tables : List Tables) (rank segment offset size : ℕ) (x : Extent) (theirs : Tables)
-    → MayPost tables me mine known → known_extent me mine.own known rank segment ≡ Some x → is_within offset size x.size ≡ true → slice_get tables rank ≡ Some theirs
+    → MayPost tables me mine known → known_extent me (table_with mine known) rank segment ≡ Some x → is_within offset size x.size ≡ true → slice_get tables rank ≡ Some theirs
     → LiesInIfThere theirs.own (record { segment = segment; generation = x.generation; offset = offset; size = size })
 known-lies me mine known tables rank segment offset size x theirs may h within ht y there generation =
-    known-cases me mine.own known rank segment x h
+    known-cases me (table_with mine known) rank segment x h
     (λ same at.
     let same_table : mine ≡ theirs = (let some : ◌≡◌ {A = Option Tables} (Some mine) (Some theirs) = sym may.here ∙ rw (sym same) ht in cc) in
     let at' : extent_in theirs.own segment ≡ Some x = rw (sym same_table) at in
@@ -171,10 +175,10 @@ posted-fit notes mine theirs (kind ∷ kinds) number (suc place) e fit at = post
 
 write-fits : (notes me : ℕ) (own : Tables) (known : List (List (Option Extent))) (tables : List Tables) (call : write.Write) (kinds : List Kind) (theirs : Tables)
     → MayPost tables me own known → slice_get tables call.rank ≡ Some theirs
-    → write_kinds me own.own known call ≡ Ok kinds → KindsFit notes own theirs kinds
+    → write_kinds me (table_with own known) call ≡ Ok kinds → KindsFit notes own theirs kinds
 write-fits notes me own known tables call kinds theirs may ht h =
     found_then (extent_in own.own call.seg) _ _ kinds h (λ mine hmine h1.
-    found_then (known_extent me own.own known call.rank call.rseg) _ _ kinds h1 (λ far hfar h2.
+    found_then (known_extent me (table_with own known) call.rank call.rseg) _ _ kinds h1 (λ far hfar h2.
     check_then (is_transfer_size call.size) _ _ kinds h2 (λ sized h3.
     check_then (is_within call.offset call.size mine.size) _ _ kinds h3 (λ from h4.
     check_then (is_within call.roffset call.size far.size) _ _ kinds h4 (λ to h5.
@@ -182,7 +186,7 @@ write-fits notes me own known tables call kinds theirs may ht h =
     rw (sym is) (
       (λ n. (
         refl,
-        known-cases me own.own known call.rank call.rseg far hfar (λ same at. (extent-at own.own call.rseg far at).0) (λ table at inside. (extent-at table call.rseg far inside).0),
+        known-cases me (table_with own known) call.rank call.rseg far hfar (λ same at. (extent-at own.own call.rseg far at).0) (λ table at inside. (extent-at table call.rseg far inside).0),
         known-made me own known tables call.rank call.rseg far theirs may hfar ht,
         known-lies me own known tables call.rank call.rseg call.roffset call.size far theirs may hfar to ht,
         record { extent = mine; there = hmine; generation = refl; within = from },
@@ -192,9 +196,9 @@ write-fits notes me own known tables call kinds theirs may ht h =
 
 notify-fits : (notes me : ℕ) (own : Tables) (known : List (List (Option Extent))) (tables : List Tables) (call : notify.Notify) (kinds : List Kind) (theirs : Tables)
     → MayPost tables me own known → slice_get tables call.rank ≡ Some theirs
-    → notify_kinds notes me own.own known call ≡ Ok kinds → KindsFit notes own theirs kinds
+    → notify_kinds notes me (table_with own known) call ≡ Ok kinds → KindsFit notes own theirs kinds
 notify-fits notes me own known tables call kinds theirs may ht h =
-    found_then (known_extent me own.own known call.rank call.rseg) _ _ kinds h (λ far hfar h1.
+    found_then (known_extent me (table_with own known) call.rank call.rseg) _ _ kinds h (λ far hfar h1.
     check_then (nat_lt call.note notes) _ _ kinds h1 (λ noted h2.
     check_then (not (call.value == 0)) _ _ kinds h2 (λ valued h3.
     let is = same_Ok _ _ h3 in
@@ -202,10 +206,10 @@ notify-fits notes me own known tables call kinds theirs may ht h =
 
 write_notify-fits : (notes me : ℕ) (own : Tables) (known : List (List (Option Extent))) (tables : List Tables) (call : write_notify.WriteNotify) (kinds : List Kind) (theirs : Tables)
     → MayPost tables me own known → slice_get tables call.rank ≡ Some theirs
-    → write_notify_kinds notes me own.own known call ≡ Ok kinds → KindsFit notes own theirs kinds
+    → write_notify_kinds notes me (table_with own known) call ≡ Ok kinds → KindsFit notes own theirs kinds
 write_notify-fits notes me own known tables call kinds theirs may ht h =
     found_then (extent_in own.own call.seg) _ _ kinds h (λ mine hmine h1.
-    found_then (known_extent me own.own known call.rank call.rseg) _ _ kinds h1 (λ far hfar h2.
+    found_then (known_extent me (table_with own known) call.rank call.rseg) _ _ kinds h1 (λ far hfar h2.
     check_then (is_transfer_size call.size) _ _ kinds h2 (λ sized h3.
     check_then (is_within call.offset call.size mine.size) _ _ kinds h3 (λ from h4.
     check_then (is_within call.roffset call.size far.size) _ _ kinds h4 (λ to h5.
@@ -215,7 +219,7 @@ write_notify-fits notes me own known tables call kinds theirs may ht h =
     rw (sym is) (
       (λ n. (
         refl,
-        known-cases me own.own known call.rank call.rseg far hfar (λ same at. (extent-at own.own call.rseg far at).0) (λ table at inside. (extent-at table call.rseg far inside).0),
+        known-cases me (table_with own known) call.rank call.rseg far hfar (λ same at. (extent-at own.own call.rseg far at).0) (λ table at inside. (extent-at table call.rseg far inside).0),
         known-made me own known tables call.rank call.rseg far theirs may hfar ht,
         known-lies me own known tables call.rank call.rseg call.roffset call.size far theirs may hfar to ht,
         record { extent = mine; there = hmine; generation = refl; within = from },
@@ -224,23 +228,23 @@ write_notify-fits notes me own known tables call kinds theirs may ht h =
     ))))))))
 
 -- so do those that a call asks for
-pub asks-fit : (limits : Limits) (me : ℕ) (posts : Posts) (tables : List Tables) (own : Tables) (call : Call) (to : Posting) (kinds : List Kind) (theirs : Tables) → own.own ≡ posts.own
-    → MayPost tables me own posts.known → (row_of call).posting ≡ Some to → slice_get tables to.rank ≡ Some theirs → call_asks limits me posts call ≡ Ok kinds → KindsFit limits.notes own theirs kinds
+pub asks-fit : (limits : Limits) (me : ℕ) (posts : Posts) (tables : List Tables) (own : Tables) (call : Call) (to : Posting) (kinds : List Kind) (theirs : Tables) → own.own ≡ posts.segments.own
+    → MayPost tables me own posts.segments.known → (row_of call).posting ≡ Some to → slice_get tables to.rank ≡ Some theirs → call_asks limits me posts call ≡ Ok kinds → KindsFit limits.notes own theirs kinds
 asks-fit limits me posts tables own (Write call) to kinds theirs same may is ht h =
     let here : slice_get tables call.rank ≡ Some theirs = at-rank (record { entries = 1; rank = call.rank; queue = call.queue }) is in
-    write-fits limits.notes me own posts.known tables call kinds theirs may here (rw same h)
+    write-fits limits.notes me own posts.segments.known tables call kinds theirs may here (subst (λ (o : List (Option Extent)). write_kinds me (record { own = o; next_generations = own.next; known = posts.segments.known }) call ≡ Ok kinds) (sym same) h)
   where
     at-rank : (p : Posting) → ◌≡◌ {A = Option Posting} (Some p) (Some to) → slice_get tables p.rank ≡ Some theirs
     at-rank p some = let one : p ≡ to = cc in rw one ht
 asks-fit limits me posts tables own (Notify call) to kinds theirs same may is ht h =
     let here : slice_get tables call.rank ≡ Some theirs = at-rank (record { entries = 1; rank = call.rank; queue = call.queue }) is in
-    notify-fits limits.notes me own posts.known tables call kinds theirs may here (rw same h)
+    notify-fits limits.notes me own posts.segments.known tables call kinds theirs may here (subst (λ (o : List (Option Extent)). notify_kinds limits.notes me (record { own = o; next_generations = own.next; known = posts.segments.known }) call ≡ Ok kinds) (sym same) h)
   where
     at-rank : (p : Posting) → ◌≡◌ {A = Option Posting} (Some p) (Some to) → slice_get tables p.rank ≡ Some theirs
     at-rank p some = let one : p ≡ to = cc in rw one ht
 asks-fit limits me posts tables own (WriteNotify call) to kinds theirs same may is ht h =
     let here : slice_get tables call.rank ≡ Some theirs = at-rank (record { entries = 2; rank = call.rank; queue = call.queue }) is in
-    write_notify-fits limits.notes me own posts.known tables call kinds theirs may here (rw same h)
+    write_notify-fits limits.notes me own posts.segments.known tables call kinds theirs may here (subst (λ (o : List (Option Extent)). write_notify_kinds limits.notes me (record { own = o; next_generations = own.next; known = posts.segments.known }) call ≡ Ok kinds) (sym same) h)
   where
     at-rank : (p : Posting) → ◌≡◌ {A = Option Posting} (Some p) (Some to) → slice_get tables p.rank ≡ Some theirs
     at-rank p some = let one : p ≡ to = cc in rw one ht
@@ -273,37 +277,13 @@ fits-post notes tables me posts queue rank own (Ok kinds) hm fit all = with-queu
 
 -- A write that takes its bytes takes as many as its range has.
 
--- the segment behind an entry of the table of own segments
-pub segment-behind : (memory : Memory) (segment : ℕ) (x : Extent) → extent_in (extents_of memory) segment ≡ Some x → (s : Segment) × (segment_at memory segment ≡ Some s) × (extent_of s ≡ x)
-segment-behind memory segment x h = by-item (slice_get memory.segments segment) refl (sym (slice_get-map (option_map extent_of) memory.segments segment) ∙ (extent-at (extents_of memory) segment x h).1)
-  where
-    by-item : (o : Option (Option Segment)) → slice_get memory.segments segment ≡ o → option_map (option_map extent_of) (slice_get memory.segments segment) ≡ Some (Some x)
-        → (s : Segment) × (segment_at memory segment ≡ Some s) × (extent_of s ≡ x)
-    by-item None at is = absurd (let none : ◌≡◌ {A = Option (Option Extent)} None (Some (Some x)) = rw at at is in let no : ⊥ = cc in no)
-    by-item (Some None) at is = absurd (let none : ◌≡◌ {A = Option (Option Extent)} (Some None) (Some (Some x)) = rw at at is in let no : ⊥ = cc in no)
-    by-item (Some (Some s)) at is =
-        let some : ◌≡◌ {A = Option (Option Extent)} (Some (Some (extent_of s))) (Some (Some x)) = rw at at is in
-        (s, rw at refl, (let same : extent_of s ≡ x = cc in same))
-
--- and the table's entry of a segment that is there
-pub extent-there : (memory : Memory) (segment : ℕ) (s : Segment) → nat_lt segment 32 ≡ true → segment_at memory segment ≡ Some s → extent_in (extents_of memory) segment ≡ Some (extent_of s)
-extent-there memory segment s less h = by-item (slice_get memory.segments segment) refl
-  where
-    by-item : (o : Option (Option Segment)) → slice_get memory.segments segment ≡ o → extent_in (extents_of memory) segment ≡ Some (extent_of s)
-    by-item None at = absurd (let none : ◌≡◌ {A = Option Segment} None (Some s) = rw at at h in let no : ⊥ = cc in no)
-    by-item (Some None) at = absurd (let none : ◌≡◌ {A = Option Segment} None (Some s) = rw at at h in let no : ⊥ = cc in no)
-    by-item (Some (Some x)) at =
-        let some : ◌≡◌ {A = Option Segment} (Some x) (Some s) = rw at at h in
-        let same : x ≡ s = cc in
-        rw (less, slice_get-map (option_map extent_of) memory.segments segment, at) (ap (λ (y : Segment). Some (extent_of y)) same)
-
-pub taken-source : (memory : Memory) (e : Entry) (own target : ByteRange) → is_posted e ≡ true → e.kind ≡ kinds_of.Write own target → HasSource (extents_of memory) own e.phase
-    → HasSource (extents_of memory) own (phases.Carried (taken_bytes memory e.kind))
+pub taken-source : (memory : Memory) (e : Entry) (own target : ByteRange) → is_posted e ≡ true → e.kind ≡ kinds_of.Write own target → HasSource (extents_of memory.segments) own e.phase
+    → HasSource (extents_of memory.segments) own (phases.Carried (taken_bytes memory e.kind))
 taken-source memory e own target posted is source = by-phase e.phase posted source
   where
-    by-phase : (phase : Phase) → is_posted_phase phase ≡ true → HasSource (extents_of memory) own phase → length (taken_bytes memory e.kind) ≡ own.size
+    by-phase : (phase : Phase) → is_posted_phase phase ≡ true → HasSource (extents_of memory.segments) own phase → length (taken_bytes memory e.kind) ≡ own.size
     by-phase phases.Posted h lies =
-        let behind = segment-behind memory own.segment lies.extent lies.there in
+        let behind = segment-behind memory.segments own.segment lies.extent lies.there in
         let size : lies.extent.size ≡ length behind.0.bytes = ap (λ (x : Extent). x.size) (sym behind.2) in
         let bytes : bytes_of memory own.segment ≡ behind.0.bytes = ap bytes_in behind.1 in
         let within = leb-true (own.offset + own.size) lies.extent.size lies.within in

@@ -1,5 +1,4 @@
 pub mod Chains
-pub mod Tables
 pub mod Told
 pub mod Made
 pub mod Same

@@ -13,7 +13,7 @@ use Rattle.gaspi_model.specs.declared.states.Shard.{Shard}
 use Rattle.gaspi_model.specs.declared.states.Shard.TheVariants as shards
 use Rattle.gaspi_model.specs.declared.states.Why.{Why}
 use Rattle.gaspi_model.proofs.Chains.{bind_then, found_then, same_Ok}
-use Rattle.gaspi_model.proofs.Tables.{slice_get-set_same, slice_get-set_other}
+use Rattle.gaspi_types.proofs.Items.{slice_get-set_same, slice_get-set_other}
 
 -- a shard that is none of two tests
 neither : (a b : Bool) → (a || b) ≡ false → (a ≡ false) × (b ≡ false)

@@ -9,10 +9,10 @@ use Rattle.gaspi_types.specs.declared.events.Transfer.{Transfer}
 use Rattle.gaspi_types.specs.declared.shapes.Limits.{Limits}
 use Rattle.gaspi_model.specs.Transfers.{transfer_of, lane_transfers, queue_transfers, rank_transfers, transfers, is_earlier}
 use Rattle.gaspi_model.specs.Sound.{IsSound, IsSoundPosts, AreRising, AreAbove}
-use Rattle.gaspi_model.specs.declared.states.Queue.{Queue}
+use Rattle.gaspi_types.specs.declared.entries.Queue.{Queue}
 use Rattle.gaspi_model.specs.declared.states.Posts.{Posts}
 use Rattle.gaspi_model.specs.declared.states.State.{State}
-use Rattle.gaspi_model.proofs.Tables.{flat_map-parts, enumerate-at}
+use Rattle.gaspi_types.proofs.Items.{flat_map-parts, enumerate-at}
 
 -- what comes earlier in a list comes before what comes later
 abbrev IsOrdered : (T : Type 0) → (T → T → Bool) → List T → Type 0

@@ -15,7 +15,7 @@ use Rattle.gaspi_model.specs.declared.states.State.{State}
 use Rattle.gaspi_model.proofs.Chains.{both}
 use Rattle.gaspi_model.proofs.Made.{IsFound, step-take, step-put}
 use Rattle.gaspi_model.proofs.NotificationOrder.{found-number}
-use Rattle.gaspi_model.proofs.Tables.{front-of-joined, behind-of-joined}
+use Rattle.gaspi_types.proofs.Items.{front-of-joined, behind-of-joined}
 use Rattle.std.proofs.lemmas.Option.{slice_get_within}
 
 -- an item of a part is one of the whole

@@ -24,9 +24,9 @@ use Rattle.gaspi_types.specs.declared.events.Outcome.{Outcome}
 use Rattle.gaspi_types.specs.declared.events.Outcome.TheVariants.{Applied}
 use Rattle.gaspi_types.specs.declared.events.Event.TheVariants.{Called, Take, Put}
 use Rattle.gaspi_model.specs.State.{owed, thread_at}
-use Rattle.gaspi_model.specs.Posting.{changed_at, counted}
-use Rattle.gaspi_model.specs.Calls.{answer, recorded_reply, charge, posts_after, memory_after}
-use Rattle.gaspi_model.specs.Calls.{peer_after}
+use Rattle.gaspi_model.specs.Posting.{counted}
+use Rattle.gaspi_types.specs.Tables.{changed_at}
+use Rattle.gaspi_model.specs.Calls.{answer, recorded_reply, charge, posts_after, memory_after, peer_after}
 use Rattle.gaspi_model.specs.Transfers.{Found, find_entry, with_lane, with_phase, take, put, put_with, taken_bytes, put_outcome, same_outcome, entry_in, Worked}
 use Rattle.gaspi_model.specs.Step.{step, called, is_there, on_parts, entry_touch}
 use Rattle.gaspi_model.specs.Parts.{memory_or_none, no_memory, part_at, with_part, parts_of, with_parts, touched_of, worked_memory, with_worked_memory}
@@ -35,7 +35,7 @@ use Rattle.gaspi_model.specs.declared.states.Memory.{Memory}
 use Rattle.gaspi_model.specs.declared.states.State.{State}
 use Rattle.gaspi_model.specs.declared.states.Why.{Why}
 use Rattle.gaspi_model.specs.declared.states.Why.TheVariants as whys
-use Rattle.gaspi_model.proofs.Tables.{set-there, slice_get-set_other}
+use Rattle.gaspi_types.proofs.Items.{set-there, slice_get-set_other}
 use Rattle.gaspi_model.proofs.Told.{told, told_at, changed_peer, peer-touched}
 use Rattle.gaspi_model.proofs.Chains.{bind_then, check_then, found_then, same_Ok}
 
@@ -261,7 +261,7 @@ step-take s t origin queue target number outcome h =
     found_then (slice_get s.posts origin) whys.Take _ t h (λ posts hp h1.
     bind_then (on_parts s.limits (reach posts) (Take origin queue target number outcome) (parts_of s posts (touched_of origin (reach posts)))) _ t h1 (λ parts hl h2.
     bind_then (take s.limits posts (worked_memory (reach posts) (parts_of s posts (touched_of origin (reach posts)))) queue target number outcome) _ parts hl (λ after ha h3.
-    let taken = take-ok s.limits posts _ queue target number outcome after ha in
+    let taken = take-ok s.limits posts (worked_memory (reach posts) (parts_of s posts (touched_of origin (reach posts)))) queue target number outcome after ha in
     let found = entry-found posts queue target number taken.0 taken.1.is in
     let state : t ≡ with_parts s origin (touched_of origin (reach posts)) parts = sym (same_Ok _ _ h2) in (
       posts,

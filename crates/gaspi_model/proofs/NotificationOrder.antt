@@ -19,7 +19,9 @@ use Rattle.gaspi_types.specs.declared.replies.Refusal.{Refusal}
 use Rattle.gaspi_types.specs.declared.events.Outcome.TheVariants.{Applied, Failed}
 use Rattle.gaspi_types.specs.declared.events.Event.{Event}
 use Rattle.gaspi_types.specs.declared.events.Event.TheVariants.{Called, Take, Put}
-use Rattle.gaspi_model.specs.Posting.{changed_at, with_entries, with_post, counted}
+use Rattle.gaspi_model.specs.Posting.{with_post, counted}
+use Rattle.gaspi_types.specs.Tables.{changed_at}
+use Rattle.gaspi_types.specs.Queues.{with_entries}
 use Rattle.gaspi_model.specs.Calls.{posts_done, plain_done, call_asks}
 use Rattle.gaspi_model.specs.Transfers.{Found, find_entry, with_phase, taken_bytes}
 use Rattle.gaspi_model.specs.State.{opening}
@@ -27,7 +29,7 @@ use Rattle.gaspi_model.specs.Step.{step, after, reached, is_legal}
 use Rattle.gaspi_model.specs.Order.{IsWriteStanding, IsNotificationStanding}
 use Rattle.gaspi_types.specs.World.{World}
 use Rattle.gaspi_model.specs.Shards.{standing}
-use Rattle.gaspi_model.specs.declared.states.Queue.{Queue}
+use Rattle.gaspi_types.specs.declared.entries.Queue.{Queue}
 use Rattle.gaspi_model.specs.declared.states.Posts.{Posts}
 use Rattle.gaspi_model.specs.declared.states.Memory.{Memory}
 use Rattle.gaspi_model.specs.declared.states.State.{State}
@@ -35,7 +37,7 @@ use Rattle.gaspi_model.specs.declared.states.Why.{Why}
 use Rattle.gaspi_model.specs.declared.states.Why.TheVariants as whys
 use Rattle.gaspi_model.proofs.Chains.{both}
 use Rattle.gaspi_model.proofs.Made.{IsFound, find_entry-ok, found-again, step-called, step-take, step-put}
-use Rattle.gaspi_model.proofs.Tables.{slice_get-set_same, slice_get-set_other, same-or-not}
+use Rattle.gaspi_types.proofs.Items.{slice_get-set_same, slice_get-set_other, same-or-not}
 use Rattle.gaspi_model.proofs.Told.{IsTold, told, told-get}
 use Rattle.gaspi_model.proofs.Histories.{after-first, after-both, leads}
 
@@ -219,7 +221,7 @@ told-stands t ranks me p call reply all origin queue target m is h = go (told-ge
     go (inl same) = record { posts = h.posts; posts_there = rw is (same ∙ h.posts_there); in_queues = h.in_queues }
     go (inr (x, known, before, now)) =
         let same : x ≡ h.posts = (let some : ◌≡◌ {A = Option Posts} (Some x) (Some h.posts) = sym before ∙ h.posts_there in cc) in
-        record { posts = record x { known = known }; posts_there = rw is now; in_queues = rw same h.in_queues }
+        record { posts = record x { segments = record x.segments { known = known } }; posts_there = rw is now; in_queues = rw same h.in_queues }
 
 found-replaced : (posts : Posts) (changed replaced number : ℕ) (at : Found) (lane' : List Entry) (change : Queue → Queue) (queue target m : ℕ)
     → IsFound posts changed replaced number at

@@ -1,7 +1,7 @@
 -- What the calls of a rank on its own memory, and a wait, answer and leave.
 use Rattle.std.proofs.Common.{◌≡◌, ℕ, zero, suc, ◌+◌, Bool, true, false, nat_lt, List, [], ◌∷◌, replicate, Option, None, Some, Ok, refl, sym, ap, ◌∙◌, subst, arith, if◌then◌else◌}
 use Rattle.std.specs.List.{slice_get, slice_set, slice_index, list_any}
-use Rattle.std.specs.Option.{option_map}
+use Rattle.std.specs.Option.{option_map, unwrap_or}
 use Rattle.std.proofs.lemmas.Bool.{ltb-true}
 use Rattle.gaspi_types.specs.CallRows.{row_of}
 use Rattle.gaspi_types.specs.Lanes.{has_posted}
@@ -18,7 +18,7 @@ use Rattle.gaspi_types.specs.declared.calls.memory.Load as load
 use Rattle.gaspi_types.specs.declared.calls.queues.Wait as wait
 use Rattle.gaspi_types.specs.declared.calls.notifications.Waitsome as waitsome
 use Rattle.gaspi_types.specs.declared.calls.notifications.Reset as reset
-use Rattle.gaspi_types.specs.declared.entries.Extent.{Extent}
+use Rattle.gaspi_types.specs.declared.segments.Extent.{Extent}
 use Rattle.gaspi_types.specs.declared.events.Event.TheVariants.{Called}
 use Rattle.gaspi_types.specs.declared.replies.Reply.{Reply}
 use Rattle.gaspi_types.specs.declared.replies.Reply.TheVariants as replies
@@ -27,29 +27,30 @@ use Rattle.gaspi_types.specs.declared.shapes.Limits.{Limits}
 use Rattle.gaspi_types.specs.declared.touches.Touch.{Touch}
 use Rattle.gaspi_types.specs.declared.touches.Touch.TheVariants as touches
 use Rattle.gaspi_model.specs.State.{segment_at}
-use Rattle.gaspi_model.specs.Memories.{bytes_of, bytes_in, slots_of, slots_in, with_slots}
+use Rattle.gaspi_model.specs.Memories.{bytes_of, slots_of, with_slots}
+use Rattle.gaspi_types.specs.Segments.{bytes_in, extent_of}
 use Rattle.gaspi_model.specs.Posting.{counted}
 use Rattle.gaspi_model.specs.Calls.{call_finds, posts_after, memory_after}
 use Rattle.gaspi_model.specs.MemoryCalls.{load_finds}
 use Rattle.gaspi_model.specs.NotificationCalls.{waitsome_finds, reset_finds}
 use Rattle.gaspi_model.specs.QueueCalls.{wait_finds}
-use Rattle.gaspi_model.specs.SegmentCalls.{alloc_finds, delete_finds, user_of}
-use Rattle.gaspi_model.specs.Coherence.{extent_of}
+use Rattle.gaspi_model.specs.SegmentCalls.{alloc_finds, delete_finds}
+use Rattle.gaspi_types.specs.Queues.{user_of}
 use Rattle.gaspi_model.specs.Step.{step}
 use Rattle.gaspi_model.specs.Sound.{IsSound}
-use Rattle.gaspi_model.specs.Changes.{IsOnlyCounted, IsRead, IsReset, IsSlotSet, IsWaited, IsMade, IsGone}
+use Rattle.gaspi_model.specs.Changes.{IsOnlyCounted, IsRead, IsReset, IsWaited, IsMade, IsGone, AreSlotsRead}
 use Rattle.gaspi_model.specs.declared.states.Posts.{Posts}
-use Rattle.gaspi_model.specs.declared.states.Queue.{Queue}
-use Rattle.gaspi_model.specs.declared.states.Segment.{Segment}
+use Rattle.gaspi_types.specs.declared.entries.Queue.{Queue}
+use Rattle.gaspi_types.specs.declared.segments.Segment.{Segment}
 use Rattle.gaspi_model.specs.declared.states.Memory.{Memory}
 use Rattle.gaspi_model.specs.declared.states.State.{State}
 use Rattle.gaspi_model.specs.Transfers.{Worked}
 use Rattle.gaspi_model.proofs.Chains.{bind_then, check_then, found_then, absent_then, same_Ok}
-use Rattle.gaspi_model.proofs.FittingEntries.{segment-behind, extent-there}
+use Rattle.gaspi_types.proofs.Written.{segment-behind, extent-there, slot-written}
 use Rattle.gaspi_model.proofs.FoundReplies.{found-reply}
-use Rattle.gaspi_model.proofs.PutDone.{changed-there, changed-elsewhere, slot-set, slots-there}
+use Rattle.gaspi_model.proofs.PutDone.{slots-there}
 use Rattle.gaspi_model.proofs.Same.{same_reply-same}
-use Rattle.gaspi_model.proofs.Tables.{set-there, there-within, changed_at-found}
+use Rattle.gaspi_types.proofs.Items.{set-there, there-within, changed_at-found}
 use Rattle.gaspi_model.proofs.Told.{told, told_at}
 use Rattle.gaspi_model.proofs.Worked.{memory_place, memory_rank, sound-called}
 
@@ -95,9 +96,9 @@ only-read s t me posts memory hp hm leaves = record {
 
 -- an own segment is there
 own-there : (s : State) (me : ℕ) (posts : Posts) (memory : Memory) (seg : ℕ) (mine : Extent) → IsSound s → slice_get s.posts me ≡ Some posts → slice_get s.memories me ≡ Some memory
-    → extent_in posts.own seg ≡ Some mine → (x : Segment) × (segment_at memory seg ≡ Some x) × (extent_of x ≡ mine)
+    → extent_in posts.segments.own seg ≡ Some mine → (x : Segment) × (segment_at memory seg ≡ Some x) × (extent_of x ≡ mine)
 own-there s me posts memory seg mine sound hp hm there =
-    segment-behind memory seg mine (subst (λ (own : List (Option Extent)). extent_in own seg ≡ Some mine) (sound.coherent.own me posts memory hp hm) there)
+    segment-behind memory.segments seg mine (subst (λ (own : List (Option Extent)). extent_in own seg ≡ Some mine) (sound.coherent.own me posts memory hp hm) there)
 
 same-bytes : (a b : List ℕ) → ◌≡◌ {A = Option Reply} (Some (replies.Bytes a)) (Some (replies.Bytes b)) → b ≡ a
 same-bytes a b h = cc
@@ -106,10 +107,10 @@ same-value : (a b : ℕ) → ◌≡◌ {A = Option Reply} (Some (replies.Value a
 same-value a b h = cc
 
 load-found : (posts : Posts) (memory : Memory) (call : load.Load) (bytes : List ℕ) → load_finds posts memory call ≡ Ok (Some (replies.Bytes bytes))
-    → (mine : Extent) × (extent_in posts.own call.seg ≡ Some mine) × (bytes ≡ range_of (bytes_of memory call.seg) call.offset call.size)
+    → (mine : Extent) × (extent_in posts.segments.own call.seg ≡ Some mine) × (bytes ≡ range_of (bytes_of memory call.seg) call.offset call.size)
 load-found posts memory call bytes h =
-    bind_then (own_range_checks posts.own call.seg call.offset call.size) _ (Some (replies.Bytes bytes)) h (λ fits hc h1.
-    found_then (extent_in posts.own call.seg) _ _ fits hc (λ mine hm h2. (mine, hm, same-bytes _ bytes (same_Ok _ _ h1))))
+    bind_then (own_range_checks posts.segments.own call.seg call.offset call.size) _ (Some (replies.Bytes bytes)) h (λ fits hc h1.
+    found_then (extent_in posts.segments.own call.seg) _ _ fits hc (λ mine hm h2. (mine, hm, same-bytes _ bytes (same_Ok _ _ h1))))
 
 pub load-read : (s t : State) (c : CallerId) (call : load.Load) (bytes : List ℕ) → IsSound s → step s (Called c (calls.Load call) (replies.Bytes bytes)) ≡ Ok t
     → IsRead s t c.rank call.seg (λ x. bytes ≡ range_of x.bytes call.offset call.size)
@@ -133,39 +134,40 @@ some-id None n h = absurd (let no : ⊥ = cc in no)
 some-id (Some k) n h = (let is : k ≡ n = cc in ap (λ (x : ℕ). Some x) is)
 
 waitsome-found : (limits : Limits) (posts : Posts) (memory : Memory) (call : waitsome.Waitsome) (n : ℕ) → waitsome_finds limits posts memory call ≡ Ok (Some (replies.Id n))
-    → (mine : Extent) × (extent_in posts.own call.seg ≡ Some mine) × (first_set (slots_of memory call.seg) call.begin call.num ≡ Some n)
+    → (mine : Extent) × (extent_in posts.segments.own call.seg ≡ Some mine) × (first_set (slots_of memory call.seg) call.begin call.num ≡ Some n)
 waitsome-found limits posts memory call n h =
-    found_then (extent_in posts.own call.seg) _ _ (Some (replies.Id n)) h (λ mine hm h1.
+    found_then (extent_in posts.segments.own call.seg) _ _ (Some (replies.Id n)) h (λ mine hm h1.
     check_then (is_slot_range call.begin call.num limits.notes) _ _ (Some (replies.Id n)) h1 (λ noted h2.
     (mine, hm, some-id (first_set (slots_of memory call.seg) call.begin call.num) n (same_Ok _ _ h2))))
 
 pub slot-read : (s t : State) (c : CallerId) (call : waitsome.Waitsome) (n : ℕ) → IsSound s → step s (Called c (calls.Waitsome call) (replies.Id n)) ≡ Ok t
-    → IsRead s t c.rank call.seg (λ x. first_set x.slots call.begin call.num ≡ Some n)
+    → AreSlotsRead s t c.rank call.seg (λ slots. first_set slots call.begin call.num ≡ Some n)
 slot-read s t c call n sound h =
     let made = own-worked s t c (calls.Waitsome call) (replies.Id n) refl refl sound h in
     let m = made.2 in
     let found = waitsome-found s.limits made.0 made.1 call n m.finds in
-    let item = own-there s c.rank made.0 made.1 call.seg found.0 sound m.posts_there m.memory_there found.1 in (
+    let item = own-there s c.rank made.0 made.1 call.seg found.0 sound m.posts_there m.memory_there found.1 in
+    let slots = slots-there made.1 call.seg s.limits.notes item.0 (sound.coherent.slots c.rank made.1 m.memory_there) item.1 in (
       record {
         memory = made.1;
         memory_there = m.memory_there;
-        item = item.0;
-        item_there = item.1;
-        answers = ap (λ (slots : List ℕ). first_set slots call.begin call.num) (sym (ap slots_in item.1)) ∙ found.2;
+        slots = slots.0;
+        slots_there = slots.1;
+        answers = ap (λ (o : Option (List ℕ)). first_set (unwrap_or o []) call.begin call.num) (sym slots.1) ∙ found.2;
       },
       only-read s t c.rank made.0 made.1 m.posts_there m.memory_there m.leaves,
     )
 
 record IsSlotFound (limits : Limits) (posts : Posts) (memory : Memory) (call : reset.Reset) (value : ℕ) : Type 0 where
   mine : Extent
-  there : extent_in posts.own call.seg ≡ Some mine
+  there : extent_in posts.segments.own call.seg ≡ Some mine
   noted : nat_lt call.note limits.notes ≡ true
   value_is : slice_index (slots_of memory call.seg) call.note ≡ value
 
 reset-found : (limits : Limits) (posts : Posts) (memory : Memory) (call : reset.Reset) (value : ℕ) → reset_finds limits posts memory call ≡ Ok (Some (replies.Value value))
     → IsSlotFound limits posts memory call value
 reset-found limits posts memory call value h =
-    found_then (extent_in posts.own call.seg) _ _ (Some (replies.Value value)) h (λ mine hm h1.
+    found_then (extent_in posts.segments.own call.seg) _ _ (Some (replies.Value value)) h (λ mine hm h1.
     check_then (nat_lt call.note limits.notes) _ _ (Some (replies.Value value)) h1 (λ noted h2.
     record { mine = mine; there = hm; noted = noted; value_is = same-value _ value (same_Ok _ _ h2) }))
 
@@ -181,11 +183,10 @@ slot-reset s t c call value sound h =
     let m = made.2 in
     let found = reset-found s.limits made.0 made.1 call value m.finds in
     let item = own-there s c.rank made.0 made.1 call.seg found.mine sound m.posts_there m.memory_there found.there in
-    let slots : slots_of made.1 call.seg ≡ item.0.slots = ap slots_in item.1 in
-    let many = slots-there made.1 call.seg s.limits.notes item.0 (sound.coherent.slots c.rank made.1 m.memory_there) item.1 in
+    let slots = slots-there made.1 call.seg s.limits.notes item.0 (sound.coherent.slots c.rank made.1 m.memory_there) item.1 in
+    let are : slots_of made.1 call.seg ≡ slots.0 = ap (λ (o : Option (List ℕ)). unwrap_or o []) slots.1 in
     let within = ltb-true call.note s.limits.notes found.noted in
-    let at = there-within item.0.slots call.note (omega arith) in
-    let change = λ (x : Segment). record x { slots = slice_set (slots_of made.1 call.seg) call.note 0 } in
+    let at = there-within slots.0 call.note (let many = slots.2 in omega arith) in
     record {
       posts = made.0;
       posts_there = m.posts_there;
@@ -193,15 +194,11 @@ slot-reset s t c call value sound h =
       new = with_slots made.1 call.seg (slice_set (slots_of made.1 call.seg) call.note 0);
       old_there = m.memory_there;
       after = m.leaves;
-      old_segment = item.0;
-      new_segment = change item.0;
-      old_segment_there = item.1;
-      new_segment_there = changed-there made.1 call.seg item.0 change item.1;
-      segments = λ k apart. changed-elsewhere made.1 call.seg (option_map change (segment_at made.1 call.seg)) k apart;
-      generation = refl;
-      bytes = refl;
-      answered = at.1 ∙ ap (λ (x : ℕ). Some x) (sym (index-there item.0.slots call.note at.0 at.1) ∙ ap (λ (x : List ℕ). slice_index x call.note) (sym slots) ∙ found.value_is);
-      slots = subst (λ (x : List ℕ). IsSlotSet item.0.slots (slice_set x call.note 0) call.note 0) (sym slots) (slot-set item.0.slots call.note 0 (omega arith));
+      segments = refl;
+      answered = ap (λ (o : Option (List ℕ)). slice_get (unwrap_or o []) call.note) slots.1
+          ∙ at.1
+          ∙ ap (λ (x : ℕ). Some x) (sym (index-there slots.0 call.note at.0 at.1) ∙ ap (λ (x : List ℕ). slice_index x call.note) (sym are) ∙ found.value_is);
+      slots = slot-written made.1.slots call.seg call.note 0 slots.0 slots.1 (let many = slots.2 in omega arith);
     }
 
 record IsWaitFound (posts : Posts) (call : wait.Wait) : Type 0 where
@@ -243,11 +240,11 @@ waited s t c call sound h =
           ∙ ap (λ (p : Posts). record s { posts = slice_set s.posts c.rank p }) after;
     }
 
-alloc-found : (posts : Posts) (call : alloc.Alloc) → alloc_finds posts call ≡ Ok (Some replies.Done) → (nat_lt call.seg 32 ≡ true) × (extent_in posts.own call.seg ≡ None)
+alloc-found : (posts : Posts) (call : alloc.Alloc) → alloc_finds posts call ≡ Ok (Some replies.Done) → (nat_lt call.seg 32 ≡ true) × (extent_in posts.segments.own call.seg ≡ None)
 alloc-found posts call h =
-    bind_then (alloc_checks posts.own call.seg call.size) _ (Some replies.Done) h (λ fits hc h1.
+    bind_then (alloc_checks posts.segments.own call.seg call.size) _ (Some replies.Done) h (λ fits hc h1.
     check_then (nat_lt call.seg 32) _ _ fits hc (λ numbered h2.
-    absent_then (extent_in posts.own call.seg) _ _ fits h2 (λ free h3. (numbered, free))))
+    absent_then (extent_in posts.segments.own call.seg) _ _ fits h2 (λ free h3. (numbered, free))))
 
 pub segment-made : (s t : State) (c : CallerId) (call : alloc.Alloc) → IsSound s → step s (Called c (calls.Alloc call) replies.Done) ≡ Ok t → IsMade s t c.rank call.seg call.size
 segment-made s t c call sound h =
@@ -255,7 +252,7 @@ segment-made s t c call sound h =
     let m = made.2 in
     let found = alloc-found made.0 call m.finds in
     let less = ltb-true call.seg 32 found.0 in
-    let next = there-within made.0.next_generations call.seg (let many = (sound.posts c.rank made.0 m.posts_there).numbered in omega arith) in
+    let next = there-within made.0.segments.next_generations call.seg (let many = (sound.posts c.rank made.0 m.posts_there).numbered in omega arith) in
     record {
       posts = made.0;
       memory = made.1;
@@ -266,26 +263,29 @@ segment-made s t c call sound h =
       free = free made.0 made.1 m.posts_there m.memory_there found.0 found.1 (segment_at made.1 call.seg) refl;
       after = m.leaves ∙ ap (λ (n : ℕ). record s {
         posts = slice_set s.posts c.rank (record (counted made.0) {
-          own = slice_set made.0.own call.seg (Some (record { generation = n; size = call.size }));
-          next_generations = slice_set made.0.next_generations call.seg (n + 1);
+          segments = record made.0.segments {
+            own = slice_set made.0.segments.own call.seg (Some (record { generation = n; size = call.size }));
+            next_generations = slice_set made.0.segments.next_generations call.seg (n + 1);
+          };
         });
         memories = slice_set s.memories c.rank (record {
-          segments = slice_set made.1.segments call.seg (Some (record { generation = n; bytes = replicate call.size 0; slots = replicate s.limits.notes 0 }));
+          segments = slice_set made.1.segments call.seg (Some (record { generation = n; bytes = replicate call.size 0 }));
+          slots = slice_set made.1.slots call.seg (Some (replicate s.limits.notes 0));
         });
-      }) (index-there made.0.next_generations call.seg next.0 next.1);
+      }) (index-there made.0.segments.next_generations call.seg next.0 next.1);
     }
   where
-    free : (posts : Posts) (memory : Memory) → slice_get s.posts c.rank ≡ Some posts → slice_get s.memories c.rank ≡ Some memory → nat_lt call.seg 32 ≡ true → extent_in posts.own call.seg ≡ None
+    free : (posts : Posts) (memory : Memory) → slice_get s.posts c.rank ≡ Some posts → slice_get s.memories c.rank ≡ Some memory → nat_lt call.seg 32 ≡ true → extent_in posts.segments.own call.seg ≡ None
         → (o : Option Segment) → segment_at memory call.seg ≡ o → segment_at memory call.seg ≡ None
     free posts memory hp hm numbered absent None at = at
     free posts memory hp hm numbered absent (Some x) at =
-        let here : extent_in posts.own call.seg ≡ Some (extent_of x) = rw (sound.coherent.own c.rank posts memory hp hm) (extent-there memory call.seg x numbered at) in
+        let here : extent_in posts.segments.own call.seg ≡ Some (extent_of x) = rw (sound.coherent.own c.rank posts memory hp hm) (extent-there memory.segments call.seg x numbered at) in
         absurd (let both : ◌≡◌ {A = Option Extent} None (Some (extent_of x)) = sym absent ∙ here in let no : ⊥ = cc in no)
 
 delete-found : (posts : Posts) (call : delete.Delete) → delete_finds posts call ≡ Ok (Some replies.Done)
-    → (mine : Extent) × (extent_in posts.own call.seg ≡ Some mine) × (user_of posts.queues call.seg ≡ None)
+    → (mine : Extent) × (extent_in posts.segments.own call.seg ≡ Some mine) × (user_of posts.queues call.seg ≡ None)
 delete-found posts call h =
-    found_then (extent_in posts.own call.seg) _ _ (Some replies.Done) h (λ mine there h1.
+    found_then (extent_in posts.segments.own call.seg) _ _ (Some replies.Done) h (λ mine there h1.
     absent_then (user_of posts.queues call.seg) _ _ (Some replies.Done) h1 (λ unused h2. (mine, there, unused)))
 
 pub segment-gone : (s t : State) (c : CallerId) (call : delete.Delete) → IsSound s → step s (Called c (calls.Delete call) replies.Done) ≡ Ok t → IsGone s t c.rank call.seg

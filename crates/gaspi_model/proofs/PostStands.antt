@@ -10,7 +10,7 @@ use Rattle.gaspi_types.specs.World.{World, IsWorld}
 use Rattle.gaspi_types.specs.declared.entries.ByteRange.{ByteRange}
 use Rattle.gaspi_types.specs.declared.entries.NoteSlot.{NoteSlot}
 use Rattle.gaspi_types.specs.declared.entries.Entry.{Entry}
-use Rattle.gaspi_types.specs.declared.entries.Extent.{Extent}
+use Rattle.gaspi_types.specs.declared.segments.SegmentTable.{SegmentTable}
 use Rattle.gaspi_types.specs.declared.entries.Kind.{Kind}
 use Rattle.gaspi_types.specs.declared.entries.Kind.TheVariants.{Write, Notify}
 use Rattle.gaspi_types.specs.declared.entries.Phase.TheVariants as phases
@@ -26,7 +26,8 @@ use Rattle.gaspi_types.specs.declared.replies.Reply.TheVariants as replies
 use Rattle.gaspi_types.specs.declared.events.Event.{Event}
 use Rattle.gaspi_types.specs.declared.events.Event.TheVariants.{Called}
 use Rattle.gaspi_model.specs.State.{opening}
-use Rattle.gaspi_model.specs.Posting.{with_entries, with_post, counted}
+use Rattle.gaspi_model.specs.Posting.{with_post, counted}
+use Rattle.gaspi_types.specs.Queues.{with_entries}
 use Rattle.gaspi_model.specs.PostCalls.{asked_finds}
 use Rattle.gaspi_model.specs.Calls.{call_finds, posts_done}
 use Rattle.gaspi_model.specs.Transfers.{Worked, find_entry}
@@ -34,7 +35,7 @@ use Rattle.gaspi_model.specs.Step.{step, reached, is_legal}
 use Rattle.gaspi_model.specs.Shards.{standing}
 use Rattle.gaspi_model.specs.Sound.{IsSound}
 use Rattle.gaspi_model.specs.Order.{IsWriteStanding, IsNotificationStanding}
-use Rattle.gaspi_model.specs.declared.states.Queue.{Queue}
+use Rattle.gaspi_types.specs.declared.entries.Queue.{Queue}
 use Rattle.gaspi_model.specs.declared.states.Posts.{Posts}
 use Rattle.gaspi_model.specs.declared.states.Memory.{Memory}
 use Rattle.gaspi_model.specs.declared.states.State.{State}
@@ -43,7 +44,7 @@ use Rattle.gaspi_model.specs.declared.states.Why.TheVariants as whys
 use Rattle.gaspi_model.proofs.Chains.{check_then, found_then, same_Ok}
 use Rattle.gaspi_model.proofs.Made.{step-called}
 use Rattle.gaspi_model.proofs.Same.{same_reply-same}
-use Rattle.gaspi_model.proofs.Tables.{slice_get-set_same, past-none, behind-of-joined}
+use Rattle.gaspi_types.proofs.Items.{slice_get-set_same, past-none, behind-of-joined}
 use Rattle.gaspi_model.proofs.Rising.{place_of-rising}
 use Rattle.gaspi_model.proofs.Accounts.{post-ok}
 use Rattle.gaspi_model.proofs.FoundReplies.{found-reply}
@@ -58,11 +59,11 @@ record IsOneWrite (kinds : List Kind) : Type 0 where
   target : ByteRange
   is : kinds ≡ Write own target ∷ []
 
-write-is : (me : ℕ) (own : List (Option Extent)) (known : List (List (Option Extent))) (call : write.Write) (kinds : List Kind)
-    → write_kinds me own known call ≡ Ok kinds → IsOneWrite kinds
-write-is me own known call kinds h =
-    found_then (extent_in own call.seg) _ _ kinds h (λ mine hm h1.
-    found_then (known_extent me own known call.rank call.rseg) _ _ kinds h1 (λ theirs ht h2.
+write-is : (me : ℕ) (table : SegmentTable) (call : write.Write) (kinds : List Kind)
+    → write_kinds me table call ≡ Ok kinds → IsOneWrite kinds
+write-is me table call kinds h =
+    found_then (extent_in table.own call.seg) _ _ kinds h (λ mine hm h1.
+    found_then (known_extent me table call.rank call.rseg) _ _ kinds h1 (λ theirs ht h2.
     check_then (is_transfer_size call.size) _ _ kinds h2 (λ sized h3.
     check_then (is_within call.offset call.size mine.size) _ _ kinds h3 (λ from h4.
     check_then (is_within call.roffset call.size theirs.size) _ _ kinds h4 (λ to h5.
@@ -77,10 +78,10 @@ record IsOneNotification (kinds : List Kind) : Type 0 where
   value : ℕ
   is : kinds ≡ Notify slot value ∷ []
 
-notify-is : (notes me : ℕ) (own : List (Option Extent)) (known : List (List (Option Extent))) (call : notify.Notify) (kinds : List Kind)
-    → notify_kinds notes me own known call ≡ Ok kinds → IsOneNotification kinds
-notify-is notes me own known call kinds h =
-    found_then (known_extent me own known call.rank call.rseg) _ _ kinds h (λ theirs ht h1.
+notify-is : (notes me : ℕ) (table : SegmentTable) (call : notify.Notify) (kinds : List Kind)
+    → notify_kinds notes me table call ≡ Ok kinds → IsOneNotification kinds
+notify-is notes me table call kinds h =
+    found_then (known_extent me table call.rank call.rseg) _ _ kinds h (λ theirs ht h1.
     check_then (nat_lt call.note notes) _ _ kinds h1 (λ noted h2.
     check_then (not (call.value == 0)) _ _ kinds h2 (λ valued h3.
     record { slot = record { segment = call.rseg; generation = theirs.generation; note = call.note }; value = call.value; is = sym (same_Ok _ _ h3) })))
@@ -92,11 +93,11 @@ record IsWriteWithNotification (kinds : List Kind) : Type 0 where
   value : ℕ
   is : kinds ≡ Write own target ∷ Notify slot value ∷ []
 
-kinds-are : (notes me : ℕ) (own : List (Option Extent)) (known : List (List (Option Extent))) (call : write_notify.WriteNotify) (kinds : List Kind)
-    → write_notify_kinds notes me own known call ≡ Ok kinds → IsWriteWithNotification kinds
-kinds-are notes me own known call kinds h =
-    found_then (extent_in own call.seg) _ _ kinds h (λ mine hm h1.
-    found_then (known_extent me own known call.rank call.rseg) _ _ kinds h1 (λ theirs ht h2.
+kinds-are : (notes me : ℕ) (table : SegmentTable) (call : write_notify.WriteNotify) (kinds : List Kind)
+    → write_notify_kinds notes me table call ≡ Ok kinds → IsWriteWithNotification kinds
+kinds-are notes me table call kinds h =
+    found_then (extent_in table.own call.seg) _ _ kinds h (λ mine hm h1.
+    found_then (known_extent me table call.rank call.rseg) _ _ kinds h1 (λ theirs ht h2.
     check_then (is_transfer_size call.size) _ _ kinds h2 (λ sized h3.
     check_then (is_within call.offset call.size mine.size) _ _ kinds h3 (λ from h4.
     check_then (is_within call.roffset call.size theirs.size) _ _ kinds h4 (λ to h5.
@@ -198,8 +199,8 @@ pub posted-write : (w : World) (history : List Event) (c : CallerId) (call : wri
     → slice_get s.posts c.rank ≡ Some posts → is_legal w (history ++ Called c (calls.Write call) replies.Done ∷ []) ≡ true
     → IsWriteStanding w (history ++ Called c (calls.Write call) replies.Done ∷ []) c.rank call.queue call.rank posts.next
 posted-write w history c call s posts world h hp legal =
-    let a = after-post w history c (calls.Write call) call.rank call.queue s posts (write_kinds c.rank posts.own posts.known call) world h hp (record { finds = λ memory. refl; leaves = refl }) legal in
-    let k = write-is c.rank posts.own posts.known call a.leaves.kinds a.leaves.asks in
+    let a = after-post w history c (calls.Write call) call.rank call.queue s posts (write_kinds c.rank posts.segments call) world h hp (record { finds = λ memory. refl; leaves = refl }) legal in
+    let k = write-is c.rank posts.segments call a.leaves.kinds a.leaves.asks in
     let posted : Entry = record { number = posts.next; kind = Write k.own k.target; phase = phases.Posted } in
     record { state = a.state; entry = posted; leads = a.leads_to; stands = a.leaves.stand 0 posted (ap (λ (ks : List Kind). slice_get (posted_entries posts.next ks) 0) k.is); writes = refl }
 
@@ -207,8 +208,8 @@ pub posted-notify : (w : World) (history : List Event) (c : CallerId) (call : no
     → slice_get s.posts c.rank ≡ Some posts → is_legal w (history ++ Called c (calls.Notify call) replies.Done ∷ []) ≡ true
     → IsNotificationStanding w (history ++ Called c (calls.Notify call) replies.Done ∷ []) c.rank call.queue call.rank posts.next
 posted-notify w history c call s posts world h hp legal =
-    let a = after-post w history c (calls.Notify call) call.rank call.queue s posts (notify_kinds s.limits.notes c.rank posts.own posts.known call) world h hp (record { finds = λ memory. refl; leaves = refl }) legal in
-    let k = notify-is s.limits.notes c.rank posts.own posts.known call a.leaves.kinds a.leaves.asks in
+    let a = after-post w history c (calls.Notify call) call.rank call.queue s posts (notify_kinds s.limits.notes c.rank posts.segments call) world h hp (record { finds = λ memory. refl; leaves = refl }) legal in
+    let k = notify-is s.limits.notes c.rank posts.segments call a.leaves.kinds a.leaves.asks in
     let notification : Entry = record { number = posts.next; kind = Notify k.slot k.value; phase = phases.Posted } in
     record { state = a.state; entry = notification; leads = a.leads_to; stands = a.leaves.stand 0 notification (ap (λ (ks : List Kind). slice_get (posted_entries posts.next ks) 0) k.is); notifies = refl }
 
@@ -217,9 +218,9 @@ pub posted-write_notify : (w : World) (history : List Event) (c : CallerId) (cal
     → IsWriteStanding w (history ++ Called c (calls.WriteNotify call) replies.Done ∷ []) c.rank call.queue call.rank posts.next
     × IsNotificationStanding w (history ++ Called c (calls.WriteNotify call) replies.Done ∷ []) c.rank call.queue call.rank (posts.next + 1)
 posted-write_notify w history c call s posts world h hp legal =
-    let a = after-post w history c (calls.WriteNotify call) call.rank call.queue s posts (write_notify_kinds s.limits.notes c.rank posts.own posts.known call) world h hp
+    let a = after-post w history c (calls.WriteNotify call) call.rank call.queue s posts (write_notify_kinds s.limits.notes c.rank posts.segments call) world h hp
     (record { finds = λ memory. refl; leaves = refl }) legal in
-    let k = kinds-are s.limits.notes c.rank posts.own posts.known call a.leaves.kinds a.leaves.asks in
+    let k = kinds-are s.limits.notes c.rank posts.segments call a.leaves.kinds a.leaves.asks in
     let posted : Entry = record { number = posts.next; kind = Write k.own k.target; phase = phases.Posted } in
     let notification : Entry = record { number = posts.next + 1; kind = Notify k.slot k.value; phase = phases.Posted } in (
       record { state = a.state; entry = posted; leads = a.leads_to; stands = a.leaves.stand 0 posted (ap (λ (ks : List Kind). slice_get (posted_entries posts.next ks) 0) k.is); writes = refl },

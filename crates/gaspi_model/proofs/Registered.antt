@@ -6,7 +6,7 @@ use Rattle.std.proofs.lemmas.Option.{slice_get_within}
 use Rattle.gaspi_types.specs.SegmentTables.{extent_in}
 use Rattle.gaspi_types.specs.declared.calls.Call.TheVariants.{Register}
 use Rattle.gaspi_types.specs.declared.calls.segments.Register as register
-use Rattle.gaspi_types.specs.declared.entries.Extent.{Extent}
+use Rattle.gaspi_types.specs.declared.segments.Extent.{Extent}
 use Rattle.gaspi_types.specs.declared.events.Event.TheVariants.{Called}
 use Rattle.gaspi_types.specs.declared.replies.Reply.{Reply}
 use Rattle.gaspi_types.specs.declared.replies.Reply.TheVariants as replies
@@ -23,19 +23,19 @@ use Rattle.gaspi_model.specs.declared.states.State.{State}
 use Rattle.gaspi_model.proofs.Chains.{check_then, found_then}
 use Rattle.gaspi_model.proofs.FoundReplies.{found-reply}
 use Rattle.gaspi_model.proofs.Same.{same_reply-same}
-use Rattle.gaspi_model.proofs.Tables.{set-there, there-within, slice_get-set_other}
+use Rattle.gaspi_types.proofs.Items.{set-there, there-within, slice_get-set_other}
 use Rattle.gaspi_model.proofs.Told.{told}
 use Rattle.gaspi_model.proofs.Worked.{memory_rank, sound-called}
 
 record IsKnown (limits : Limits) (posts : Posts) (call : register.Register) : Type 0 where
   ranked : nat_lt call.rank limits.ranks ≡ true
   extent : Extent
-  there : extent_in posts.own call.seg ≡ Some extent
+  there : extent_in posts.segments.own call.seg ≡ Some extent
 
 register-found : (limits : Limits) (posts : Posts) (call : register.Register) (reply : Reply) → register_finds limits posts call ≡ Ok (Some reply) → IsKnown limits posts call
 register-found limits posts call reply h =
     check_then (nat_lt call.rank limits.ranks) _ _ (Some reply) h (λ ranked h1.
-    found_then (extent_in posts.own call.seg) _ _ (Some reply) h1 (λ extent there h2.
+    found_then (extent_in posts.segments.own call.seg) _ _ (Some reply) h1 (λ extent there h2.
     record { ranked = ranked; extent = extent; there = there }))
 
 pub registered : (s t : State) (c : CallerId) (call : register.Register) → IsSound s → step s (Called c (Register call) replies.Done) ≡ Ok t → IsRegistered s t c.rank call.seg call.rank
@@ -65,16 +65,16 @@ registered s t c call sound h =
 
     peer : (posts : Posts) (found : IsKnown s.limits posts call) → t ≡ record s { posts = told s.limits.ranks c.rank posts (Register call) replies.Done (slice_set s.posts c.rank (counted posts)) }
         → c.rank < length s.posts → (call.rank ≡ c.rank → ⊥) → (b : Bool) → (call.rank == c.rank) ≡ b
-        → (p : Posts) × (table : List (Option Extent)) × (slice_get s.posts call.rank ≡ Some p) × (slice_get p.known c.rank ≡ Some table)
+        → (p : Posts) × (table : List (Option Extent)) × (slice_get s.posts call.rank ≡ Some p) × (slice_get p.segments.known c.rank ≡ Some table)
         × (t ≡ record s { posts = slice_set (slice_set s.posts c.rank (counted posts)) call.rank (with_told p c.rank call.seg found.extent table) })
     peer posts found state within apart true is = absurd (apart (eqb-true call.rank c.rank is))
     peer posts found state within apart false is =
         let less = ltb-true call.rank s.limits.ranks found.ranked in
         let theirs = there-within s.posts call.rank (let ranks = sound.ranks in omega arith) in
         let tables = (sound.posts call.rank theirs.0 theirs.1).tables in
-        let known = there-within theirs.0.known c.rank (let many = tables.known in let ranks = sound.ranks in omega arith) in
+        let known = there-within theirs.0.segments.known c.rank (let many = tables.known in let ranks = sound.ranks in omega arith) in
         let elsewhere : slice_get (slice_set s.posts c.rank (counted posts)) call.rank ≡ Some theirs.0 = slice_get-set_other s.posts c.rank call.rank (counted posts) (λ same. apart (sym same)) ∙ theirs.1 in
-        let knows : with_known c.rank call.seg (extent_in posts.own call.seg) theirs.0 ≡ with_told theirs.0 c.rank call.seg found.extent known.0 = rw (found.there, known.1) refl in (
+        let knows : with_known c.rank call.seg (extent_in posts.segments.own call.seg) theirs.0 ≡ with_told theirs.0 c.rank call.seg found.extent known.0 = rw (found.there, known.1) refl in (
           theirs.0,
           known.0,
           theirs.1,

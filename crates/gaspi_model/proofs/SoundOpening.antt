@@ -11,13 +11,14 @@ use Rattle.std.proofs.lemmas.Option.{slice_get-map}
 use Rattle.gaspi_types.specs.World.{World, IsWorld, is_caller}
 use Rattle.gaspi_types.specs.Lanes.{lane_owed}
 use Rattle.gaspi_types.specs.declared.shapes.CallerId.{CallerId}
-use Rattle.gaspi_model.specs.State.{opening, opening_memory, opening_posts, opening_queue, opening_extents, opening_thread, declared_size, generations_used, entries_owed, queue_owed, is_running}
-use Rattle.gaspi_model.proofs.Tables.{slice_get-replicate, map-at}
+use Rattle.gaspi_model.specs.State.{opening, opening_memory, opening_posts, opening_queue, opening_extents, opening_thread, declared_size, generations_used, entries_owed, is_running}
+use Rattle.gaspi_types.specs.Queues.{queue_owed}
+use Rattle.gaspi_types.proofs.Items.{slice_get-replicate, map-at}
 use Rattle.gaspi_model.proofs.CoherentOpening.{opens-coherent}
 use Rattle.gaspi_model.specs.Sound.{lane_failed, IsSoundQueue, IsSoundPosts, IsSound}
 use Rattle.gaspi_types.specs.declared.entries.Entry.{Entry}
-use Rattle.gaspi_types.specs.declared.entries.Extent.{Extent}
-use Rattle.gaspi_model.specs.declared.states.Queue.{Queue}
+use Rattle.gaspi_types.specs.declared.segments.Extent.{Extent}
+use Rattle.gaspi_types.specs.declared.entries.Queue.{Queue}
 use Rattle.gaspi_model.specs.declared.states.ThreadState.TheVariants.{Absent, Running}
 
 option_map-some : {A B : Type 0} (f : A → B) (o : Option A) (y : B) → option_map f o ≡ Some y → (x : A) × (y ≡ f x)

@@ -21,23 +21,25 @@ use Rattle.gaspi_types.specs.declared.events.Event.{Event}
 use Rattle.gaspi_types.specs.declared.events.Event.TheVariants.{Called, Take, Put}
 use Rattle.gaspi_model.specs.State.{owed}
 use Rattle.gaspi_types.specs.SegmentTables.{next_generation, with_generation}
-use Rattle.gaspi_types.specs.declared.entries.Extent.{Extent}
-use Rattle.gaspi_model.specs.Posting.{changed_at, with_entries, with_post, counted}
+use Rattle.gaspi_types.specs.declared.segments.Extent.{Extent}
+use Rattle.gaspi_model.specs.Posting.{with_post, counted}
+use Rattle.gaspi_types.specs.Tables.{changed_at}
+use Rattle.gaspi_types.specs.Queues.{with_entries}
 use Rattle.gaspi_model.specs.Calls.{posts_done, plain_done, call_asks}
 use Rattle.gaspi_model.specs.Transfers.{Found, with_lane, with_phase, put_with, taken_bytes, Worked}
 use Rattle.gaspi_model.specs.Step.{step}
 use Rattle.gaspi_model.specs.Coherence.{IsCoherent}
 use Rattle.gaspi_model.specs.Sound.{failures, HasTables, IsSoundPosts, IsSound, AreRising, events_left}
 use Rattle.gaspi_model.proofs.Rising.{AreRising-more, AreRising-phase, AreRising-remove, AreRising-post}
-use Rattle.gaspi_model.specs.declared.states.Queue.{Queue}
+use Rattle.gaspi_types.specs.declared.entries.Queue.{Queue}
 use Rattle.gaspi_model.specs.declared.states.Posts.{Posts}
 use Rattle.gaspi_model.specs.declared.states.Memory.{Memory}
 use Rattle.gaspi_model.specs.declared.states.State.{State}
-use Rattle.gaspi_model.proofs.Tables.{sum_by-changed, slice_get-set, length-changed_at}
+use Rattle.gaspi_types.proofs.Items.{sum_by-changed, slice_get-set, length-changed_at}
 use Rattle.gaspi_model.proofs.Worked.{memory_rank, sound-called, sound-take, sound-put}
 use Rattle.gaspi_model.proofs.Told.{told, told-length, told-from, told-sum}
 use Rattle.gaspi_model.proofs.TableLengths.{after-tables, take-tables, put-tables, told-tables}
-use Rattle.gaspi_model.proofs.Successors.{generation-within}
+use Rattle.gaspi_types.proofs.Extents.{generation-within}
 use Rattle.gaspi_model.proofs.Same.{same_reply-same}
 use Rattle.gaspi_model.proofs.Made.{IsFound, IsTake, IsPut, IsCalled, step-called, step-take, step-put}
 use Rattle.gaspi_model.proofs.Accounts.{take-owed, put-owed, asks-counted, few-posted}
@@ -125,22 +127,22 @@ lanes-post ranks posts queue target (Ok kinds) all =
 
 -- no number of a segment has had more than so many generations
 abbrev HasFewGenerations : ℕ → Posts → Type 0
-HasFewGenerations bound posts = (segment n : ℕ) → slice_get posts.next_generations segment ≡ Some n → n ≤ bound
+HasFewGenerations bound posts = (segment n : ℕ) → slice_get posts.segments.next_generations segment ≡ Some n → n ≤ bound
 
 generations-more : (posts : Posts) → HasFewGenerations (posts.events + 1) posts → HasFewGenerations (posts.events + 2) posts
 generations-more posts few segment n at = let less = few segment n at in omega arith
 
 -- a new segment takes one generation of its number
 generations-alloc : (posts : Posts) (seg : ℕ) → HasFewGenerations (posts.events + 1) posts
-    → (k n : ℕ) → slice_get (with_generation posts.next_generations seg) k ≡ Some n → n ≤ posts.events + 2
+    → (k n : ℕ) → slice_get (with_generation posts.segments.next_generations seg) k ≡ Some n → n ≤ posts.events + 2
 generations-alloc posts seg few k n at =
-    parts (slice_get-set posts.next_generations seg k (next_generation posts.next_generations seg + 1) n at)
+    parts (slice_get-set posts.segments.next_generations seg k (next_generation posts.segments.next_generations seg + 1) n at)
   where
-    parts : ((k ≡ seg) × (n ≡ next_generation posts.next_generations seg + 1)) ⊎ (slice_get posts.next_generations k ≡ Some n) → n ≤ posts.events + 2
-    parts (inl is) = let here = is.1 in let next = generation-within posts.next_generations (posts.events + 1) seg few in omega arith
+    parts : ((k ≡ seg) × (n ≡ next_generation posts.segments.next_generations seg + 1)) ⊎ (slice_get posts.segments.next_generations k ≡ Some n) → n ≤ posts.events + 2
+    parts (inl is) = let here = is.1 in let next = generation-within posts.segments.next_generations (posts.events + 1) seg few in omega arith
     parts (inr was) = let less = few k n was in omega arith
 
-with_post-generations : (posts : Posts) (queue target : ℕ) (asked : Result (List Kind) Refusal) → (with_post posts queue target asked).next_generations ≡ posts.next_generations
+with_post-generations : (posts : Posts) (queue target : ℕ) (asked : Result (List Kind) Refusal) → (with_post posts queue target asked).segments.next_generations ≡ posts.segments.next_generations
 with_post-generations posts queue target (Ok kinds) = refl
 with_post-generations posts queue target (Err refusal) = refl
 
@@ -149,7 +151,7 @@ record Keeps (ranks : ℕ) (before after : Posts) : Type 0 where
   lanes : HasLanes ranks after
   events : after.events ≡ before.events
   numbers : after.next ≤ before.next + 2
-  numbered : length after.next_generations ≡ length before.next_generations
+  numbered : length after.segments.next_generations ≡ length before.segments.next_generations
   generations : HasFewGenerations (before.events + 2) after
   rising : RiseBelow after.next after.queues
 
@@ -175,7 +177,7 @@ plain-keeps ranks posts thread (Alloc call) all rise few = record {
   lanes = all;
   events = refl;
   numbers = omega arith;
-  numbered = length-set posts.next_generations call.seg (next_generation posts.next_generations call.seg + 1);
+  numbered = length-set posts.segments.next_generations call.seg (next_generation posts.segments.next_generations call.seg + 1);
   generations = generations-alloc posts call.seg few;
   rising = rise;
 }
@@ -336,7 +338,7 @@ told-sound limits ranks me p call reply all sound r x h =
     let tables = told-tables limits ranks me p call reply all (λ k y at. (sound k y at).tables) r x h in
     rw from.3 (known-sound from.0 from.1 (subst (HasTables limits) from.3 tables) (sound r from.0 from.2))
   where
-    known-sound : (before : Posts) (known : List (List (Option Extent))) → HasTables limits (record before { known = known }) → IsSoundPosts limits before → IsSoundPosts limits (record before { known = known })
+    known-sound : (before : Posts) (known : List (List (Option Extent))) → HasTables limits (record before { segments = record before.segments { known = known } }) → IsSoundPosts limits before → IsSoundPosts limits (record before { segments = record before.segments { known = known } })
     known-sound before known tables is = record {
       tables = tables;
       lanes = is.lanes;

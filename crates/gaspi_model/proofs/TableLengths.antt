@@ -10,7 +10,7 @@ use Rattle.gaspi_types.specs.declared.call_rows.Posting.{Posting}
 use Rattle.gaspi_types.specs.declared.calls.Call.{Call}
 use Rattle.gaspi_types.specs.declared.calls.Call.TheVariants.{Alloc, Delete, Wait, End}
 use Rattle.gaspi_types.specs.declared.entries.Entry.{Entry}
-use Rattle.gaspi_types.specs.declared.entries.Extent.{Extent}
+use Rattle.gaspi_types.specs.declared.segments.Extent.{Extent}
 use Rattle.gaspi_types.specs.declared.entries.Kind.{Kind}
 use Rattle.gaspi_types.specs.declared.events.Outcome.{Outcome}
 use Rattle.gaspi_types.specs.declared.events.Outcome.TheVariants.{Applied, Failed}
@@ -21,14 +21,14 @@ use Rattle.gaspi_model.specs.Posting.{with_post, counted}
 use Rattle.gaspi_model.specs.SegmentCalls.{with_known}
 use Rattle.gaspi_model.specs.Calls.{plain_done, posts_done, call_asks}
 use Rattle.gaspi_model.specs.Transfers.{Found, Worked, with_lane}
-use Rattle.gaspi_model.specs.Coherence.{extent_of}
+use Rattle.gaspi_types.specs.Segments.{extent_of, extents_of}
 use Rattle.gaspi_model.specs.Sound.{HasTables, IsSound}
 use Rattle.gaspi_model.specs.declared.states.State.{State}
-use Rattle.gaspi_model.specs.declared.states.Queue.{Queue}
+use Rattle.gaspi_types.specs.declared.entries.Queue.{Queue}
 use Rattle.gaspi_model.specs.declared.states.Posts.{Posts}
 use Rattle.gaspi_model.specs.declared.states.Memory.{Memory}
 use Rattle.gaspi_model.proofs.Made.{IsTake, IsPut}
-use Rattle.gaspi_model.proofs.Tables.{length-changed_at, there-within}
+use Rattle.gaspi_types.proofs.Items.{length-changed_at, there-within}
 use Rattle.gaspi_model.proofs.Told.{changed_at-get, told, told-cases}
 
 -- the same tables with the queues, or with the known segments, replaced
@@ -50,7 +50,7 @@ plain-tables : (limits : Limits) (posts : Posts) (thread : ℕ) (call : Call) �
 plain-tables limits posts thread (Alloc call) has = record {
   queues = has.queues;
   corrupt = has.corrupt;
-  own = length-set posts.own call.seg _ ∙ has.own;
+  own = length-set posts.segments.own call.seg _ ∙ has.own;
   known = has.known;
   known_segments = has.known_segments;
   threads = has.threads;
@@ -58,7 +58,7 @@ plain-tables limits posts thread (Alloc call) has = record {
 plain-tables limits posts thread (Delete call) has = record {
   queues = has.queues;
   corrupt = has.corrupt;
-  own = length-set posts.own call.seg None ∙ has.own;
+  own = length-set posts.segments.own call.seg None ∙ has.own;
   known = has.known;
   known_segments = has.known_segments;
   threads = has.threads;
@@ -124,14 +124,14 @@ known-tables limits owner seg extent posts has = record {
   queues = has.queues;
   corrupt = has.corrupt;
   own = has.own;
-  known = length-changed_at posts.known owner _ ∙ has.known;
+  known = length-changed_at posts.segments.known owner _ ∙ has.known;
   known_segments = λ rank table at.
-      by-rank rank table (owner == rank) refl (slice_get posts.known rank) refl (sym (changed_at-get posts.known owner rank (λ t. slice_set t seg extent)) ∙ at);
+      by-rank rank table (owner == rank) refl (slice_get posts.segments.known rank) refl (sym (changed_at-get posts.segments.known owner rank (λ t. slice_set t seg extent)) ∙ at);
   threads = has.threads;
 }
   where
-    by-rank : (rank : ℕ) (table : List (Option Extent)) (b : Bool) → (owner == rank) ≡ b → (o : Option (List (Option Extent))) → slice_get posts.known rank ≡ o
-        → (if owner == rank then option_map (λ (t : List (Option Extent)). slice_set t seg extent) (slice_get posts.known rank) else slice_get posts.known rank) ≡ Some table → length table ≡ 32
+    by-rank : (rank : ℕ) (table : List (Option Extent)) (b : Bool) → (owner == rank) ≡ b → (o : Option (List (Option Extent))) → slice_get posts.segments.known rank ≡ o
+        → (if owner == rank then option_map (λ (t : List (Option Extent)). slice_set t seg extent) (slice_get posts.segments.known rank) else slice_get posts.segments.known rank) ≡ Some table → length table ≡ 32
     by-rank rank table false is o kt h = has.known_segments rank table (rw is at h)
     by-rank rank table true is None kt h = absurd (let none : ◌≡◌ {A = Option (List (Option Extent))} None (Some table) = rw (is, kt) at h in let no : ⊥ = cc in no)
     by-rank rank table true is (Some t) kt h =
@@ -145,16 +145,16 @@ told-tables limits ranks me p call reply all have r x h =
     told-cases ranks me p call reply
     (λ same. have r x (rw (same all) at h))
     (λ x' is awake other same.
-    by-rank x'.seg x'.rank (x'.rank == r) refl (slice_get all r) refl (sym (ap (λ (xs : List Posts). slice_get xs r) (same all) ∙ changed_at-get all x'.rank r (with_known me x'.seg (extent_in p.own x'.seg))) ∙ h))
+    by-rank x'.seg x'.rank (x'.rank == r) refl (slice_get all r) refl (sym (ap (λ (xs : List Posts). slice_get xs r) (same all) ∙ changed_at-get all x'.rank r (with_known me x'.seg (extent_in p.segments.own x'.seg))) ∙ h))
   where
     by-rank : (seg rank : ℕ) (b : Bool) → (rank == r) ≡ b → (o : Option Posts) → slice_get all r ≡ o
-        → (if rank == r then option_map (with_known me seg (extent_in p.own seg)) (slice_get all r) else slice_get all r) ≡ Some x → HasTables limits x
+        → (if rank == r then option_map (with_known me seg (extent_in p.segments.own seg)) (slice_get all r) else slice_get all r) ≡ Some x → HasTables limits x
     by-rank seg rank false is o at h = have r x (rw is at h)
     by-rank seg rank true is None at h = absurd (let none : ◌≡◌ {A = Option Posts} None (Some x) = rw (is, at) at h in let no : ⊥ = cc in no)
     by-rank seg rank true is (Some y) at h =
-        let some : ◌≡◌ {A = Option Posts} (Some (with_known me seg (extent_in p.own seg) y)) (Some x) = rw (is, at) at h in
-        let new : with_known me seg (extent_in p.own seg) y ≡ x = cc in
-        rw (sym new) (known-tables limits me seg (extent_in p.own seg) y (have r y at))
+        let some : ◌≡◌ {A = Option Posts} (Some (with_known me seg (extent_in p.segments.own seg) y)) (Some x) = rw (is, at) at h in
+        let new : with_known me seg (extent_in p.segments.own seg) y ≡ x = cc in
+        rw (sym new) (known-tables limits me seg (extent_in p.segments.own seg) y (have r y at))
 
 -- a memory has a place for each number of a segment
 pub segment-places : (s : State) (rank : ℕ) (memory : Memory) → IsSound s → slice_get s.memories rank ≡ Some memory → length memory.segments ≡ 32
@@ -163,3 +163,12 @@ segment-places s rank memory sound at =
     let there = there-within s.posts rank (let ranks = sound.ranks in let memories = sound.memories in omega arith) in
     let own = sound.coherent.own rank there.0 memory there.1 at in
     sym (length-map memory.segments (option_map extent_of)) ∙ sym (ap length own) ∙ (sound.posts rank there.0 there.1).tables.own
+
+-- and so have its slots
+pub slot-places : (s : State) (rank : ℕ) (memory : Memory) → IsSound s → slice_get s.memories rank ≡ Some memory → length memory.slots ≡ 32
+slot-places s rank memory sound at =
+    sym (length-map memory.slots (option_map length))
+    ∙ ap length (sound.coherent.slots rank memory at)
+    ∙ length-map (extents_of memory.segments) (option_map (λ (x : Extent). s.limits.notes))
+    ∙ length-map memory.segments (option_map extent_of)
+    ∙ segment-places s rank memory sound at

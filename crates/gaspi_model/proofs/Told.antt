@@ -6,7 +6,7 @@ use Rattle.std.specs.Option.{option_map}
 use Rattle.std.proofs.lemmas.Bool.{eqb-true, eqb-false}
 use Rattle.gaspi_types.specs.SegmentTables.{extent_in}
 use Rattle.gaspi_types.specs.Replies.{is_idle}
-use Rattle.gaspi_types.specs.declared.entries.Extent.{Extent}
+use Rattle.gaspi_types.specs.declared.segments.Extent.{Extent}
 use Rattle.gaspi_types.specs.declared.calls.Call.{Call}
 use Rattle.gaspi_types.specs.declared.calls.Call.TheVariants.{Register}
 use Rattle.gaspi_types.specs.declared.calls.segments.Register as register
@@ -18,10 +18,10 @@ use Rattle.gaspi_types.specs.CallRows.{row_of}
 use Rattle.gaspi_types.specs.Touches.{reach_of}
 use Rattle.gaspi_model.specs.Calls.{peer_after}
 use Rattle.gaspi_types.specs.declared.replies.Reply.{Reply}
-use Rattle.gaspi_model.specs.Posting.{changed_at}
+use Rattle.gaspi_types.specs.Tables.{changed_at}
 use Rattle.gaspi_model.specs.SegmentCalls.{with_known}
 use Rattle.gaspi_model.specs.declared.states.Posts.{Posts}
-use Rattle.gaspi_model.proofs.Tables.{set-there, slice_get-set_same, slice_get-set_other, sum_by-changed, length-changed_at}
+use Rattle.gaspi_types.proofs.Items.{set-there, slice_get-set_same, slice_get-set_other, sum_by-changed, length-changed_at}
 
 -- what stands in a table with one item changed
 pub changed_at-get : {A : Type 0} (xs : List A) (i k : ℕ) (change : A → A) → slice_get (changed_at xs i change) k ≡ (if i == k then option_map change (slice_get xs k) else slice_get xs k)
@@ -100,14 +100,14 @@ touching-registers other rank h = absurd (let no : ⊥ = cc in no)
 -- a call tells a segment to another rank, or leaves the posts of all ranks as they are
 pub told-cases : {P : Type 0} (ranks me : ℕ) (p : Posts) (call : Call) (reply : Reply) → (((all : List Posts) → told ranks me p call reply all ≡ all) → P)
     → ((x : register.Register) → call ≡ Register x → is_idle reply ≡ false → (x.rank == me) ≡ false
-    → ((all : List Posts) → told ranks me p call reply all ≡ changed_at all x.rank (with_known me x.seg (extent_in p.own x.seg))) → P) → P
+    → ((all : List Posts) → told ranks me p call reply all ≡ changed_at all x.rank (with_known me x.seg (extent_in p.segments.own x.seg))) → P) → P
 told-cases {P} ranks me p call reply same tells = by-reach (reach_of ranks me (row_of call).touch) refl
   where
     told-known : (x : register.Register) → call ≡ Register x → (rank : ℕ) → x.rank ≡ rank → is_idle reply ≡ false → (all : List Posts)
-        → changed_at all rank (peer_after me p call reply) ≡ changed_at all x.rank (with_known me x.seg (extent_in p.own x.seg))
+        → changed_at all rank (peer_after me p call reply) ≡ changed_at all x.rank (with_known me x.seg (extent_in p.segments.own x.seg))
     told-known x is rank named awake all =
-        changed_at-alike all rank (peer_after me p call reply) (with_known me x.seg (extent_in p.own x.seg)) (λ q. rw (is, awake) refl)
-        ∙ ap (λ (n : ℕ). changed_at all n (with_known me x.seg (extent_in p.own x.seg))) (sym named)
+        changed_at-alike all rank (peer_after me p call reply) (with_known me x.seg (extent_in p.segments.own x.seg)) (λ q. rw (is, awake) refl)
+        ∙ ap (λ (n : ℕ). changed_at all n (with_known me x.seg (extent_in p.segments.own x.seg))) (sym named)
 
     named : (rank : ℕ) → reach_of ranks me (row_of call).touch ≡ PeerPosts rank → (x : register.Register) → call ≡ Register x → x.rank ≡ rank → (rank == me) ≡ false
         → (b : Bool) → is_idle reply ≡ b → P
@@ -138,56 +138,56 @@ told-idle ranks me p call reply all idle = go (reach_of ranks me (row_of call).t
 abbrev pub IsTold : List Posts → List Posts → ℕ → Type 0
 IsTold before after rank =
     (slice_get after rank ≡ slice_get before rank)
-    ⊎ ((p : Posts) × (known : List (List (Option Extent))) × (slice_get before rank ≡ Some p) × (slice_get after rank ≡ Some (record p { known = known })))
+    ⊎ ((p : Posts) × (known : List (List (Option Extent))) × (slice_get before rank ≡ Some p) × (slice_get after rank ≡ Some (record p { segments = record p.segments { known = known } })))
 
 pub told-get : (ranks me : ℕ) (p : Posts) (call : Call) (reply : Reply) (all : List Posts) (rank : ℕ) → IsTold all (told ranks me p call reply all) rank
 told-get ranks me p call reply all rank =
     told-cases ranks me p call reply
     (λ same. inl (rw (same all) refl))
-    (λ x is awake other same. named x.seg x.rank (λ k. ap (λ (xs : List Posts). slice_get xs k) (same all) ∙ changed_at-get all x.rank k (with_known me x.seg (extent_in p.own x.seg))) (x.rank == rank) refl (slice_get all rank) refl)
+    (λ x is awake other same. named x.seg x.rank (λ k. ap (λ (xs : List Posts). slice_get xs k) (same all) ∙ changed_at-get all x.rank k (with_known me x.seg (extent_in p.segments.own x.seg))) (x.rank == rank) refl (slice_get all rank) refl)
   where
-    named : (seg r : ℕ) → ((k : ℕ) → slice_get (told ranks me p call reply all) k ≡ (if r == k then option_map (with_known me seg (extent_in p.own seg)) (slice_get all k) else slice_get all k))
+    named : (seg r : ℕ) → ((k : ℕ) → slice_get (told ranks me p call reply all) k ≡ (if r == k then option_map (with_known me seg (extent_in p.segments.own seg)) (slice_get all k) else slice_get all k))
         → (b : Bool) → (r == rank) ≡ b → (o : Option Posts) → slice_get all rank ≡ o → IsTold all (told ranks me p call reply all) rank
     named seg r same false is o at = inl (same rank ∙ rw is refl)
     named seg r same true is None at = inl (same rank ∙ rw (is, at) refl)
-    named seg r same true is (Some x) at = inr (x, (with_known me seg (extent_in p.own seg) x).known, at, same rank ∙ rw (is, at) refl)
+    named seg r same true is (Some x) at = inr (x, (with_known me seg (extent_in p.segments.own seg) x).segments.known, at, same rank ∙ rw (is, at) refl)
 
 -- the posts of a rank afterwards come from those before
 pub told-from : (ranks me : ℕ) (p : Posts) (call : Call) (reply : Reply) (all : List Posts) (rank : ℕ) (after : Posts) → slice_get (told ranks me p call reply all) rank ≡ Some after
-    → (before : Posts) × (known : List (List (Option Extent))) × (slice_get all rank ≡ Some before) × (after ≡ record before { known = known })
+    → (before : Posts) × (known : List (List (Option Extent))) × (slice_get all rank ≡ Some before) × (after ≡ record before { segments = record before.segments { known = known } })
 told-from ranks me p call reply all rank after h = go (told-get ranks me p call reply all rank)
   where
-    go : IsTold all (told ranks me p call reply all) rank → (before : Posts) × (known : List (List (Option Extent))) × (slice_get all rank ≡ Some before) × (after ≡ record before { known = known })
-    go (inl same) = (after, after.known, sym same ∙ h, refl)
+    go : IsTold all (told ranks me p call reply all) rank → (before : Posts) × (known : List (List (Option Extent))) × (slice_get all rank ≡ Some before) × (after ≡ record before { segments = record before.segments { known = known } })
+    go (inl same) = (after, after.segments.known, sym same ∙ h, refl)
     go (inr (x, known, before, now)) =
-        let some : ◌≡◌ {A = Option Posts} (Some after) (Some (record x { known = known })) = sym h ∙ now in
-        (x, known, before, (let is : after ≡ record x { known = known } = cc in is))
+        let some : ◌≡◌ {A = Option Posts} (Some after) (Some (record x { segments = record x.segments { known = known } })) = sym h ∙ now in
+        (x, known, before, (let is : after ≡ record x { segments = record x.segments { known = known } } = cc in is))
 
 -- the caller's own posts are those before
 pub told-mine : (ranks me : ℕ) (p : Posts) (call : Call) (reply : Reply) (all : List Posts) → slice_get (told ranks me p call reply all) me ≡ slice_get all me
 told-mine ranks me p call reply all =
     told-cases ranks me p call reply
     (λ same. rw (same all) refl)
-    (λ x is awake other same. ap (λ (xs : List Posts). slice_get xs me) (same all) ∙ changed_at-get all x.rank me (with_known me x.seg (extent_in p.own x.seg)) ∙ rw other refl)
+    (λ x is awake other same. ap (λ (xs : List Posts). slice_get xs me) (same all) ∙ changed_at-get all x.rank me (with_known me x.seg (extent_in p.segments.own x.seg)) ∙ rw other refl)
 
 pub told-length : (ranks me : ℕ) (p : Posts) (call : Call) (reply : Reply) (all : List Posts) → length (told ranks me p call reply all) ≡ length all
 told-length ranks me p call reply all =
     told-cases ranks me p call reply
     (λ same. ap length (same all))
-    (λ x is awake other same. ap length (same all) ∙ length-changed_at all x.rank (with_known me x.seg (extent_in p.own x.seg)))
+    (λ x is awake other same. ap length (same all) ∙ length-changed_at all x.rank (with_known me x.seg (extent_in p.segments.own x.seg)))
 
 -- a sum over the posts of what does not depend on what they know
-pub told-sum : (f : Posts → ℕ) → ((x : Posts) (known : List (List (Option Extent))) → f (record x { known = known }) ≡ f x) → (ranks me : ℕ) (p : Posts) (call : Call) (reply : Reply) (all : List Posts)
+pub told-sum : (f : Posts → ℕ) → ((x : Posts) (known : List (List (Option Extent))) → f (record x { segments = record x.segments { known = known } }) ≡ f x) → (ranks me : ℕ) (p : Posts) (call : Call) (reply : Reply) (all : List Posts)
     → sum_by f (told ranks me p call reply all) ≡ sum_by f all
 told-sum f blind ranks me p call reply all =
     told-cases ranks me p call reply
     (λ same. ap (sum_by f) (same all))
     (λ x is awake other same. ap (sum_by f) (same all) ∙ named x.seg x.rank (slice_get all x.rank) refl)
   where
-    named : (seg r : ℕ) (o : Option Posts) → slice_get all r ≡ o → sum_by f (changed_at all r (with_known me seg (extent_in p.own seg))) ≡ sum_by f all
+    named : (seg r : ℕ) (o : Option Posts) → slice_get all r ≡ o → sum_by f (changed_at all r (with_known me seg (extent_in p.segments.own seg))) ≡ sum_by f all
     named seg r None at = rw at refl
     named seg r (Some x) at =
-        let new = with_known me seg (extent_in p.own seg) x in
+        let new = with_known me seg (extent_in p.segments.own seg) x in
         let sum = sum_by-changed f all r x new at in
-        let same : f new ≡ f x = blind x new.known in
+        let same : f new ≡ f x = blind x new.segments.known in
         rw at (omega arith)

@@ -7,7 +7,7 @@ use Rattle.gaspi_types.specs.SegmentBytes.{range_of}
 use Rattle.gaspi_types.specs.SegmentTables.{extent_in}
 use Rattle.gaspi_types.specs.declared.entries.ByteRange.{ByteRange}
 use Rattle.gaspi_types.specs.declared.entries.Entry.{Entry}
-use Rattle.gaspi_types.specs.declared.entries.Extent.{Extent}
+use Rattle.gaspi_types.specs.declared.segments.Extent.{Extent}
 use Rattle.gaspi_types.specs.declared.entries.Kind.{Kind}
 use Rattle.gaspi_types.specs.declared.entries.Kind.TheVariants.{Write, Notify}
 use Rattle.gaspi_types.specs.declared.entries.Phase.{Phase}
@@ -16,22 +16,23 @@ use Rattle.gaspi_types.specs.declared.events.Outcome.TheVariants.{Applied, Faile
 use Rattle.gaspi_types.specs.declared.events.Outcome.{Outcome}
 use Rattle.gaspi_types.specs.declared.events.Event.TheVariants.{Take, Put}
 use Rattle.gaspi_model.specs.State.{segment_at}
-use Rattle.gaspi_model.specs.Memories.{bytes_of, bytes_in, is_generation}
+use Rattle.gaspi_model.specs.Memories.{bytes_of}
+use Rattle.gaspi_types.specs.Segments.{bytes_in, is_generation, extents_of}
 use Rattle.gaspi_model.specs.Transfers.{Found, put_outcome, same_outcome, taken_bytes, target_segment, target_generation}
 use Rattle.gaspi_model.specs.Step.{step}
-use Rattle.gaspi_model.specs.Coherence.{Fits, HasSource, extents_of, tables_of}
+use Rattle.gaspi_model.specs.Coherence.{Fits, HasSource, tables_of}
 use Rattle.gaspi_model.specs.Sound.{IsSound}
 use Rattle.gaspi_model.specs.Changes.{IsPutFailed, IsTaken, Takes}
 use Rattle.gaspi_model.specs.declared.states.Posts.{Posts}
-use Rattle.gaspi_model.specs.declared.states.Segment.{Segment}
+use Rattle.gaspi_types.specs.declared.segments.Segment.{Segment}
 use Rattle.gaspi_model.specs.declared.states.Memory.{Memory}
 use Rattle.gaspi_model.specs.declared.states.State.{State}
 use Rattle.gaspi_model.proofs.Chains.{both}
 use Rattle.gaspi_model.proofs.PutDone.{none-broken}
 use Rattle.gaspi_model.proofs.CoherentSteps.{mine-there}
-use Rattle.gaspi_model.proofs.FittingEntries.{segment-behind}
+use Rattle.gaspi_types.proofs.Written.{segment-behind}
 use Rattle.gaspi_model.proofs.NotificationOrder.{found-number}
-use Rattle.gaspi_model.proofs.Tables.{set-there, past-none}
+use Rattle.gaspi_types.proofs.Items.{set-there, past-none}
 use Rattle.gaspi_model.proofs.Worked.{IsTakeThere, sound-take, sound-put}
 use Rattle.std.proofs.lemmas.Option.{slice_get_within}
 
@@ -76,23 +77,23 @@ put-failed s t origin queue target number sound h =
     }
 
 -- what a posted entry takes
-takes : (s : State) (posts theirs : Posts) (memory : Memory) (e : Entry) → posts.own ≡ extents_of memory → is_posted e ≡ true → Fits s.limits.notes (tables_of posts) (tables_of theirs) e
+takes : (s : State) (posts theirs : Posts) (memory : Memory) (e : Entry) → posts.segments.own ≡ extents_of memory.segments → is_posted e ≡ true → Fits s.limits.notes (tables_of posts) (tables_of theirs) e
     → Takes e memory (taken_bytes memory e.kind)
 takes s posts theirs memory e own posted fits = by-kind e.kind refl
   where
-    by-phase : (p : Phase) → e.phase ≡ p → (range target : ByteRange) → e.kind ≡ Write range target → HasSource posts.own range e.phase
+    by-phase : (p : Phase) → e.phase ≡ p → (range target : ByteRange) → e.kind ≡ Write range target → HasSource posts.segments.own range e.phase
         → (segment : Segment) × (segment_at memory range.segment ≡ Some segment) × (segment.generation ≡ range.generation)
         × (range_of (bytes_of memory range.segment) range.offset range.size ≡ range_of segment.bytes range.offset range.size)
     by-phase phases.Posted is range target kind source =
         let lies = rw is at source in
-        let behind = segment-behind memory range.segment lies.extent (subst (λ (t : List (Option Extent)). extent_in t range.segment ≡ Some lies.extent) own lies.there) in
+        let behind = segment-behind memory.segments range.segment lies.extent (subst (λ (t : List (Option Extent)). extent_in t range.segment ≡ Some lies.extent) own lies.there) in
         (behind.0, behind.1, ap (λ (x : Extent). x.generation) behind.2 ∙ lies.generation, ap (λ (b : List ℕ). range_of b range.offset range.size) (ap bytes_in behind.1))
     by-phase (phases.Carried bytes) is range target kind source = absurd (let never = rw is at posted in let no : ⊥ = cc in no)
     by-phase phases.Failed is range target kind source = absurd (let never = rw is at posted in let no : ⊥ = cc in no)
 
     by-kind : (k : Kind) → e.kind ≡ k → Takes e memory (taken_bytes memory e.kind)
     by-kind (Write range target) is =
-        let source : HasSource posts.own range e.phase = (rw is at fits).4 in
+        let source : HasSource posts.segments.own range e.phase = (rw is at fits).4 in
         rw is (by-phase e.phase refl range target is source)
     by-kind (Notify target value) is = rw is refl
 

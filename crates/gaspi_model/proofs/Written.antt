@@ -9,7 +9,7 @@ use Rattle.gaspi_types.specs.Checks.{check}
 use Rattle.gaspi_types.specs.SegmentBytes.{is_transfer_size, is_within, with_range}
 use Rattle.gaspi_types.specs.SegmentTables.{extent_in, known_extent, own_range_checks}
 use Rattle.gaspi_types.specs.SegmentWords.{word_checks, word_at, with_swap}
-use Rattle.gaspi_types.specs.declared.entries.Extent.{Extent}
+use Rattle.gaspi_types.specs.declared.segments.Extent.{Extent}
 use Rattle.gaspi_types.specs.declared.shapes.Limits.{Limits}
 use Rattle.gaspi_types.specs.declared.shapes.CallerId.{CallerId}
 use Rattle.gaspi_types.specs.declared.calls.Call.{Call}
@@ -26,17 +26,18 @@ use Rattle.gaspi_types.specs.declared.replies.Reply.{Reply}
 use Rattle.gaspi_types.specs.declared.replies.Reply.TheVariants as replies
 use Rattle.gaspi_types.specs.declared.events.Event.TheVariants.{Called}
 use Rattle.gaspi_model.specs.State.{segment_at}
-use Rattle.gaspi_model.specs.Memories.{is_generation, bytes_of, bytes_in, with_bytes}
+use Rattle.gaspi_model.specs.Memories.{bytes_of, with_bytes}
+use Rattle.gaspi_types.specs.Segments.{IsSegmentWritten, is_generation, bytes_in, extent_of}
 use Rattle.gaspi_model.specs.Posting.{counted}
 use Rattle.gaspi_model.specs.MemoryCalls.{store_finds}
 use Rattle.gaspi_model.specs.AtomicCalls.{word_finds}
 use Rattle.gaspi_model.specs.Step.{step}
 use Rattle.gaspi_model.specs.Transfers.{Worked}
-use Rattle.gaspi_model.specs.Coherence.{extent_of, tables_of}
+use Rattle.gaspi_model.specs.Coherence.{tables_of}
 use Rattle.gaspi_model.specs.Sound.{IsSound}
-use Rattle.gaspi_model.specs.Changes.{IsOnlyCounted, IsStored, IsWritten, IsAnswered}
+use Rattle.gaspi_model.specs.Changes.{IsOnlyCounted, IsWritten, IsAnswered}
 use Rattle.gaspi_model.specs.declared.states.Posts.{Posts}
-use Rattle.gaspi_model.specs.declared.states.Segment.{Segment}
+use Rattle.gaspi_types.specs.declared.segments.Segment.{Segment}
 use Rattle.gaspi_model.specs.declared.states.Memory.{Memory}
 use Rattle.gaspi_model.specs.declared.states.State.{State}
 use Rattle.gaspi_model.proofs.Chains.{bind_then, check_then, found_then, same_Ok}
@@ -44,20 +45,18 @@ use Rattle.gaspi_model.proofs.Same.{same_reply-same}
 use Rattle.gaspi_model.proofs.Made.{memories_at, memories-same, call_reach, step-called}
 use Rattle.gaspi_model.proofs.Worked.{IsCalledThere, memory_place, memory_rank, sound-called}
 use Rattle.gaspi_model.proofs.Told.{told, told_at}
-use Rattle.gaspi_model.proofs.Tables.{past-none, joined, set-there}
-use Rattle.gaspi_model.proofs.Successors.{extent-at}
-use Rattle.gaspi_model.proofs.FittingEntries.{known-cases, segment-behind, extent-there}
+use Rattle.gaspi_types.proofs.Items.{past-none, joined, set-there}
+use Rattle.gaspi_types.proofs.Extents.{extent-at}
+use Rattle.gaspi_model.proofs.FittingEntries.{known-cases}
+use Rattle.gaspi_types.proofs.Written.{segment-behind, extent-there, segment-written, there-in-generation}
 use Rattle.gaspi_model.proofs.CoherentSteps.{mine-there}
 use Rattle.gaspi_model.proofs.FoundReplies.{found-reply}
-use Rattle.gaspi_model.proofs.PutDone.{stored, there-in-generation, changed-there, changed-elsewhere}
 
 -- a call that replaces a range of a segment's bytes
 written : (s t : State) (c : CallerId) (call : Call) (reply : Reply) (rank seg offset : ℕ) (new : List ℕ) (posts : Posts) (memory memory' : Memory) (old : Segment)
     → IsCalledThere s t c call reply posts memory (record { posts = counted posts; memory = memory' }) → memory_rank s.limits c.rank call ≡ rank → ((all : List Posts) → told s.limits.ranks c.rank posts call reply all ≡ all)
     → memory' ≡ with_bytes memory seg (with_range (bytes_of memory seg) offset new) → segment_at memory seg ≡ Some old → offset + length new ≤ length old.bytes → IsWritten s t c.rank rank seg offset new
 written s t c call reply rank seg offset new posts memory memory' old m worked same leaves there within =
-    let change = λ (x : Segment). record x { bytes = with_range (bytes_of memory seg) offset new } in
-    let bytes : bytes_of memory seg ≡ old.bytes = ap bytes_in there in
     record {
       posts = posts;
       posts_there = m.posts_there;
@@ -66,14 +65,8 @@ written s t c call reply rank seg offset new posts memory memory' old m worked s
       new = memory';
       old_there = ap (slice_get s.memories) (sym worked) ∙ m.memory_there;
       memories_after = ap (λ (x : State). x.memories) m.leaves ∙ ap (λ (k : ℕ). slice_set s.memories k memory') worked;
-      old_segment = old;
-      new_segment = change old;
-      old_segment_there = there;
-      new_segment_there = ap (λ (x : Memory). segment_at x seg) leaves ∙ changed-there memory seg old change there;
-      segments = λ k apart. ap (λ (x : Memory). segment_at x k) leaves ∙ changed-elsewhere memory seg (option_map change (segment_at memory seg)) k apart;
-      generation = refl;
-      slots = refl;
-      stored = subst (λ (b : List ℕ). IsStored old.bytes (with_range b offset new) new offset) (sym bytes) (stored old.bytes new offset within);
+      segments = subst (λ (x : Memory). IsSegmentWritten memory.segments x.segments seg offset new) (sym leaves) (segment-written memory.segments seg offset new old there within);
+      slots = ap (λ (x : Memory). x.slots) leaves;
       limits = ap (λ (x : State). x.limits) m.leaves;
     }
 
@@ -87,10 +80,10 @@ record IsOwnRange (own : List (Option Extent)) (seg offset size : ℕ) : Type 0 
   there : extent_in own seg ≡ Some mine
   within : is_within offset size mine.size ≡ true
 
-store-found : (posts : Posts) (call : store.Store) (reply : Reply) → store_finds posts call ≡ Ok (Some reply) → IsOwnRange posts.own call.seg call.offset (length call.bytes)
+store-found : (posts : Posts) (call : store.Store) (reply : Reply) → store_finds posts call ≡ Ok (Some reply) → IsOwnRange posts.segments.own call.seg call.offset (length call.bytes)
 store-found posts call reply h =
-    bind_then (own_range_checks posts.own call.seg call.offset (length call.bytes)) _ (Some reply) h (λ fits hc h1.
-    found_then (extent_in posts.own call.seg) _ _ fits hc (λ mine hm h2.
+    bind_then (own_range_checks posts.segments.own call.seg call.offset (length call.bytes)) _ (Some reply) h (λ fits hc h1.
+    found_then (extent_in posts.segments.own call.seg) _ _ fits hc (λ mine hm h2.
     check_then (is_transfer_size (length call.bytes)) _ _ fits h2 (λ sized h3.
     record { mine = mine; there = hm; within = passed (is_within call.offset (length call.bytes) mine.size) _ fits h3 })))
 
@@ -103,7 +96,7 @@ store-written s t c call sound h =
     let finds = found-reply s.limits c.rank posts memory c.thread (Store call) replies.Done (same_reply-same _ _ m.is.answered) refl in
     let found = store-found posts call replies.Done finds in
     let agrees = sound.coherent.own c.rank posts memory m.posts_there m.memory_there in
-    let behind = segment-behind memory call.seg found.mine (subst (λ (own : List (Option Extent)). extent_in own call.seg ≡ Some found.mine) agrees found.there) in
+    let behind = segment-behind memory.segments call.seg found.mine (subst (λ (own : List (Option Extent)). extent_in own call.seg ≡ Some found.mine) agrees found.there) in
     let size : found.mine.size ≡ length behind.0.bytes = ap (λ (x : Extent). x.size) (sym behind.2) in
     let less = leb-true (call.offset + length call.bytes) found.mine.size found.within in
     written s t c (Store call) replies.Done c.rank call.seg call.offset call.bytes posts memory (with_bytes memory call.seg (with_range (bytes_of memory call.seg) call.offset call.bytes)) behind.0
@@ -113,7 +106,7 @@ store-written s t c call sound h =
 record IsWordFound (limits : Limits) (me : ℕ) (posts : Posts) (memory : Memory) (seg offset rank old : ℕ) : Type 0 where
   ranked : nat_lt rank limits.ranks ≡ true
   theirs : Extent
-  known : known_extent me posts.own posts.known rank seg ≡ Some theirs
+  known : known_extent me posts.segments rank seg ≡ Some theirs
   there : is_generation theirs.generation (segment_at memory seg) ≡ true
   within : is_within offset 8 theirs.size ≡ true
   value : word_at (bytes_of memory seg) offset ≡ old
@@ -122,7 +115,7 @@ word-found : (limits : Limits) (me : ℕ) (posts : Posts) (memory : Memory) (seg
     → IsWordFound limits me posts memory seg offset rank old
 word-found limits me posts memory seg offset rank old h =
     check_then (nat_lt rank limits.ranks) _ _ (Some (replies.Value old)) h (λ ranked h1.
-    found_then (known_extent me posts.own posts.known rank seg) _ _ (Some (replies.Value old)) h1 (λ theirs known h2.
+    found_then (known_extent me posts.segments rank seg) _ _ (Some (replies.Value old)) h1 (λ theirs known h2.
     check_then (is_generation theirs.generation (segment_at memory seg)) _ _ (Some (replies.Value old)) h2 (λ there h3.
     bind_then (word_checks theirs.size offset) _ (Some (replies.Value old)) h3 (λ fits hc h4.
     check_then (is_within offset 8 theirs.size) _ _ fits hc (λ within h5.
@@ -150,21 +143,21 @@ tells-none ranks rank me p call reply all = go (rank == me) (nat_lt rank ranks)
 
 -- the size with which the caller knows the segment is its own
 word-size : (s : State) (me : ℕ) (posts : Posts) (memory : Memory) (seg rank : ℕ) (theirs : Extent) (old : Segment) → IsSound s → slice_get s.posts me ≡ Some posts → slice_get s.memories rank ≡ Some memory
-    → rank < s.limits.ranks → known_extent me posts.own posts.known rank seg ≡ Some theirs → segment_at memory seg ≡ Some old → old.generation ≡ theirs.generation → length old.bytes ≡ theirs.size
+    → rank < s.limits.ranks → known_extent me posts.segments rank seg ≡ Some theirs → segment_at memory seg ≡ Some old → old.generation ≡ theirs.generation → length old.bytes ≡ theirs.size
 word-size s me posts memory seg rank theirs old sound hp hm within known there generation =
-    known-cases me posts.own posts.known rank seg theirs known
+    known-cases me posts.segments rank seg theirs known
     (λ same at.
     let agrees = sound.coherent.own me posts memory hp (subst (λ (k : ℕ). slice_get s.memories k ≡ Some memory) same hm) in
-    let here : extent_in posts.own seg ≡ Some (extent_of old) = rw agrees (extent-there memory seg old (extent-at posts.own seg theirs at).0 there) in
+    let here : extent_in posts.segments.own seg ≡ Some (extent_of old) = rw agrees (extent-there memory.segments seg old (extent-at posts.segments.own seg theirs at).0 there) in
     let some : ◌≡◌ {A = Option Extent} (Some (extent_of old)) (Some theirs) = sym here ∙ at in
     ap (λ (x : Extent). x.size) (let is : extent_of old ≡ theirs = cc in is))
     (λ table at is. others table at is (slice_get s.posts rank) refl)
   where
-    others : (table : List (Option Extent)) → slice_get posts.known rank ≡ Some table → extent_in table seg ≡ Some theirs → (o : Option Posts) → slice_get s.posts rank ≡ o → length old.bytes ≡ theirs.size
+    others : (table : List (Option Extent)) → slice_get posts.segments.known rank ≡ Some table → extent_in table seg ≡ Some theirs → (o : Option Posts) → slice_get s.posts rank ≡ o → length old.bytes ≡ theirs.size
     others table at is None hq = absurd (past-none s.posts rank (let ranks = sound.ranks in omega arith) hq)
     others table at is (Some q) hq =
         let agrees = sound.coherent.own rank q memory hq hm in
-        let here : extent_in q.own seg ≡ Some (extent_of old) = rw agrees (extent-there memory seg old (extent-at table seg theirs is).0 there) in
+        let here : extent_in q.segments.own seg ≡ Some (extent_of old) = rw agrees (extent-there memory.segments seg old (extent-at table seg theirs is).0 there) in
         (sound.coherent.known me posts hp rank table (tables_of q) at (mine-there s.posts rank q hq) seg theirs is).1 (extent_of old) here generation
 
 -- an atomic that replaces its word
@@ -179,7 +172,7 @@ word-written s t c call seg offset rank old new posts memory memory' sound m tou
     ap (λ (touch : Touch). told_at (reach_of s.limits.ranks c.rank touch) c.rank posts call (replies.Value old) all) touches_rank
     ∙ tells-none s.limits.ranks rank c.rank posts call (replies.Value old) all) in
     let less = ltb-true rank s.limits.ranks found.ranked in
-    let there = there-in-generation memory seg found.theirs.generation found.there in
+    let there = there-in-generation memory.segments seg found.theirs.generation found.there in
     let memory_there = ap (slice_get s.memories) (sym worked) ∙ m.memory_there in
     let size = word-size s c.rank posts memory seg rank found.theirs there.0 sound m.posts_there memory_there less found.known there.1 there.2 in
     let within = leb-true (offset + 8) found.theirs.size found.within in
@@ -193,7 +186,7 @@ word-answered : (s t : State) (c : CallerId) (call : Call) (reply : Reply) (seg 
 word-answered s t c call reply seg offset rank old posts memory after m touches_rank found =
     let worked : memory_rank s.limits c.rank call ≡ rank =
     ap (λ (touch : Touch). memory_place (reach_of s.limits.ranks c.rank touch) c.rank) touches_rank ∙ worked-there s.limits.ranks rank c.rank found.ranked in
-    let there = there-in-generation memory seg found.theirs.generation found.there in
+    let there = there-in-generation memory.segments seg found.theirs.generation found.there in
     record {
       memory = memory;
       memory_there = ap (slice_get s.memories) (sym worked) ∙ m.memory_there;
@@ -251,7 +244,7 @@ swap-kept s t c call old apart h =
     let memory = made.1 in
     let found = word-found s.limits c.rank posts memory call.seg call.offset call.rank old
     (found-reply s.limits c.rank posts memory c.thread (CompareSwap call) (replies.Value old) (same_reply-same _ _ m.is.answered) refl) in
-    let there = there-in-generation memory call.seg found.theirs.generation found.there in
+    let there = there-in-generation memory.segments call.seg found.theirs.generation found.there in
     let kept : made.2.memory ≡ memory = rw m.is.leaves (rw (differs (word_at (bytes_of memory call.seg) call.offset) found.value) (same-memory memory there.0 there.1)) in
     let after : made.2.posts ≡ counted posts = rw m.is.leaves refl in
     let reach = call_reach s.limits.ranks c.rank (CompareSwap call) in
@@ -276,4 +269,4 @@ swap-kept s t c call old apart h =
     same-memory memory x there =
         let set = set-there memory.segments call.seg (Some x) (joined memory.segments call.seg x there) in
         let item : option_map (λ (y : Segment). record y { bytes = bytes_of memory call.seg }) (segment_at memory call.seg) ≡ Some x = rw there refl in
-        ap (λ (segments : List (Option Segment)). (let m : Memory = record { segments = segments } in m)) (ap (λ (o : Option Segment). slice_set memory.segments call.seg o) item ∙ set)
+        ap (λ (segments : List (Option Segment)). (let m : Memory = record memory { segments = segments } in m)) (ap (λ (o : Option Segment). slice_set memory.segments call.seg o) item ∙ set)

@@ -12,7 +12,8 @@ use Rattle.gaspi_types.specs.declared.replies.Refusal.TheVariants.{BadRank, Unre
 use Rattle.gaspi_types.specs.declared.replies.Reply.{Reply}
 use Rattle.gaspi_types.specs.declared.replies.Reply.TheVariants as replies
 use Rattle.gaspi_model.specs.State.{segment_at}
-use Rattle.gaspi_model.specs.Memories.{bytes_of, with_bytes, is_generation}
+use Rattle.gaspi_types.specs.Segments.{is_generation}
+use Rattle.gaspi_model.specs.Memories.{bytes_of, with_bytes}
 use Rattle.gaspi_model.specs.declared.states.Posts.{Posts}
 use Rattle.gaspi_model.specs.declared.states.Memory.{Memory}
 
@@ -21,7 +22,7 @@ use Rattle.gaspi_model.specs.declared.states.Memory.{Memory}
 abbrev pub word_finds : Limits → ℕ → Posts → Memory → ℕ → ℕ → ℕ → Result (Option Reply) Refusal
 word_finds limits me posts memory seg offset rank = do
   ranked ← check (nat_lt rank limits.ranks) BadRank
-  theirs ← found (known_extent me posts.own posts.known rank seg) Unregistered
+  theirs ← found (known_extent me posts.segments rank seg) Unregistered
   there ← check (is_generation theirs.generation (segment_at memory seg)) Unregistered
   fits ← word_checks theirs.size offset
   Ok (Some (replies.Value (word_at (bytes_of memory seg) offset)))

@@ -105,7 +105,7 @@ memory_done limits posts memory call = memory
 
 -- in the posts of a peer that it reaches, where its own were so before it (segments: segment_register)
 abbrev pub peer_done : ℕ → Posts → Call → Posts → Posts
-peer_done me posts (Register call) peer = with_known me call.seg (extent_in posts.own call.seg) peer
+peer_done me posts (Register call) peer = with_known me call.seg (extent_in posts.segments.own call.seg) peer
 peer_done me posts call peer = peer
 
 -- a refusal or a timeout changes nothing but the count of events

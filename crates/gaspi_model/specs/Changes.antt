@@ -1,21 +1,25 @@
 -- What events change, in the words of what they are for.
-use Rattle.std.specs.Prelude.{◌≡◌, ◌≢◌, ℕ, ◌+◌, ◌<◌, ◌≤◌, Bool, true, false, List, [], length, remove, replicate, slice_get, slice_set, Option, None, Some}
+use Rattle.std.specs.Prelude.{◌≡◌, ◌≢◌, ℕ, ◌+◌, Bool, true, false, List, [], length, remove, replicate, slice_get, slice_set, Option, None, Some}
 use Rattle.std.specs.List.{list_any}
 use Rattle.gaspi_types.specs.Lanes.{is_posted, is_carried, has_posted}
+use Rattle.gaspi_types.specs.Queues.{user_of}
 use Rattle.gaspi_types.specs.SegmentBytes.{range_of}
+use Rattle.gaspi_types.specs.Segments.{is_generation, IsSegmentWritten}
+use Rattle.gaspi_types.specs.Slots.{IsSlotWritten}
+use Rattle.gaspi_types.specs.Tables.{entry_at}
 use Rattle.gaspi_types.specs.SegmentTables.{extent_in}
-use Rattle.gaspi_types.specs.declared.entries.Extent.{Extent}
+use Rattle.gaspi_types.specs.declared.segments.Extent.{Extent}
 use Rattle.gaspi_types.specs.declared.entries.Phase.TheVariants.{Carried, Failed}
 use Rattle.gaspi_types.specs.declared.entries.Entry.{Entry}
 use Rattle.gaspi_types.specs.declared.entries.Kind.{Kind}
 use Rattle.gaspi_types.specs.declared.entries.Kind.TheVariants.{Write, Notify}
 use Rattle.gaspi_model.specs.State.{segment_at}
 use Rattle.gaspi_model.specs.Posting.{counted}
-use Rattle.gaspi_model.specs.SegmentCalls.{user_of}
+use Rattle.gaspi_model.specs.Memories.{slots_of}
 use Rattle.gaspi_model.specs.Transfers.{with_lane, carried_bytes, target_segment, target_generation}
-use Rattle.gaspi_model.specs.declared.states.Queue.{Queue}
+use Rattle.gaspi_types.specs.declared.entries.Queue.{Queue}
 use Rattle.gaspi_model.specs.declared.states.Posts.{Posts}
-use Rattle.gaspi_model.specs.declared.states.Segment.{Segment}
+use Rattle.gaspi_types.specs.declared.segments.Segment.{Segment}
 use Rattle.gaspi_model.specs.declared.states.Memory.{Memory}
 use Rattle.gaspi_model.specs.declared.states.State.{State}
 
@@ -24,14 +28,6 @@ pub record IsOnlyCounted (s t : State) (rank : ℕ) : Type 0 where
   pub posts : Posts
   pub there : slice_get s.posts rank ≡ Some posts
   pub after : t ≡ record s { posts = slice_set s.posts rank (counted posts) }
-
--- exactly a range of bytes: there the new ones stand, and everywhere else what stood before
-pub record IsStored (old new stored : List ℕ) (offset : ℕ) : Type 0 where
-  pub size : length new ≡ length old
-  pub within : offset + length stored ≤ length old
-  pub there : (k : ℕ) → k < length stored → slice_get new (offset + k) ≡ slice_get stored k
-  pub before : (k : ℕ) → k < offset → slice_get new k ≡ slice_get old k
-  pub behind : (k : ℕ) → offset + length stored ≤ k → slice_get new k ≡ slice_get old k
 
 -- A call by a rank `me` that writes into a segment of a rank: that segment's bytes have what is written in its range, and
 -- nothing else has changed but the count of events of the caller's rank.
@@ -43,14 +39,8 @@ pub record IsWritten (s t : State) (me rank segment offset : ℕ) (written : Lis
   pub new : Memory
   pub old_there : slice_get s.memories rank ≡ Some old
   pub memories_after : t.memories ≡ slice_set s.memories rank new
-  pub old_segment : Segment
-  pub new_segment : Segment
-  pub old_segment_there : segment_at old segment ≡ Some old_segment
-  pub new_segment_there : segment_at new segment ≡ Some new_segment
-  pub segments : (other : ℕ) → other ≢ segment → segment_at new other ≡ segment_at old other
-  pub generation : new_segment.generation ≡ old_segment.generation
-  pub slots : new_segment.slots ≡ old_segment.slots
-  pub stored : IsStored old_segment.bytes new_segment.bytes written offset
+  pub segments : IsSegmentWritten old.segments new.segments segment offset written
+  pub slots : new.slots ≡ old.slots
   pub limits : t.limits ≡ s.limits
 
 -- what a call answers of a segment of a rank
@@ -61,9 +51,21 @@ pub record IsAnswered (s : State) (rank segment : ℕ) (P : Segment → Type 0) 
   pub item_there : segment_at memory segment ≡ Some item
   pub answers : P item
 
--- A call that answers what stands in a segment of its caller's rank, and changes nothing but the count of events.
+-- what a call answers of the slots of a segment of a rank
+pub record IsAnsweredOfSlots (s : State) (rank segment : ℕ) (P : List ℕ → Type 0) : Type 0 where
+  pub memory : Memory
+  pub memory_there : slice_get s.memories rank ≡ Some memory
+  pub slots : List ℕ
+  pub slots_there : entry_at memory.slots segment ≡ Some slots
+  pub answers : P slots
+
+-- A call that answers what stands in a segment of its caller's rank, or in its slots, and changes nothing but the count of
+-- events.
 abbrev pub IsRead : (s t : State) (me segment : ℕ) (P : Segment → Type 0) → Type 0
 IsRead s t me segment P = IsAnswered s me segment P × IsOnlyCounted s t me
+
+abbrev pub AreSlotsRead : (s t : State) (me segment : ℕ) (P : List ℕ → Type 0) → Type 0
+AreSlotsRead s t me segment P = IsAnsweredOfSlots s me segment P × IsOnlyCounted s t me
 
 -- whether a rank is corrupt for a rank (state vector)
 abbrev pub is_corrupt : State → ℕ → ℕ → Bool
@@ -77,24 +79,19 @@ is_corrupt s rank target = in_posts (slice_get s.posts rank)
     in_posts None = false
     in_posts (Some posts) = is_marked (slice_get posts.corrupt target)
 
--- exactly one slot
-pub record IsSlotSet (old new : List ℕ) (note value : ℕ) : Type 0 where
-  pub size : length new ≡ length old
-  pub there : slice_get new note ≡ Some value
-  pub others : (k : ℕ) → k ≢ note → slice_get new k ≡ slice_get old k
-
--- what the put of an entry does to the segment of its target: a write stores its bytes in its range, and a notification
--- sets its slot
-abbrev pub Puts : Entry → Segment → Segment → Type 0
+-- what the put of an entry does to the memory of its target: a write stores its bytes in its range, a notification sets its
+-- slot, and nothing else changes
+abbrev pub Puts : Entry → Memory → Memory → Type 0
 Puts e old new = of_kind e.kind
   where
     of_kind : Kind → Type 0
     of_kind (Write own target) =
-        IsStored old.bytes new.bytes (carried_bytes e.phase) target.offset × (length (carried_bytes e.phase) ≡ target.size) × (new.slots ≡ old.slots)
-    of_kind (Notify target value) = IsSlotSet old.slots new.slots target.note value × (new.bytes ≡ old.bytes)
+        IsSegmentWritten old.segments new.segments target.segment target.offset (carried_bytes e.phase) × (length (carried_bytes e.phase) ≡ target.size) × (new.slots ≡ old.slots)
+    of_kind (Notify target value) = IsSlotWritten old.slots new.slots target.segment target.note value × (new.segments ≡ old.segments)
 
--- A put that was made: the entry with its number, which had taken its bytes, is gone from its lane; the segment of its
--- target has what it puts; and nothing else has changed but the count of events of its origin.
+-- A put that was made: the entry with its number, which had taken its bytes, is gone from its lane; its target, which has
+-- the segment in the entry's generation, has what it puts; and nothing else has changed but the count of events of its
+-- origin.
 pub record IsPutDone (s t : State) (origin queue target number : ℕ) : Type 0 where
   pub posts : Posts
   pub q : Queue
@@ -113,14 +110,8 @@ pub record IsPutDone (s t : State) (origin queue target number : ℕ) : Type 0 w
   pub new : Memory
   pub old_there : slice_get s.memories target ≡ Some old
   pub memories_after : t.memories ≡ slice_set s.memories target new
-  pub old_segment : Segment
-  pub new_segment : Segment
-  pub old_segment_there : segment_at old (target_segment entry.kind) ≡ Some old_segment
-  pub new_segment_there : segment_at new (target_segment entry.kind) ≡ Some new_segment
-  pub segments : (segment : ℕ) → segment ≢ target_segment entry.kind → segment_at new segment ≡ segment_at old segment
-  pub generation : old_segment.generation ≡ target_generation entry.kind
-  pub same_generation : new_segment.generation ≡ old_segment.generation
-  pub puts : Puts entry old_segment new_segment
+  pub there : is_generation (target_generation entry.kind) (segment_at old (target_segment entry.kind)) ≡ true
+  pub puts : Puts entry old new
   pub limits : t.limits ≡ s.limits
 
 -- A put that failed, since the target's segment of the entry's generation is gone: the entry with its number, which had
@@ -186,7 +177,9 @@ pub record IsTaken (s t : State) (origin queue target number : ℕ) : Type 0 whe
 
 -- the posts of a rank that is told a segment of an owner: what it knows of it has changed, and nothing else
 abbrev pub with_told : Posts → ℕ → ℕ → Extent → List (Option Extent) → Posts
-with_told peer owner segment extent table = record peer { known = slice_set peer.known owner (slice_set table segment (Some extent)) }
+with_told peer owner segment extent table = record peer {
+  segments = record peer.segments { known = slice_set peer.segments.known owner (slice_set table segment (Some extent)) };
+}
 
 -- A segment that is made known to a rank: that rank knows its present generation and size, and nothing else has changed but
 -- the count of events of its owner. To its owner it makes nothing known. (segments: segment_register)
@@ -194,9 +187,9 @@ pub record IsRegistered (s t : State) (me segment rank : ℕ) : Type 0 where
   pub posts : Posts
   pub extent : Extent
   pub posts_there : slice_get s.posts me ≡ Some posts
-  pub own_there : extent_in posts.own segment ≡ Some extent
+  pub own_there : extent_in posts.segments.own segment ≡ Some extent
   pub itself : rank ≡ me → t ≡ record s { posts = slice_set s.posts me (counted posts) }
-  pub peer : (rank ≡ me → ⊥) → (p : Posts) × (table : List (Option Extent)) × (slice_get s.posts rank ≡ Some p) × (slice_get p.known me ≡ Some table)
+  pub peer : (rank ≡ me → ⊥) → (p : Posts) × (table : List (Option Extent)) × (slice_get s.posts rank ≡ Some p) × (slice_get p.segments.known me ≡ Some table)
       × (t ≡ record s { posts = slice_set (slice_set s.posts me (counted posts)) rank (with_told p me segment extent table) })
 
 -- A notification that is taken: its slot had the value that was answered and is 0, and nothing else has changed but the
@@ -208,15 +201,9 @@ pub record IsReset (s t : State) (me segment note value : ℕ) : Type 0 where
   pub new : Memory
   pub old_there : slice_get s.memories me ≡ Some old
   pub after : t ≡ record s { posts = slice_set s.posts me (counted posts); memories = slice_set s.memories me new }
-  pub old_segment : Segment
-  pub new_segment : Segment
-  pub old_segment_there : segment_at old segment ≡ Some old_segment
-  pub new_segment_there : segment_at new segment ≡ Some new_segment
-  pub segments : (other : ℕ) → other ≢ segment → segment_at new other ≡ segment_at old other
-  pub generation : new_segment.generation ≡ old_segment.generation
-  pub bytes : new_segment.bytes ≡ old_segment.bytes
-  pub answered : slice_get old_segment.slots note ≡ Some value
-  pub slots : IsSlotSet old_segment.slots new_segment.slots note 0
+  pub segments : new.segments ≡ old.segments
+  pub answered : slice_get (slots_of old segment) note ≡ Some value
+  pub slots : IsSlotWritten old.slots new.slots segment note 0
 
 -- A wait that is done: the queue is not broken, none of its entries has still to take its bytes, its open count is 0, and
 -- nothing else has changed but the count of events of its rank. (one-sided communication: wait)
@@ -238,15 +225,18 @@ pub record IsMade (s t : State) (me segment size : ℕ) : Type 0 where
   pub generation : ℕ
   pub posts_there : slice_get s.posts me ≡ Some posts
   pub memory_there : slice_get s.memories me ≡ Some memory
-  pub next : slice_get posts.next_generations segment ≡ Some generation
+  pub next : slice_get posts.segments.next_generations segment ≡ Some generation
   pub free : segment_at memory segment ≡ None
   pub after : t ≡ record s {
     posts = slice_set s.posts me (record (counted posts) {
-      own = slice_set posts.own segment (Some (record { generation = generation; size = size }));
-      next_generations = slice_set posts.next_generations segment (generation + 1);
+      segments = record posts.segments {
+        own = slice_set posts.segments.own segment (Some (record { generation = generation; size = size }));
+        next_generations = slice_set posts.segments.next_generations segment (generation + 1);
+      };
     });
     memories = slice_set s.memories me (record {
-      segments = slice_set memory.segments segment (Some (record { generation = generation; bytes = replicate size 0; slots = replicate s.limits.notes 0 }));
+      segments = slice_set memory.segments segment (Some (record { generation = generation; bytes = replicate size 0 }));
+      slots = slice_set memory.slots segment (Some (replicate s.limits.notes 0));
     });
   }
 
@@ -261,6 +251,6 @@ pub record IsGone (s t : State) (me segment : ℕ) : Type 0 where
   pub old_there : segment_at memory segment ≡ Some old
   pub unused : user_of posts.queues segment ≡ None
   pub after : t ≡ record s {
-    posts = slice_set s.posts me (record (counted posts) { own = slice_set posts.own segment None });
-    memories = slice_set s.memories me (record { segments = slice_set memory.segments segment None });
+    posts = slice_set s.posts me (record (counted posts) { segments = record posts.segments { own = slice_set posts.segments.own segment None } });
+    memories = slice_set s.memories me (record { segments = slice_set memory.segments segment None; slots = slice_set memory.slots segment None });
   }

@@ -6,30 +6,28 @@ use Rattle.std.specs.Option.{option_map}
 use Rattle.gaspi_types.specs.SegmentBytes.{is_within}
 use Rattle.gaspi_types.specs.SegmentTables.{extent_in, next_generation}
 use Rattle.gaspi_types.specs.declared.entries.Entry.{Entry}
-use Rattle.gaspi_types.specs.declared.entries.Extent.{Extent}
+use Rattle.gaspi_types.specs.declared.segments.Extent.{Extent}
 use Rattle.gaspi_types.specs.declared.entries.ByteRange.{ByteRange}
 use Rattle.gaspi_types.specs.declared.entries.Kind.{Kind}
 use Rattle.gaspi_types.specs.declared.entries.Kind.TheVariants.{Write, Notify}
 use Rattle.gaspi_types.specs.declared.entries.Phase.{Phase}
 use Rattle.gaspi_types.specs.declared.entries.Phase.TheVariants.{Posted, Carried, Failed}
-use Rattle.gaspi_model.specs.State.{entry_at}
-use Rattle.gaspi_model.specs.declared.states.Queue.{Queue}
+use Rattle.gaspi_types.specs.Segments.{extents_of}
+use Rattle.gaspi_types.specs.declared.entries.Queue.{Queue}
 use Rattle.gaspi_model.specs.declared.states.Posts.{Posts}
-use Rattle.gaspi_model.specs.declared.states.Segment.{Segment}
 use Rattle.gaspi_model.specs.declared.states.Memory.{Memory}
 use Rattle.gaspi_model.specs.declared.states.State.{State}
 
--- the generation and the size of a segment
-abbrev pub extent_of : Segment → Extent
-extent_of s = record { generation = s.generation; size = length s.bytes }
-
--- the segments of a memory as a table
-abbrev pub extents_of : Memory → List (Option Extent)
-extents_of memory = map (option_map extent_of) memory.segments
-
--- how many slots its segments have
+-- how many slots the segments of a memory have, and how many they are to have: so many each
 abbrev pub slot_counts : Memory → List (Option ℕ)
-slot_counts memory = map (option_map (λ (s : Segment). length s.slots)) memory.segments
+slot_counts memory = map (option_map length) memory.slots
+
+abbrev pub counts_of : ℕ → List (Option Extent) → List (Option ℕ)
+counts_of notes own = map (option_map (λ (x : Extent). notes)) own
+
+-- each segment has its slots, and no other has any
+abbrev pub HasSlots : ℕ → Memory → Type 0
+HasSlots notes memory = slot_counts memory ≡ counts_of notes (extents_of memory.segments)
 
 -- the segments of a rank in its posts: those that are there, and the generations that the next ones have
 pub record Tables : Type 0 where
@@ -37,7 +35,7 @@ pub record Tables : Type 0 where
   pub next : List ℕ
 
 abbrev pub tables_of : Posts → Tables
-tables_of p = record { own = p.own; next = p.next_generations }
+tables_of p = record { own = p.segments.own; next = p.segments.next_generations }
 
 -- of all ranks
 abbrev pub all_tables : List Posts → List Tables
@@ -94,8 +92,8 @@ Knows tables known =
     → WasMade theirs segment x.generation × ((y : Extent) → extent_in theirs.own segment ≡ Some y → y.generation ≡ x.generation → y.size ≡ x.size)
 
 pub record IsCoherent (s : State) : Type 0 where
-  pub own : (rank : ℕ) (posts : Posts) (memory : Memory) → slice_get s.posts rank ≡ Some posts → slice_get s.memories rank ≡ Some memory → posts.own ≡ extents_of memory
-  pub slots : (rank : ℕ) (memory : Memory) → slice_get s.memories rank ≡ Some memory → (segment n : ℕ) → entry_at (slot_counts memory) segment ≡ Some n → n ≡ s.limits.notes
+  pub own : (rank : ℕ) (posts : Posts) (memory : Memory) → slice_get s.posts rank ≡ Some posts → slice_get s.memories rank ≡ Some memory → posts.segments.own ≡ extents_of memory.segments
+  pub slots : (rank : ℕ) (memory : Memory) → slice_get s.memories rank ≡ Some memory → HasSlots s.limits.notes memory
   pub made : (rank : ℕ) (posts : Posts) → slice_get s.posts rank ≡ Some posts → AreMade (tables_of posts)
-  pub known : (rank : ℕ) (posts : Posts) → slice_get s.posts rank ≡ Some posts → Knows (all_tables s.posts) posts.known
+  pub known : (rank : ℕ) (posts : Posts) → slice_get s.posts rank ≡ Some posts → Knows (all_tables s.posts) posts.segments.known
   pub entries : (origin : ℕ) (posts : Posts) → slice_get s.posts origin ≡ Some posts → AllFit s.limits.notes (all_tables s.posts) origin posts.queues

@@ -14,7 +14,7 @@ use Rattle.gaspi_model.specs.declared.states.Memory.{Memory}
 
 abbrev pub store_finds : Posts → store.Store → Result (Option Reply) Refusal
 store_finds posts call = do
-  fits ← own_range_checks posts.own call.seg call.offset (length call.bytes)
+  fits ← own_range_checks posts.segments.own call.seg call.offset (length call.bytes)
   Ok (Some replies.Done)
 
 abbrev pub store_leaves : Memory → store.Store → Memory
@@ -22,5 +22,5 @@ store_leaves memory call = with_bytes memory call.seg (with_range (bytes_of memo
 
 abbrev pub load_finds : Posts → Memory → load.Load → Result (Option Reply) Refusal
 load_finds posts memory call = do
-  fits ← own_range_checks posts.own call.seg call.offset call.size
+  fits ← own_range_checks posts.segments.own call.seg call.offset call.size
   Ok (Some (replies.Bytes (range_of (bytes_of memory call.seg) call.offset call.size)))

@@ -18,14 +18,14 @@ use Rattle.gaspi_model.specs.declared.states.Memory.{Memory}
 -- ready where a slot of the range is set: the least such (notify_waitsome)
 abbrev pub waitsome_finds : Limits → Posts → Memory → waitsome.Waitsome → Result (Option Reply) Refusal
 waitsome_finds limits posts memory call = do
-  mine ← found (extent_in posts.own call.seg) NoSegment
+  mine ← found (extent_in posts.segments.own call.seg) NoSegment
   noted ← check (is_slot_range call.begin call.num limits.notes) BadNote
   Ok (option_map replies.Id (first_set (slots_of memory call.seg) call.begin call.num))
 
 -- (notify_reset)
 abbrev pub reset_finds : Limits → Posts → Memory → reset.Reset → Result (Option Reply) Refusal
 reset_finds limits posts memory call = do
-  mine ← found (extent_in posts.own call.seg) NoSegment
+  mine ← found (extent_in posts.segments.own call.seg) NoSegment
   noted ← check (nat_lt call.note limits.notes) BadNote
   Ok (Some (replies.Value (slice_index (slots_of memory call.seg) call.note)))
 

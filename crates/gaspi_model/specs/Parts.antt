@@ -61,7 +61,7 @@ lifted s me missing touched local = do
 
 -- a memory with no segment, and a memory that may be missing
 abbrev pub no_memory : Memory
-no_memory = record { segments = [] }
+no_memory = record { segments = []; slots = [] }
 
 abbrev pub memory_or_none : Option Memory → Memory
 memory_or_none None = no_memory

@@ -11,7 +11,7 @@ use Rattle.gaspi_types.specs.declared.replies.Refusal.{Refusal}
 use Rattle.gaspi_types.specs.declared.replies.Refusal.TheVariants.{BadRank, BadQueue, QueueFull, QueueBroken}
 use Rattle.gaspi_types.specs.declared.replies.Reply.{Reply}
 use Rattle.gaspi_types.specs.declared.replies.Reply.TheVariants as replies
-use Rattle.gaspi_model.specs.declared.states.Queue.{Queue}
+use Rattle.gaspi_types.specs.declared.entries.Queue.{Queue}
 use Rattle.gaspi_model.specs.declared.states.Posts.{Posts}
 
 -- a post is taken where its queue is not broken, and has room for all its entries
@@ -33,12 +33,12 @@ asked_finds limits posts rank queue asked = do
 
 -- (write)
 abbrev pub write_asks : ℕ → Posts → write.Write → Result (List Kind) Refusal
-write_asks me posts call = write_kinds me posts.own posts.known call
+write_asks me posts call = write_kinds me posts.segments call
 
 -- (notify)
 abbrev pub notify_asks : Limits → ℕ → Posts → notify.Notify → Result (List Kind) Refusal
-notify_asks limits me posts call = notify_kinds limits.notes me posts.own posts.known call
+notify_asks limits me posts call = notify_kinds limits.notes me posts.segments call
 
 -- (write_notify)
 abbrev pub write_notify_asks : Limits → ℕ → Posts → write_notify.WriteNotify → Result (List Kind) Refusal
-write_notify_asks limits me posts call = write_notify_kinds limits.notes me posts.own posts.known call
+write_notify_asks limits me posts call = write_notify_kinds limits.notes me posts.segments call

@@ -1,69 +1,60 @@
 -- The calls of segments: what they find, and what they leave. The lines of what a call finds stand in the order of its
 -- checks. (GASPI: segments)
-use Rattle.std.specs.Prelude.{ℕ, nat_lt, List, Option, None, Some, Result, Ok, slice_set, position}
-use Rattle.std.specs.List.{list_any}
+use Rattle.std.specs.Prelude.{ℕ, nat_lt, Option, None, Some, Result, Ok, slice_set}
 use Rattle.gaspi_types.specs.Checks.{◌>>=◌, check, found, absent}
-use Rattle.gaspi_types.specs.Lanes.{has_user}
-use Rattle.gaspi_types.specs.SegmentTables.{extent_in, alloc_checks, next_generation, with_generation}
+use Rattle.gaspi_types.specs.Queues.{user_of}
+use Rattle.gaspi_types.specs.Segments.{new_segment}
+use Rattle.gaspi_types.specs.SegmentTables.{extent_in, alloc_checks, next_generation}
+use Rattle.gaspi_types.specs.SegmentTables as tables
 use Rattle.gaspi_types.specs.declared.calls.segments.Alloc as alloc
 use Rattle.gaspi_types.specs.declared.calls.segments.Register as register
 use Rattle.gaspi_types.specs.declared.calls.segments.Delete as delete
-use Rattle.gaspi_types.specs.declared.entries.Extent.{Extent}
+use Rattle.gaspi_types.specs.declared.segments.Extent.{Extent}
 use Rattle.gaspi_types.specs.declared.shapes.Limits.{Limits}
 use Rattle.gaspi_types.specs.declared.replies.Refusal.{Refusal}
 use Rattle.gaspi_types.specs.declared.replies.Refusal.TheVariants.{BadRank, NoSegment, SegmentBusy}
 use Rattle.gaspi_types.specs.declared.replies.Reply.{Reply}
 use Rattle.gaspi_types.specs.declared.replies.Reply.TheVariants as replies
-use Rattle.gaspi_model.specs.State.{new_segment}
-use Rattle.gaspi_model.specs.Posting.{changed_at}
-use Rattle.gaspi_model.specs.declared.states.Queue.{Queue}
+use Rattle.gaspi_model.specs.State.{new_slots}
 use Rattle.gaspi_model.specs.declared.states.Posts.{Posts}
 use Rattle.gaspi_model.specs.declared.states.Memory.{Memory}
 
 -- (segment_alloc)
 abbrev pub alloc_finds : Posts → alloc.Alloc → Result (Option Reply) Refusal
 alloc_finds posts call = do
-  fits ← alloc_checks posts.own call.seg call.size
+  fits ← alloc_checks posts.segments.own call.seg call.size
   Ok (Some replies.Done)
 
 -- the posts with a segment more, of the next generation of its number
 abbrev pub with_own : Posts → ℕ → ℕ → Posts
-with_own posts seg size = record posts {
-  own = slice_set posts.own seg (Some (record { generation = next_generation posts.next_generations seg; size = size }));
-  next_generations = with_generation posts.next_generations seg;
-}
+with_own posts seg size = record posts { segments = tables.with_own posts.segments seg size }
 
 abbrev pub alloc_leaves : Limits → Posts → Memory → alloc.Alloc → Memory
 alloc_leaves limits posts memory call = record {
-  segments = slice_set memory.segments call.seg (Some (new_segment limits.notes (next_generation posts.next_generations call.seg) call.size));
+  segments = slice_set memory.segments call.seg (Some (new_segment (next_generation posts.segments.next_generations call.seg) call.size));
+  slots = slice_set memory.slots call.seg (Some (new_slots limits.notes));
 }
 
 -- (segment_register)
 abbrev pub register_finds : Limits → Posts → register.Register → Result (Option Reply) Refusal
 register_finds limits posts call = do
   ranked ← check (nat_lt call.rank limits.ranks) BadRank
-  mine ← found (extent_in posts.own call.seg) NoSegment
+  mine ← found (extent_in posts.segments.own call.seg) NoSegment
   Ok (Some replies.Done)
 
 -- the posts of a rank to which a segment of an owner is made known
 abbrev pub with_known : ℕ → ℕ → Option Extent → Posts → Posts
-with_known owner seg extent posts = record posts {
-  known = changed_at posts.known owner (λ table. slice_set table seg extent);
-}
-
--- the least queue with an entry that uses an own segment
-abbrev pub user_of : List Queue → ℕ → Option ℕ
-user_of queues seg = position (λ (q : Queue). list_any (has_user seg) q.lanes) queues
+with_known owner seg extent posts = record posts { segments = tables.with_known owner seg extent posts.segments }
 
 -- no entry of the rank's own uses the segment (segment_delete)
 abbrev pub delete_finds : Posts → delete.Delete → Result (Option Reply) Refusal
 delete_finds posts call = do
-  mine ← found (extent_in posts.own call.seg) NoSegment
+  mine ← found (extent_in posts.segments.own call.seg) NoSegment
   unused ← absent (user_of posts.queues call.seg) SegmentBusy
   Ok (Some replies.Done)
 
 abbrev pub without_own : Posts → ℕ → Posts
-without_own posts seg = record posts { own = slice_set posts.own seg None }
+without_own posts seg = record posts { segments = tables.without_own posts.segments seg }
 
 abbrev pub delete_leaves : Memory → delete.Delete → Memory
-delete_leaves memory call = record { segments = slice_set memory.segments call.seg None }
+delete_leaves memory call = record { segments = slice_set memory.segments call.seg None; slots = slice_set memory.slots call.seg None }

@@ -2,7 +2,7 @@
 use Rattle.std.specs.Prelude.{◌≡◌, ℕ, true, false, List, [], is_none, slice_get, Some}
 use Rattle.gaspi_types.specs.declared.entries.Entry.{Entry}
 use Rattle.gaspi_model.specs.Step.{is_active}
-use Rattle.gaspi_model.specs.declared.states.Queue.{Queue}
+use Rattle.gaspi_types.specs.declared.entries.Queue.{Queue}
 use Rattle.gaspi_model.specs.declared.states.Posts.{Posts}
 use Rattle.gaspi_model.specs.declared.states.State.{State}
 

@@ -2,12 +2,12 @@
 use Rattle.std.specs.Prelude.{◌≡◌, ℕ, ◌+◌, ◌-◌, ◌*◌, ◌<◌, ◌≤◌, true, nat_le, sum_by, count_by, List, [], ◌∷◌, length, slice_get, Option, None, Some}
 use Rattle.gaspi_types.specs.Lanes.{is_posted, is_failed, carried_count}
 use Rattle.gaspi_types.specs.declared.entries.Entry.{Entry}
-use Rattle.gaspi_types.specs.declared.entries.Extent.{Extent}
+use Rattle.gaspi_types.specs.declared.segments.Extent.{Extent}
 use Rattle.gaspi_types.specs.World.{are_limits}
 use Rattle.gaspi_types.specs.declared.shapes.Limits.{Limits}
 use Rattle.gaspi_model.specs.State.{owed}
 use Rattle.gaspi_model.specs.Coherence.{IsCoherent}
-use Rattle.gaspi_model.specs.declared.states.Queue.{Queue}
+use Rattle.gaspi_types.specs.declared.entries.Queue.{Queue}
 use Rattle.gaspi_model.specs.declared.states.Posts.{Posts}
 use Rattle.gaspi_model.specs.declared.states.State.{State}
 
@@ -53,9 +53,9 @@ pub record IsSoundQueue (depth : ℕ) (q : Queue) : Type 0 where
 pub record HasTables (limits : Limits) (posts : Posts) : Type 0 where
   pub queues : length posts.queues ≡ limits.queues
   pub corrupt : length posts.corrupt ≡ limits.ranks
-  pub own : length posts.own ≡ 32
-  pub known : length posts.known ≡ limits.ranks
-  pub known_segments : (rank : ℕ) (table : List (Option Extent)) → slice_get posts.known rank ≡ Some table → length table ≡ 32
+  pub own : length posts.segments.own ≡ 32
+  pub known : length posts.segments.known ≡ limits.ranks
+  pub known_segments : (rank : ℕ) (table : List (Option Extent)) → slice_get posts.segments.known rank ≡ Some table → length table ≡ 32
   pub threads : length posts.threads ≡ 4
 
 -- The posts of a rank: every table has its length; each queue has a lane to each rank, and is sound; what is recorded and owed has room; no event
@@ -66,8 +66,8 @@ pub record IsSoundPosts (limits : Limits) (posts : Posts) : Type 0 where
   pub lanes : (queue : ℕ) (q : Queue) → slice_get posts.queues queue ≡ Some q → length q.lanes ≡ limits.ranks
   pub room : posts.events + owed posts ≤ limits.events
   pub numbers : posts.next ≤ 256 * posts.events
-  pub numbered : length posts.next_generations ≡ 32
-  pub generations : (segment n : ℕ) → slice_get posts.next_generations segment ≡ Some n → n ≤ posts.events + 1
+  pub numbered : length posts.segments.next_generations ≡ 32
+  pub generations : (segment n : ℕ) → slice_get posts.segments.next_generations segment ≡ Some n → n ≤ posts.events + 1
   pub rising : (queue : ℕ) (q : Queue) → slice_get posts.queues queue ≡ Some q → (target : ℕ) (lane : List Entry) → slice_get q.lanes target ≡ Some lane → AreRising posts.next lane
   pub queues : (queue : ℕ) (q : Queue) → slice_get posts.queues queue ≡ Some q → IsSoundQueue limits.depth q
 

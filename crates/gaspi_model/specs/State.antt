@@ -1,21 +1,19 @@
 -- The state of the machine: what a rank has at the start, and what is read of it.
-use Rattle.std.specs.Prelude.{ℕ, ◌+◌, Bool, true, false, List, [], replicate, map, find, sum_by, count_by, Option, None, Some, if◌then◌else◌, slice_get, option_and_then}
+use Rattle.std.specs.Prelude.{ℕ, ◌+◌, Bool, true, false, List, [], replicate, map, find, sum_by, count_by, Option, None, Some, if◌then◌else◌, slice_get}
 use Rattle.std.specs.List.{list_any, range_with_len}
 use Rattle.std.specs.Option.{option_map}
 use Rattle.gaspi_types.specs.World.{World, is_segment, is_caller}
-use Rattle.gaspi_types.specs.Lanes.{lane_owed}
-use Rattle.gaspi_types.specs.declared.entries.Extent.{Extent}
-use Rattle.gaspi_model.specs.declared.states.Queue.{Queue}
+use Rattle.gaspi_types.specs.Queues.{queue_owed}
+use Rattle.gaspi_types.specs.Segments.{segment_in, new_segment}
+use Rattle.gaspi_types.specs.declared.segments.Extent.{Extent}
+use Rattle.gaspi_types.specs.declared.entries.Queue.{Queue}
 use Rattle.gaspi_model.specs.declared.states.ThreadState.{ThreadState}
 use Rattle.gaspi_model.specs.declared.states.ThreadState.TheVariants.{Absent, Running, Ended}
 use Rattle.gaspi_model.specs.declared.states.Posts.{Posts}
-use Rattle.gaspi_model.specs.declared.states.Segment.{Segment}
+use Rattle.gaspi_types.specs.declared.segments.Segment.{Segment}
+use Rattle.gaspi_types.specs.declared.segments.SegmentTable.{SegmentTable}
 use Rattle.gaspi_model.specs.declared.states.Memory.{Memory}
 use Rattle.gaspi_model.specs.declared.states.State.{State}
-
--- what stands at a place of a table of things that may be missing
-abbrev pub entry_at : {A : Type 0} → List (Option A) → ℕ → Option A
-entry_at {A} table place = option_and_then (λ (x : Option A). x) (slice_get table place)
 
 -- the size with which a segment of a rank is declared
 abbrev pub declared_size : World → ℕ → ℕ → Option ℕ
@@ -41,29 +39,37 @@ opening_thread w rank thread = if list_any (is_caller rank thread) w.callers the
 abbrev pub opening_queue : ℕ → Queue
 opening_queue ranks = record { open_count = 0; broken = None; lanes = replicate ranks [] }
 
+-- what a rank has and knows of segments: every rank knows the declared segments of all
+abbrev pub opening_table : World → ℕ → SegmentTable
+opening_table w rank = record {
+  own = opening_extents w rank;
+  next_generations = opening_generations w rank;
+  known = map (opening_extents w) (range_with_len 0 w.limits.ranks);
+}
+
 abbrev pub opening_posts : World → ℕ → Posts
 opening_posts w rank = record {
   queues = replicate w.limits.queues (opening_queue w.limits.ranks);
   corrupt = replicate w.limits.ranks false;
-  own = opening_extents w rank;
-  known = map (opening_extents w) (range_with_len 0 w.limits.ranks);
-  next_generations = opening_generations w rank;
+  segments = opening_table w rank;
   threads = map (opening_thread w rank) (range_with_len 0 4);
   events = 0;
   next = 0;
 }
 
--- a segment as it is made: zeros, with all slots zero
-abbrev pub new_segment : ℕ → ℕ → ℕ → Segment
-new_segment notes generation size = record { generation = generation; bytes = replicate size 0; slots = replicate notes 0 }
+-- the slots of a segment as it is made: all are zero (notifications)
+abbrev pub new_slots : ℕ → List ℕ
+new_slots notes = replicate notes 0
 
-abbrev pub opening_segment : ℕ → ℕ → Segment
-opening_segment notes size = new_segment notes 0 size
+-- the segments that a rank declares and their slots, by their numbers
+abbrev pub opening_segments : World → ℕ → List (Option Segment)
+opening_segments w rank = map (λ segment. option_map (new_segment 0) (declared_size w rank segment)) (range_with_len 0 32)
+
+abbrev pub opening_slots : World → ℕ → List (Option (List ℕ))
+opening_slots w rank = map (λ segment. option_map (λ size. new_slots w.limits.notes) (declared_size w rank segment)) (range_with_len 0 32)
 
 abbrev pub opening_memory : World → ℕ → Memory
-opening_memory w rank = record {
-  segments = map (λ segment. option_map (opening_segment w.limits.notes) (declared_size w rank segment)) (range_with_len 0 32);
-}
+opening_memory w rank = record { segments = opening_segments w rank; slots = opening_slots w rank }
 
 -- the state at the start: the shape's, all else zero or empty
 abbrev pub opening : World → State
@@ -88,9 +94,6 @@ is_running Ended = false
 
 -- own choice: the events for which room is kept. Each posted entry owes two, each carried one owes one, and each
 -- thread that has not ended owes its end.
-abbrev pub queue_owed : Queue → ℕ
-queue_owed q = sum_by lane_owed q.lanes
-
 abbrev pub entries_owed : Posts → ℕ
 entries_owed posts = sum_by queue_owed posts.queues
 
@@ -99,4 +102,4 @@ owed posts = entries_owed posts + count_by is_running posts.threads
 
 -- the segment of a memory, by its number
 abbrev pub segment_at : Memory → ℕ → Option Segment
-segment_at memory segment = entry_at memory.segments segment
+segment_at memory segment = segment_in memory.segments segment

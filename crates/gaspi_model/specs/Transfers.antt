@@ -14,9 +14,11 @@ use Rattle.gaspi_types.specs.declared.events.Outcome.TheVariants.{Applied, Faile
 use Rattle.gaspi_types.specs.declared.events.Transfer.{Transfer}
 use Rattle.gaspi_types.specs.declared.shapes.Limits.{Limits}
 use Rattle.gaspi_model.specs.State.{segment_at}
-use Rattle.gaspi_model.specs.Memories.{is_generation, bytes_of, slots_of, with_bytes, with_slots}
-use Rattle.gaspi_model.specs.Posting.{changed_at, counted}
-use Rattle.gaspi_model.specs.declared.states.Queue.{Queue}
+use Rattle.gaspi_types.specs.Segments.{is_generation}
+use Rattle.gaspi_model.specs.Memories.{bytes_of, slots_of, with_bytes, with_slots}
+use Rattle.gaspi_types.specs.Tables.{changed_at}
+use Rattle.gaspi_model.specs.Posting.{counted}
+use Rattle.gaspi_types.specs.declared.entries.Queue.{Queue}
 use Rattle.gaspi_model.specs.declared.states.Posts.{Posts}
 use Rattle.gaspi_model.specs.declared.states.Memory.{Memory}
 use Rattle.gaspi_model.specs.declared.states.Why.{Why}

@@ -35,7 +35,7 @@ ghost use Rattle.gaspi_types.specs.declared.replies.Reply.{Reply};
 ghost use Rattle.gaspi_types.specs.declared.replies.Reply.TheVariants as replies;
 ghost use Rattle.gaspi_types.specs.declared.shapes.CallerId.{CallerId};
 ghost use Rattle.gaspi_model.specs.Calls.{recorded_reply};
-ghost use Rattle.gaspi_model.specs.Changes.{IsOnlyCounted, IsAnswered, IsRead, IsReset, IsWaited, IsMade, IsGone, IsPutDone, IsPutFailed, IsTaken, IsRegistered, IsWritten, is_corrupt};
+ghost use Rattle.gaspi_model.specs.Changes.{IsOnlyCounted, IsAnswered, IsRead, AreSlotsRead, IsReset, IsWaited, IsMade, IsGone, IsPutDone, IsPutFailed, IsTaken, IsRegistered, IsWritten, is_corrupt};
 ghost use Rattle.gaspi_model.specs.Order.{IsNotificationStanding, IsWriteStanding};
 ghost use Rattle.gaspi_model.specs.Shards.{AgreeOn, ComeToSame, HaveSamePart, is_shard, same_shard, footprint, numbers_of, is_among};
 ghost use Rattle.gaspi_model.specs.declared.states.Shard.{Shard};
@@ -64,6 +64,7 @@ pub fn soundness()
     ensures limits { (s t : State) (e : Event) → step s e ≡ Ok t → t.limits ≡ s.limits }
     // A memory has a place for each number of a segment.
     ensures segments { (s : State) (rank : ℕ) (memory : Memory) → IsSound s → slice_get s.memories rank ≡ Some memory → length memory.segments ≡ 32 }
+    ensures slots { (s : State) (rank : ℕ) (memory : Memory) → IsSound s → slice_get s.memories rank ≡ Some memory → length memory.slots ≡ 32 }
     // Each event takes one of the events that are left.
     ensures counts { (s t : State) (e : Event) → IsSound s → step s e ≡ Ok t → events_left t + 1 ≡ events_left s }
     // A caller goes on until its end.
@@ -110,7 +111,7 @@ pub fn changes()
     ensures load { (s t : State) (c : CallerId) (call : load.Load) (bytes : List ℕ) → IsSound s → step s (Called c (Load call) (replies.Bytes bytes)) ≡ Ok t
         → IsRead s t c.rank call.seg (λ x. bytes ≡ range_of x.bytes call.offset call.size) }
     ensures waitsome { (s t : State) (c : CallerId) (call : waitsome.Waitsome) (note : ℕ) → IsSound s → step s (Called c (Waitsome call) (replies.Id note)) ≡ Ok t
-        → IsRead s t c.rank call.seg (λ x. first_set x.slots call.begin call.num ≡ Some note) }
+        → AreSlotsRead s t c.rank call.seg (λ slots. first_set slots call.begin call.num ≡ Some note) }
     ensures reset { (s t : State) (c : CallerId) (call : reset.Reset) (value : ℕ) → IsSound s → step s (Called c (Reset call) (replies.Value value)) ≡ Ok t
         → IsReset s t c.rank call.seg call.note value }
     ensures store { (s t : State) (c : CallerId) (call : store.Store) → IsSound s → step s (Called c (Store call) replies.Done) ≡ Ok t

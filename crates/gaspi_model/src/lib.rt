@@ -8,4 +8,4 @@ pub use laws::{
     changes, coarser_locality, corruption, enabled, endings, listing, locality, notification_order,
     prefixes, settling, soundness,
 };
-pub use states::{Memory, Posts, Queue, Segment, Shard, State, StepFault, ThreadState, Why};
+pub use states::{Memory, Posts, Shard, State, StepFault, ThreadState, Why};

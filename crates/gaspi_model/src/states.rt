@@ -1,17 +1,6 @@
 //! The state of the machine.
 
-use gaspi_types::{Bytes, Entry, Extent, Limits, RankId, Rows};
-
-/// A queue of a rank. (GASPI: one-sided communication)
-#[derive(Debug, PartialEq, Eq, Drop)]
-pub struct Queue {
-    /// How many entries were posted since the last wait that was done.
-    pub open_count: u32,
-    /// The target with which it is broken.
-    pub broken: Option<RankId>,
-    /// Its lane to each rank.
-    pub lanes: Rows<Rows<Entry>>,
-}
+use gaspi_types::{Limits, OwnSegments, Queue, RankId, Rows, SegmentTable};
 
 /// Whether a thread of a rank has a script, and has ended.
 #[derive(Clone, Copy, Debug, PartialEq, Eq)]
@@ -27,12 +16,8 @@ pub struct Posts {
     pub queues: Rows<Queue>,
     /// Which ranks are corrupt for this one. (GASPI: state vector)
     pub corrupt: Rows<bool>,
-    /// Its own segments, by their numbers.
-    pub own: Rows<Option<Extent>>,
-    /// What it knows of the segments of each rank.
-    pub known: Rows<Rows<Option<Extent>>>,
-    /// The generation that its next segment of each number has.
-    pub next_generations: Rows<u32>,
+    /// What it has and knows of segments.
+    pub segments: SegmentTable,
     /// Its threads, by their numbers.
     pub threads: Rows<ThreadState>,
     /// How many events it has recorded.
@@ -41,19 +26,12 @@ pub struct Posts {
     pub next: u32,
 }
 
-/// A segment of a rank. (GASPI: segments)
-#[derive(Debug, PartialEq, Eq, Drop)]
-pub struct Segment {
-    pub generation: u32,
-    pub bytes: Bytes,
-    /// Its notification slots. (GASPI: notifications)
-    pub slots: Rows<u32>,
-}
-
-/// The memory of a rank: its segments, by their numbers.
+/// The memory of a rank: two tables, by the numbers of its segments.
 #[derive(Debug, PartialEq, Eq, Drop)]
 pub struct Memory {
-    pub segments: Rows<Option<Segment>>,
+    pub segments: OwnSegments,
+    /// The notification slots of each segment. (GASPI: notifications)
+    pub slots: Rows<Option<Rows<u32>>>,
 }
 
 /// The state of the machine: the limits, and the posts and the memory of each rank.

@@ -9,9 +9,8 @@ use Rattle.gaspi_types.specs.declared.calls.Call.{Call}
 use Rattle.gaspi_types.specs.declared.replies.Reply.{Reply}
 use Rattle.gaspi_types.specs.declared.events.Event.{Event}
 use Rattle.gaspi_types.specs.declared.events.Event.TheVariants.{Called, Take, Put}
-use Rattle.gaspi_model.proofs.Tables.{slice_get-replicate}
-use Rattle.gaspi_model.proofs.Tables.{changed_at-found}
-use Rattle.gaspi_model.specs.Posting.{changed_at}
+use Rattle.gaspi_types.proofs.Items.{slice_get-replicate, changed_at-found}
+use Rattle.gaspi_types.specs.Tables.{changed_at}
 use Rattle.gaspi_model.specs.Step.{own_calls}
 use Rattle.gaspi_run.specs.OwnCalls.{pairs_of, HasCallers, IsCallTable}
 use Rattle.gaspi_run.specs.declared.own_calls.OwnCall.{OwnCall}

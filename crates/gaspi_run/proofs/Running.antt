@@ -13,7 +13,7 @@ use Rattle.gaspi_types.specs.declared.events.Event.{Event}
 use Rattle.gaspi_types.specs.declared.events.Event.TheVariants.{Called, Take, Put}
 use Rattle.gaspi_model.specs.Step.{reached, room_taken, own_calls, is_active}
 use Rattle.gaspi_model.specs.declared.states.State.{State}
-use Rattle.gaspi_model.proofs.Tables.{slice_get-set_same, slice_get-set_other}
+use Rattle.gaspi_types.proofs.Items.{slice_get-set_same, slice_get-set_other}
 use Rattle.rank_script.specs.Runs.{Progress, Going, Over, going_on, advanced, stopped, is_stuck, is_retried, is_failed, Follows, IsRun}
 use Rattle.rank_script.specs.WorldText.{is_script_of}
 use Rattle.rank_script.specs.declared.scripts.Script.{Script}

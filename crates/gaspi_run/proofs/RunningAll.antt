@@ -1,12 +1,11 @@
 -- Every turn of the schedule keeps that the callers' calls are runs of their scripts.
 use Rattle.std.proofs.Common.{◌≡◌, ◌≢◌, ℕ, zero, suc, ◌+◌, ◌-◌, ◌<◌, ◌≤◌, Bool, true, false, List, [], length, Option, None, Some, Result, Ok, Err, refl, sym, ap, ◌∙◌, subst, arith, nat_lt, nat_le, ◌==◌, IsOk, inl, inr, append-nil, if◌then◌else◌}
-use Rattle.std.specs.List.{slice_get}
-use Rattle.std.specs.List.{All}
+use Rattle.std.specs.List.{slice_get, All}
 use Rattle.std.proofs.lemmas.Bool.{ltb-true, ltb-false}
 use Rattle.std.proofs.lemmas.List.Elements.{All-get_or}
 use Rattle.std.proofs.lemmas.Option.{slice_get_within, get_or_from_slice_get}
 use Rattle.gaspi_types.specs.World.{World}
-use Rattle.gaspi_types.specs.CallRows.{need_of}
+use Rattle.gaspi_types.specs.CallRows.{need_of, is_end}
 use Rattle.gaspi_types.specs.declared.calls.Call.{Call}
 use Rattle.gaspi_types.specs.declared.calls.Call.TheVariants.{End}
 use Rattle.gaspi_types.specs.declared.replies.Reply.TheVariants as replies
@@ -19,13 +18,12 @@ use Rattle.gaspi_model.specs.State.{thread_at, is_running}
 use Rattle.gaspi_model.specs.Calls.{recorded_reply}
 use Rattle.gaspi_model.specs.Sound.{IsSound}
 use Rattle.gaspi_model.specs.Step.{step, transfer_event, answer_in, room_taken, own_calls, is_active, ends_caller}
-use Rattle.gaspi_types.specs.CallRows.{is_end}
 use Rattle.gaspi_model.specs.Transfers.{transfers}
 use Rattle.gaspi_model.specs.declared.states.Posts.{Posts}
 use Rattle.gaspi_model.specs.declared.states.Memory.{Memory}
 use Rattle.gaspi_model.specs.declared.states.State.{State}
 use Rattle.gaspi_model.specs.declared.states.Why.{Why}
-use Rattle.gaspi_model.proofs.Tables.{past-none}
+use Rattle.gaspi_types.proofs.Items.{past-none}
 use Rattle.rank_script.specs.PlainScripts.{IsPlain, HasPlainLines, ArePlain}
 use Rattle.rank_script.specs.Runs.{Progress, Going, Over, going_on, stopped, Follows}
 use Rattle.rank_script.specs.declared.scripts.Halted.TheVariants as halts

@@ -13,7 +13,7 @@ use Rattle.gaspi_types.specs.declared.events.Event.TheVariants.{Called}
 use Rattle.gaspi_model.specs.Step.{step, own_calls, is_active, ends_caller}
 use Rattle.gaspi_types.specs.CallRows.{is_end}
 use Rattle.gaspi_model.specs.declared.states.State.{State}
-use Rattle.gaspi_model.proofs.Tables.{slice_get-set}
+use Rattle.gaspi_types.proofs.Items.{slice_get-set}
 use Rattle.rank_script.specs.Runs.{Progress, Going, Over, going_on, advanced, stopped, Follows}
 use Rattle.rank_script.specs.declared.scripts.Script.{Script}
 use Rattle.rank_script.specs.declared.scripts.ScriptLine.{ScriptLine}

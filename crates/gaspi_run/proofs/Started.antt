@@ -10,7 +10,7 @@ use Rattle.gaspi_types.specs.declared.shapes.CallerId.{CallerId}
 use Rattle.gaspi_model.specs.State.{opening, opening_posts, opening_thread}
 use Rattle.gaspi_model.specs.Sound.{IsSound}
 use Rattle.gaspi_model.specs.Step.{is_active}
-use Rattle.gaspi_model.proofs.Tables.{flat_map-parts}
+use Rattle.gaspi_types.proofs.Items.{flat_map-parts}
 use Rattle.rank_script.specs.Runs.{going_on}
 use Rattle.rank_script.specs.WorldText.{is_script_of, AreScriptsOf}
 use Rattle.rank_script.specs.declared.scripts.Script.{Script}

@@ -1,8 +1,7 @@
 -- What is told of an input, and how it is answered.
-use Rattle.std.proofs.Common.{◌≡◌, ℕ, ◌+◌, ◌≤◌, ◌⊎◌, Bool, false, nat_lt, if◌then◌else◌, inl, inr, List, Option, None, Some, [], Result, Ok, Err, IfOk, length, take, refl, ap, ◌∙◌}
+use Rattle.std.proofs.Common.{◌≡◌, ℕ, ◌+◌, ◌≤◌, ◌⊎◌, Bool, false, nat_lt, if◌then◌else◌, inl, inr, List, Option, None, Some, [], Result, Ok, Err, IfOk, length, take, refl, ap, ◌∙◌, arith}
 use Rattle.std.proofs.Math.ListN.{drop}
 use Rattle.std.proofs.lemmas.Bool.Decides.{nat_tests}
-use Rattle.std.proofs.Common.{arith}
 use Rattle.std.specs.Option.{ForSome}
 use Rattle.gaspi_types.specs.declared.events.Event.{Event}
 use Rattle.gaspi_types.specs.World.{World}

@@ -1,7 +1,7 @@
 //! The calls of each caller in a history, found in one pass.
 
 ghost use Rattle.std.specs.Prelude.{◌≡◌, ◌++◌, ◌∷◌, [], List, replicate, OnOk, IfOk};
-ghost use Rattle.gaspi_model.specs.Posting.{changed_at};
+ghost use Rattle.gaspi_types.specs.Tables.{changed_at};
 ghost use Rattle.gaspi_run.specs.OwnCalls.{HasCallers, IsCallTable};
 ghost use Rattle.gaspi_run.specs.declared.own_calls.OwnCall.{OwnCall};
 

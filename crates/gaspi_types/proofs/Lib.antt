@@ -1,1 +1,4 @@
 pub mod Declarations
+pub mod Items
+pub mod Extents
+pub mod Written

@@ -5,11 +5,14 @@ pub mod Fields
 pub mod Lanes
 pub mod Lending
 pub mod Posts
+pub mod Queues
 pub mod Ranges
 pub mod Replies
 pub mod SegmentBytes
 pub mod SegmentTables
 pub mod SegmentWords
+pub mod Segments
 pub mod Slots
+pub mod Tables
 pub mod Touches
 pub mod World

@@ -1,5 +1,5 @@
 -- The bytes of a segment. (GASPI: segments)
-use Rattle.std.specs.Prelude.{ℕ, ◌+◌, List, ◌++◌, length, take, drop, nat_le, if◌then◌else◌, Bool, Result}
+use Rattle.std.specs.Prelude.{◌≡◌, ℕ, ◌+◌, ◌<◌, ◌≤◌, slice_get, List, ◌++◌, length, take, drop, nat_le, if◌then◌else◌, Bool, Result}
 use Rattle.gaspi_types.specs.Checks.{◌>>=◌, check}
 use Rattle.gaspi_types.specs.Ranges.{is_between}
 use Rattle.gaspi_types.specs.declared.replies.Refusal.{Refusal}
@@ -27,3 +27,11 @@ range_of bytes offset size = take size (drop offset bytes)
 abbrev pub with_range : List ℕ → ℕ → List ℕ → List ℕ
 with_range bytes offset new =
     if is_within offset (length new) (length bytes) then take offset bytes ++ new ++ drop (offset + length new) bytes else bytes
+
+-- exactly a range of bytes: there the written ones stand, and everywhere else what stood before
+pub record IsRangeWritten (old new written : List ℕ) (offset : ℕ) : Type 0 where
+  pub size : length new ≡ length old
+  pub within : offset + length written ≤ length old
+  pub there : (k : ℕ) → k < length written → slice_get new (offset + k) ≡ slice_get written k
+  pub before : (k : ℕ) → k < offset → slice_get new k ≡ slice_get old k
+  pub behind : (k : ℕ) → offset + length written ≤ k → slice_get new k ≡ slice_get old k

@@ -1,9 +1,11 @@
 -- Tables of segments: what a rank has, and what it knows of others, by the numbers of the segments. (GASPI: segments)
-use Rattle.std.specs.Prelude.{ℕ, ◌+◌, ◌==◌, nat_lt, List, Option, None, Result, if◌then◌else◌, slice_get, slice_set, slice_index, option_and_then}
+use Rattle.std.specs.Prelude.{ℕ, ◌+◌, ◌==◌, nat_lt, List, Option, None, Some, Result, if◌then◌else◌, slice_get, slice_set, slice_index, option_and_then}
 use Rattle.gaspi_types.specs.Checks.{◌>>=◌, check, found, absent}
 use Rattle.gaspi_types.specs.SegmentBytes.{range_checks}
+use Rattle.gaspi_types.specs.Tables.{changed_at}
 use Rattle.gaspi_types.specs.World.{is_segment_size}
-use Rattle.gaspi_types.specs.declared.entries.Extent.{Extent}
+use Rattle.gaspi_types.specs.declared.segments.Extent.{Extent}
+use Rattle.gaspi_types.specs.declared.segments.SegmentTable.{SegmentTable}
 use Rattle.gaspi_types.specs.declared.replies.Refusal.{Refusal}
 use Rattle.gaspi_types.specs.declared.replies.Refusal.TheVariants.{NoSegment, SegmentThere, BadSize}
 
@@ -13,9 +15,9 @@ extent_in table segment =
     if nat_lt segment 32 then option_and_then (λ (x : Option Extent). x) (slice_get table segment) else None
 
 -- what the rank knows of a segment of a rank: of its own what is there, of others what was made known to it
-abbrev pub known_extent : ℕ → List (Option Extent) → List (List (Option Extent)) → ℕ → ℕ → Option Extent
-known_extent me own known rank segment =
-    if rank == me then extent_in own segment else option_and_then (λ table. extent_in table segment) (slice_get known rank)
+abbrev pub known_extent : ℕ → SegmentTable → ℕ → ℕ → Option Extent
+known_extent me table rank segment =
+    if rank == me then extent_in table.own segment else option_and_then (λ known. extent_in known segment) (slice_get table.known rank)
 
 -- what a range of an own segment is refused for
 abbrev pub own_range_checks : List (Option Extent) → ℕ → ℕ → ℕ → Result (Unit {0}) Refusal
@@ -36,3 +38,20 @@ next_generation generations segment = slice_index generations segment
 
 abbrev pub with_generation : List ℕ → ℕ → List ℕ
 with_generation generations segment = slice_set generations segment (next_generation generations segment + 1)
+
+-- What calls change.
+
+-- an own segment more, of the next generation of its number (segment_alloc)
+abbrev pub with_own : SegmentTable → ℕ → ℕ → SegmentTable
+with_own table segment size = record table {
+  own = slice_set table.own segment (Some (record { generation = next_generation table.next_generations segment; size = size }));
+  next_generations = with_generation table.next_generations segment;
+}
+
+-- an own segment less (segment_delete)
+abbrev pub without_own : SegmentTable → ℕ → SegmentTable
+without_own table segment = record table { own = slice_set table.own segment None }
+
+-- a segment of an owner made known (segment_register)
+abbrev pub with_known : ℕ → ℕ → Option Extent → SegmentTable → SegmentTable
+with_known owner segment extent table = record table { known = changed_at table.known owner (λ known. slice_set known segment extent) }

@@ -1,13 +1,8 @@
-//! Entries of lanes: the requests that a post appends, and that transfers carry out.
+//! Queues, and the entries of their lanes: the requests that a post appends, and that transfers carry out.
+//! (GASPI: one-sided communication)
 
-use crate::lists::Bytes;
-
-/// What is known of a segment: its generation and its size in bytes. (GASPI: segments)
-#[derive(Clone, Copy, Debug, PartialEq, Eq)]
-pub struct Extent {
-    pub generation: u32,
-    pub size: u32,
-}
+use crate::ids::RankId;
+use crate::lists::{Bytes, Rows};
 
 /// A range of bytes of a segment of that generation.
 #[derive(Clone, Copy, Debug, PartialEq, Eq)]
@@ -53,4 +48,15 @@ pub struct Entry {
     pub number: u32,
     pub kind: Kind,
     pub phase: Phase,
+}
+
+/// A queue of a rank. (GASPI: one-sided communication)
+#[derive(Debug, PartialEq, Eq, Drop)]
+pub struct Queue {
+    /// How many entries were posted since the last wait that was done.
+    pub open_count: u32,
+    /// The target with which it is broken.
+    pub broken: Option<RankId>,
+    /// Its lane to each rank.
+    pub lanes: Rows<Rows<Entry>>,
 }

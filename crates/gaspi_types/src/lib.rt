@@ -22,16 +22,13 @@ pub use calls::{
 };
 pub use collectives::{Coll, NumType, Numbers, Op, Stage};
 pub use comparisons::same_reply;
-pub use entries::{ByteRange, Entry, Extent, Kind, NoteSlot, Phase};
+pub use entries::{ByteRange, Entry, Kind, NoteSlot, Phase, Queue};
 pub use events::{Event, Outcome, Transfer};
 pub use ids::{NoteId, QueueId, RankId, SegId, ThreadId};
 pub use lists::{Bytes, Rows};
 pub use memory::NoMemory;
 pub use replies::{Ready, Refusal, Reply};
-pub use segments::{
-    Extents, add_to_word, check_range, check_word, extent_in, is_segment_size, is_transfer_size,
-    is_within, range_of, set_range, swap_word, word_at,
-};
+pub use segments::{Extent, Extents, OwnSegments, Segment, SegmentTable, is_segment_size};
 pub use shapes::{CallerId, Declared, Limits, Shape, ShapeFault};
 pub use touches::{Reach, Touch};
 

@@ -1,5 +1,5 @@
 -- A write and the notification behind it ask for the entries of both.
-use Rattle.std.proofs.Common.{◌≡◌, ℕ, Bool, true, false, not, ◌==◌, nat_lt, List, [], ◌∷◌, ◌++◌, Option, None, Some, Ok, refl}
+use Rattle.std.proofs.Common.{◌≡◌, ℕ, Bool, true, false, not, ◌==◌, nat_lt, [], ◌∷◌, ◌++◌, Option, None, Some, Ok, refl}
 use Rattle.gaspi_types.specs.Checks.{◌>>=◌, check}
 use Rattle.gaspi_types.specs.Posts.{write_kinds, notify_kinds, write_notify_kinds}
 use Rattle.gaspi_types.specs.SegmentTables.{extent_in, known_extent}
@@ -7,7 +7,8 @@ use Rattle.gaspi_types.specs.SegmentBytes.{is_transfer_size, is_within}
 use Rattle.gaspi_types.specs.declared.calls.posts.Write.{Write}
 use Rattle.gaspi_types.specs.declared.calls.posts.Notify.{Notify}
 use Rattle.gaspi_types.specs.declared.calls.posts.WriteNotify.{WriteNotify}
-use Rattle.gaspi_types.specs.declared.entries.Extent.{Extent}
+use Rattle.gaspi_types.specs.declared.segments.Extent.{Extent}
+use Rattle.gaspi_types.specs.declared.segments.SegmentTable.{SegmentTable}
 use Rattle.gaspi_types.specs.declared.entries.Kind.{Kind}
 use Rattle.gaspi_types.specs.declared.replies.Refusal.{Refusal}
 
@@ -17,10 +18,10 @@ write_in call = record { seg = call.seg; offset = call.offset; rank = call.rank;
 abbrev notify_in : WriteNotify → Notify
 notify_in call = record { rseg = call.rseg; rank = call.rank; note = call.note; value = call.value; queue = call.queue }
 
-pub both_kinds : (notes me : ℕ) (own : List (Option Extent)) (known : List (List (Option Extent))) (call : WriteNotify)
-    → write_notify_kinds notes me own known call
-    ≡ (write_kinds me own known (write_in call) >>= (λ write. notify_kinds notes me own known (notify_in call) >>= (λ notify. Ok (write ++ notify))))
-both_kinds notes me own known call = by_extents (extent_in own call.seg) (known_extent me own known call.rank call.rseg) refl refl
+pub both_kinds : (notes me : ℕ) (table : SegmentTable) (call : WriteNotify)
+    → write_notify_kinds notes me table call
+    ≡ (write_kinds me table (write_in call) >>= (λ write. notify_kinds notes me table (notify_in call) >>= (λ notify. Ok (write ++ notify))))
+both_kinds notes me table call = by_extents (extent_in table.own call.seg) (known_extent me table call.rank call.rseg) refl refl
   where
     checks : (sized from to noted valued : Bool) (e1 e2 e3 e4 e5 : Refusal) (write notify : Kind)
         → (check sized e1 >>= (λ u. check from e2 >>= (λ u. check to e3 >>= (λ u. check noted e4 >>= (λ u. check valued e5 >>= (λ u. Ok (write ∷ notify ∷ [])))))))
@@ -33,9 +34,9 @@ both_kinds notes me own known call = by_extents (extent_in own call.seg) (known_
     checks true true true true false e1 e2 e3 e4 e5 write notify = refl
     checks true true true true true e1 e2 e3 e4 e5 write notify = refl
 
-    by_extents : (mine theirs : Option Extent) → extent_in own call.seg ≡ mine → known_extent me own known call.rank call.rseg ≡ theirs
-        → write_notify_kinds notes me own known call
-        ≡ (write_kinds me own known (write_in call) >>= (λ write. notify_kinds notes me own known (notify_in call) >>= (λ notify. Ok (write ++ notify))))
+    by_extents : (mine theirs : Option Extent) → extent_in table.own call.seg ≡ mine → known_extent me table call.rank call.rseg ≡ theirs
+        → write_notify_kinds notes me table call
+        ≡ (write_kinds me table (write_in call) >>= (λ write. notify_kinds notes me table (notify_in call) >>= (λ notify. Ok (write ++ notify))))
     by_extents None theirs a b = rw a refl
     by_extents (Some mine) None a b = rw (a, b) refl
     by_extents (Some mine) (Some theirs) a b =

@@ -21,12 +21,14 @@ use Rattle.gaspi_types.specs.declared.replies.Reply.{Reply}
 use Rattle.gaspi_types.specs.declared.replies.Reply.TheVariants as replies
 use Rattle.gaspi_types.specs.declared.replies.Ready.TheVariants as ready
 use Rattle.gaspi_types.specs.declared.replies.Refusal.TheVariants.{CallerEnded}
-use Rattle.gaspi_model.specs.State.{thread_at, is_running, owed, queue_owed}
+use Rattle.gaspi_model.specs.State.{thread_at, is_running, owed}
+use Rattle.gaspi_types.specs.Queues.{queue_owed, with_entries}
 use Rattle.gaspi_model.specs.Calls.{call_asks, call_finds, answer, ready_of, recorded_reply, posts_done, posts_after, charge}
-use Rattle.gaspi_model.specs.Posting.{with_entries, with_post, changed_at}
+use Rattle.gaspi_model.specs.Posting.{with_post}
+use Rattle.gaspi_types.specs.Tables.{changed_at}
 use Rattle.gaspi_model.specs.SegmentCalls.{alloc_finds}
 use Rattle.gaspi_model.specs.Sound.{IsSoundPosts}
-use Rattle.gaspi_model.specs.declared.states.Queue.{Queue}
+use Rattle.gaspi_types.specs.declared.entries.Queue.{Queue}
 use Rattle.gaspi_model.specs.declared.states.Posts.{Posts}
 use Rattle.gaspi_model.specs.declared.states.Memory.{Memory}
 use Rattle.gaspi_model.specs.declared.states.ThreadState.{ThreadState}
@@ -107,14 +109,14 @@ post_room limits posts rank queue asked reply entries few limited sound p long =
 alloc_room : (limits : Limits) (posts : Posts) (call : alloc.Alloc) (reply : Reply) → are_limits limits ≡ true → IsSoundPosts limits posts
     → alloc_finds posts call ≡ Ok (Some reply) → HasAllocRoom posts call
 alloc_room limits posts call reply limited sound is =
-    passed (alloc_checks posts.own call.seg call.size) _ _ is (λ u fits more.
+    passed (alloc_checks posts.segments.own call.seg call.size) _ _ is (λ u fits more.
     passed (check (nat_lt call.seg 32) _) _ _ fits (λ u numbered more.
-    passed (absent (extent_in posts.own call.seg) _) _ _ more (λ u free more.
+    passed (absent (extent_in posts.segments.own call.seg) _) _ _ more (λ u free more.
     let sized = check_holds _ _ _ more in
     let below = check_holds _ _ _ numbered in
     let long = sound.numbered in
-    let within : call.seg < length posts.next_generations = grind (arith, nat_tests) in
-    let next = sound.generations call.seg (get_or posts.next_generations call.seg 0) (slice_get-get_or posts.next_generations call.seg 0 within) in
+    let within : call.seg < length posts.segments.next_generations = grind (arith, nat_tests) in
+    let next = sound.generations call.seg (get_or posts.segments.next_generations call.seg 0) (slice_get-get_or posts.segments.next_generations call.seg 0 within) in
     let room = sound.room in
     (grind (arith, nat_tests), grind (arith, nat_tests)))))
 

@@ -1,7 +1,7 @@
 -- Steps that may fail, read backwards: what was passed where the last was reached.
 use Rattle.std.proofs.Common.{◌≡◌, ℕ, Bool, true, false, Option, None, Some, Result, Ok, Err, List, slice_get, slice_set, refl}
 use Rattle.gaspi_types.specs.Checks.{◌>>=◌, check, found, absent}
-use Rattle.gaspi_model.specs.Posting.{changed_at}
+use Rattle.gaspi_types.specs.Tables.{changed_at}
 
 pub passed : {A B E P : Type 0} → (m : Result A E) (f : A → Result B E) (y : B) → (m >>= f) ≡ Ok y → ((x : A) → m ≡ Ok x → f x ≡ Ok y → P) → P
 passed (Ok x) f y is then = then x refl is

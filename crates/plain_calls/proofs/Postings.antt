@@ -12,7 +12,7 @@ use Rattle.gaspi_types.specs.declared.calls.Call.TheVariants.{Write, Notify, Wri
 use Rattle.gaspi_types.specs.declared.calls.posts.Write as write
 use Rattle.gaspi_types.specs.declared.calls.posts.Notify as notify
 use Rattle.gaspi_types.specs.declared.calls.posts.WriteNotify as write_notify
-use Rattle.gaspi_types.specs.declared.entries.Extent.{Extent}
+use Rattle.gaspi_types.specs.declared.segments.SegmentTable.{SegmentTable}
 use Rattle.gaspi_types.specs.declared.entries.Kind.{Kind}
 use Rattle.gaspi_types.specs.declared.shapes.Limits.{Limits}
 use Rattle.gaspi_types.specs.declared.replies.Refusal.{Refusal}
@@ -21,7 +21,7 @@ use Rattle.gaspi_types.specs.declared.replies.Reply.TheVariants as replies
 use Rattle.gaspi_model.specs.Calls.{call_asks, call_finds, posts_done, charge}
 use Rattle.gaspi_model.specs.PostCalls.{asked_finds}
 use Rattle.gaspi_model.specs.Posting.{with_post}
-use Rattle.gaspi_model.specs.declared.states.Queue.{Queue}
+use Rattle.gaspi_types.specs.declared.entries.Queue.{Queue}
 use Rattle.gaspi_model.specs.declared.states.Posts.{Posts}
 use Rattle.gaspi_model.specs.declared.states.Memory.{Memory}
 use Rattle.gaspi_model.specs.declared.states.ThreadState.{ThreadState}
@@ -58,26 +58,26 @@ same_length : (those kinds : List Kind) → ◌≡◌ {A = Result (List Kind) Re
 same_length those kinds is = let same : those ≡ kinds = cc in sym (ap length same)
 
 -- a write
-one_write : (me : ℕ) (own : List (Option Extent)) (known : List (List (Option Extent))) (call : write.Write) → HasLength (write_kinds me own known call) 1
-one_write me own known call kinds is =
-    passed (found (extent_in own call.seg) _) _ _ is (λ mine a more.
-    passed (found (known_extent me own known call.rank call.rseg) _) _ _ more (λ theirs a more.
+one_write : (me : ℕ) (table : SegmentTable) (call : write.Write) → HasLength (write_kinds me table call) 1
+one_write me table call kinds is =
+    passed (found (extent_in table.own call.seg) _) _ _ is (λ mine a more.
+    passed (found (known_extent me table call.rank call.rseg) _) _ _ more (λ theirs a more.
     passed (check (is_transfer_size call.size) _) _ _ more (λ u a more.
     passed (check (is_within call.offset call.size mine.size) _) _ _ more (λ u a more.
     passed (check (is_within call.roffset call.size theirs.size) _) _ _ more (λ u a more. same_length (_ ∷ []) kinds more)))))
 
 -- a notification
-one_notify : (notes me : ℕ) (own : List (Option Extent)) (known : List (List (Option Extent))) (call : notify.Notify) → HasLength (notify_kinds notes me own known call) 1
-one_notify notes me own known call kinds is =
-    passed (found (known_extent me own known call.rank call.rseg) _) _ _ is (λ theirs a more.
+one_notify : (notes me : ℕ) (table : SegmentTable) (call : notify.Notify) → HasLength (notify_kinds notes me table call) 1
+one_notify notes me table call kinds is =
+    passed (found (known_extent me table call.rank call.rseg) _) _ _ is (λ theirs a more.
     passed (check (nat_lt call.note notes) _) _ _ more (λ u a more.
     passed (check (not (call.value == 0)) _) _ _ more (λ u a more. same_length (_ ∷ []) kinds more)))
 
 -- a write and its notification
-two_kinds : (notes me : ℕ) (own : List (Option Extent)) (known : List (List (Option Extent))) (call : write_notify.WriteNotify) → HasLength (write_notify_kinds notes me own known call) 2
-two_kinds notes me own known call kinds is =
-    passed (found (extent_in own call.seg) _) _ _ is (λ mine a more.
-    passed (found (known_extent me own known call.rank call.rseg) _) _ _ more (λ theirs a more.
+two_kinds : (notes me : ℕ) (table : SegmentTable) (call : write_notify.WriteNotify) → HasLength (write_notify_kinds notes me table call) 2
+two_kinds notes me table call kinds is =
+    passed (found (extent_in table.own call.seg) _) _ _ is (λ mine a more.
+    passed (found (known_extent me table call.rank call.rseg) _) _ _ more (λ theirs a more.
     passed (check (is_transfer_size call.size) _) _ _ more (λ u a more.
     passed (check (is_within call.offset call.size mine.size) _) _ _ more (λ u a more.
     passed (check (is_within call.roffset call.size theirs.size) _) _ _ more (λ u a more.
@@ -93,11 +93,11 @@ record IsCounted (limits : Limits) (me : ℕ) (posts : Posts) (call : Call) (ent
 
 counted_of : (limits : Limits) (me : ℕ) (posts : Posts) (call : Call) → is_post call ≡ true → IsCounted limits me posts call (entries_of call)
 counted_of limits me posts (Write call) is =
-    record { long = one_write me posts.own posts.known call; few = omega arith; some = omega arith; charged = λ t reply. refl }
+    record { long = one_write me posts.segments call; few = omega arith; some = omega arith; charged = λ t reply. refl }
 counted_of limits me posts (Notify call) is =
-    record { long = one_notify limits.notes me posts.own posts.known call; few = omega arith; some = omega arith; charged = λ t reply. refl }
+    record { long = one_notify limits.notes me posts.segments call; few = omega arith; some = omega arith; charged = λ t reply. refl }
 counted_of limits me posts (WriteNotify call) is =
-    record { long = two_kinds limits.notes me posts.own posts.known call; few = omega arith; some = omega arith; charged = λ t reply. refl }
+    record { long = two_kinds limits.notes me posts.segments call; few = omega arith; some = omega arith; charged = λ t reply. refl }
 counted_of limits me posts call is = absurd (let no : ⊥ = cc in no)
 
 -- a call that posts does what its row says

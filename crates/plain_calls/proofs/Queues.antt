@@ -7,8 +7,8 @@ use Rattle.gaspi_types.specs.declared.calls.Call.TheVariants.{Wait, End}
 use Rattle.gaspi_types.specs.declared.replies.Reply.{Reply}
 use Rattle.gaspi_types.specs.declared.shapes.Limits.{Limits}
 use Rattle.gaspi_model.specs.Calls.{posts_done, peer_done, peer_after}
-use Rattle.gaspi_model.specs.Posting.{changed_at}
-use Rattle.gaspi_model.specs.declared.states.Queue.{Queue}
+use Rattle.gaspi_types.specs.Tables.{changed_at}
+use Rattle.gaspi_types.specs.declared.entries.Queue.{Queue}
 use Rattle.gaspi_model.specs.declared.states.Posts.{Posts}
 
 -- queues stay, but that the open count of one is cleared

@@ -7,7 +7,7 @@ use Rattle.gaspi_types.specs.declared.call_rows.Posting.{Posting}
 use Rattle.gaspi_types.specs.declared.calls.Call.{Call}
 use Rattle.gaspi_types.specs.declared.calls.Call.TheVariants.{Alloc}
 use Rattle.gaspi_types.specs.declared.calls.segments.Alloc as alloc
-use Rattle.gaspi_model.specs.declared.states.Queue.{Queue}
+use Rattle.gaspi_types.specs.declared.entries.Queue.{Queue}
 use Rattle.gaspi_model.specs.declared.states.Posts.{Posts}
 
 -- for so many entries of a queue
@@ -20,7 +20,7 @@ HasPostingRoom posts None = Unit {0}
 HasPostingRoom posts (Some posting) = IsRoom posts posting.entries posting.queue
 
 abbrev pub HasAllocRoom : Posts → alloc.Alloc → Type 0
-HasAllocRoom posts call = (next_generation posts.next_generations call.seg + 1 < 2 ^ 32) × (call.size < 2 ^ 32)
+HasAllocRoom posts call = (next_generation posts.segments.next_generations call.seg + 1 < 2 ^ 32) × (call.size < 2 ^ 32)
 
 abbrev pub HasCallRoom : Posts → Call → Type 0
 HasCallRoom posts (Alloc call) = HasAllocRoom posts call

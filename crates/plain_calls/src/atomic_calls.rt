@@ -4,10 +4,12 @@
 ghost use Rattle.std.specs.Prelude.{◌≡◌};
 ghost use Rattle.gaspi_model.specs.AtomicCalls.{word_finds, fetch_add_leaves, compare_swap_leaves};
 
-use crate::memories::{add_word, bytes_of, compare_swap_word, is_generation, segment_at};
-use crate::tables::known_extent;
+use crate::memories::{bytes_of, segment_at};
 use gaspi_model::{Memory, Posts};
-use gaspi_types::{CompareSwap, FetchAdd, Limits, RankId, Refusal, Reply, check_word, word_at};
+use gaspi_types::{CompareSwap, FetchAdd, Limits, RankId, Refusal, Reply};
+use segment_tables::{
+    add_to_segment, check_word, is_generation, known_extent, swap_in_segment, word_at,
+};
 
 /// Looks at an atomic: it answers the word that stands there. (GASPI: atomic_fetch_add, atomic_compare_swap)
 pub fn word_finds(
@@ -24,7 +26,7 @@ pub fn word_finds(
     if rank >= u64::from(limits.ranks) {
         return Err(Refusal::BadRank);
     }
-    let theirs = known_extent(me, &posts.own, &posts.known, rank, seg).ok_or(
+    let theirs = known_extent(me, &posts.segments, rank, seg).ok_or(
         Refusal::Unregistered,
     )?;
     if !is_generation(theirs.generation, segment_at(memory, seg)) {
@@ -38,12 +40,18 @@ pub fn word_finds(
 pub fn fetch_add_leaves(memory: &mut Memory, call: &FetchAdd)
     ensures { memory.new ≡ fetch_add_leaves memory.old call.now }
 {
-    add_word(memory, call.seg, call.offset, call.value);
+    add_to_segment(&mut memory.segments, call.seg, call.offset, call.value);
 }
 
 /// Writes over the word, where it is the comparator. (GASPI: atomic_compare_swap)
 pub fn compare_swap_leaves(memory: &mut Memory, call: &CompareSwap)
     ensures { memory.new ≡ compare_swap_leaves memory.old call.now }
 {
-    compare_swap_word(memory, call.seg, call.offset, call.comparator, call.new);
+    swap_in_segment(
+        &mut memory.segments,
+        call.seg,
+        call.offset,
+        call.comparator,
+        call.new,
+    );
 }

@@ -16,7 +16,7 @@ use crate::queue_calls::{closed, wait_finds};
 use crate::replies::{is_idle, ready_of};
 use crate::segment_calls::{
     News, alloc_finds, alloc_leaves, delete_finds, delete_leaves, register_finds, register_news,
-    set_known,
+    tell_known,
 };
 use crate::threads::{end_thread, is_running, thread_at};
 use gaspi_model::{Memory, Posts};
@@ -182,6 +182,6 @@ pub fn tell(peer: &mut Posts, news: Option<News>)
     ensures { peer.new ≡ told news peer.old }
 {
     if let Some(news) = news {
-        set_known(peer, news);
+        tell_known(peer, news);
     }
 }

@@ -14,12 +14,11 @@ mod queue_calls;
 mod recording;
 mod replies;
 mod segment_calls;
-mod tables;
 mod threads;
 
 pub use calls::{answer, news, tell};
 pub use lanes::{is_carried, is_posted, is_write, may_put, may_take, place_of};
-pub use memories::{bytes_of, is_generation, new_segment, segment_at, set_slot, store_bytes};
+pub use memories::{bytes_of, new_slots, segment_at, set_slot};
 pub use recording::called;
 pub use replies::is_idle;
 pub use segment_calls::News;

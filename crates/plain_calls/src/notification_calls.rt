@@ -5,7 +5,8 @@ ghost use Rattle.gaspi_model.specs.NotificationCalls.{waitsome_finds, reset_find
 
 use crate::memories::{first_set, is_slot_range, set_slot, slots_of};
 use gaspi_model::{Memory, Posts};
-use gaspi_types::{Limits, Refusal, Reply, Reset, Waitsome, extent_in};
+use gaspi_types::{Limits, Refusal, Reply, Reset, Waitsome};
+use segment_tables::extent_in;
 
 /// Looks at a wait for a notification: ready where a slot of its range is set. (GASPI: notify_waitsome)
 pub fn waitsome_finds(
@@ -16,7 +17,7 @@ pub fn waitsome_finds(
 ) -> Result<Option<Reply>, Refusal>
     ensures { result ≡ waitsome_finds limits.now posts.now memory.now call.now }
 {
-    extent_in(&posts.own, call.seg).ok_or(Refusal::NoSegment)?;
+    extent_in(&posts.segments.own, call.seg).ok_or(Refusal::NoSegment)?;
     if !is_slot_range(call.begin, call.num, limits.notes) {
         return Err(Refusal::BadNote);
     }
@@ -33,7 +34,7 @@ pub fn reset_finds(
 ) -> Result<Option<Reply>, Refusal>
     ensures { result ≡ reset_finds limits.now posts.now memory.now call.now }
 {
-    extent_in(&posts.own, call.seg).ok_or(Refusal::NoSegment)?;
+    extent_in(&posts.segments.own, call.seg).ok_or(Refusal::NoSegment)?;
     if call.note >= u64::from(limits.notes) {
         return Err(Refusal::BadNote);
     }

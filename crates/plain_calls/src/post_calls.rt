@@ -3,19 +3,18 @@
 ghost use Rattle.std.specs.Prelude.{◌≡◌, ◌≤◌, length};
 ghost use Rattle.gaspi_model.specs.PostCalls.{post_finds, asked_finds, write_asks, notify_asks, write_notify_asks};
 
-use crate::tables::known_extent;
-use gaspi_model::{Posts, Queue};
+use gaspi_model::Posts;
 use gaspi_types::{
-    ByteRange, Kind, Limits, NoteSlot, Notify, RankId, Refusal, Reply, Write, WriteNotify,
-    extent_in, is_transfer_size, is_within,
+    ByteRange, Kind, Limits, NoteSlot, Notify, Queue, RankId, Refusal, Reply, Write, WriteNotify,
 };
+use segment_tables::{extent_in, is_transfer_size, is_within, known_extent};
 
 /// The entry of a write, or its first refusal. (GASPI: write)
 pub fn write_asks(me: RankId, posts: &Posts, call: &Write) -> Result<[Kind; 1], Refusal>
     ensures { result ≡ write_asks me posts.now call.now }
 {
-    let mine = extent_in(&posts.own, call.seg).ok_or(Refusal::NoSegment)?;
-    let theirs = known_extent(me, &posts.own, &posts.known, call.rank, call.rseg).ok_or(
+    let mine = extent_in(&posts.segments.own, call.seg).ok_or(Refusal::NoSegment)?;
+    let theirs = known_extent(me, &posts.segments, call.rank, call.rseg).ok_or(
         Refusal::Unregistered,
     )?;
     if !is_transfer_size(call.size) {
@@ -53,7 +52,7 @@ pub fn notify_asks(
 ) -> Result<[Kind; 1], Refusal>
     ensures { result ≡ notify_asks limits.now me posts.now call.now }
 {
-    let theirs = known_extent(me, &posts.own, &posts.known, call.rank, call.rseg).ok_or(
+    let theirs = known_extent(me, &posts.segments, call.rank, call.rseg).ok_or(
         Refusal::Unregistered,
     )?;
     if call.note >= u64::from(limits.notes) {

@@ -1,13 +1,14 @@
 //! What a post leaves: its entries at the end of a lane. (GASPI: one-sided communication)
 
 ghost use Rattle.std.specs.Prelude.{◌≡◌, ◌+◌, ◌<◌, ◌^◌, length, slice_get, Some, Ok, OnOk, OnErr};
-ghost use Rattle.gaspi_model.specs.Posting.{with_entries, with_post};
-ghost use Rattle.gaspi_model.specs.declared.states.Queue.{Queue};
+ghost use Rattle.gaspi_model.specs.Posting.{with_post};
+ghost use Rattle.gaspi_types.specs.Queues.{with_entries};
+ghost use Rattle.gaspi_types.specs.declared.entries.Queue.{Queue};
 ghost use Rattle.plain_calls.specs.Room.{IsRoom};
 
 use crate::lanes::posted_entries;
-use gaspi_model::{Posts, Queue};
-use gaspi_types::{Entry, Kind, NoMemory, Refusal, Rows};
+use gaspi_model::{Posts};
+use gaspi_types::{Entry, Kind, NoMemory, Refusal, Rows, Queue};
 use std::alloc::Global;
 
 /// Adds entries to a lane of a queue. Without memory nothing changes.

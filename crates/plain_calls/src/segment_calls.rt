@@ -4,16 +4,18 @@ ghost use Rattle.std.specs.Prelude.{◌≡◌, ◌+◌, ◌<◌, ◌≤◌, ◌^
 ghost use Rattle.std.specs.List.{list_any};
 ghost use Rattle.gaspi_types.specs.Lanes.{has_user};
 ghost use Rattle.gaspi_types.specs.SegmentTables.{extent_in};
-ghost use Rattle.gaspi_model.specs.SegmentCalls.{alloc_finds, with_own, alloc_leaves, register_finds, with_known, user_of, delete_finds, without_own, delete_leaves};
+ghost use Rattle.gaspi_model.specs.SegmentCalls.{alloc_finds, with_own, alloc_leaves, register_finds, with_known, delete_finds, without_own, delete_leaves};
+ghost use Rattle.gaspi_types.specs.Queues.{user_of};
 ghost use Rattle.plain_calls.specs.Room.{HasAllocRoom};
 
 use crate::lanes::has_user;
-use crate::memories::{new_segment, set_segment};
-use crate::tables::{next_generation, set_own, use_generation};
-use gaspi_model::{Memory, Posts, Queue};
+use crate::memories::{new_slots, set_segment};
+use gaspi_model::{Memory, Posts};
 use gaspi_types::{
-    Alloc, Delete, Extent, Limits, NoMemory, RankId, Refusal, Register, Reply, Rows, extent_in,
-    is_segment_size,
+    Alloc, Delete, Extent, Limits, NoMemory, Queue, RankId, Refusal, Register, Reply, Rows,
+};
+use segment_tables::{
+    add_own, check_alloc, extent_in, new_segment, next_generation, remove_own, set_known,
 };
 use std::alloc::Global;
 
@@ -21,15 +23,7 @@ use std::alloc::Global;
 pub fn alloc_finds(posts: &Posts, call: &Alloc) -> Result<Option<Reply>, Refusal>
     ensures { result ≡ alloc_finds posts.now call.now }
 {
-    if call.seg >= 32 {
-        return Err(Refusal::NoSegment);
-    }
-    if extent_in(&posts.own, call.seg).is_some() {
-        return Err(Refusal::SegmentThere);
-    }
-    if !is_segment_size(call.size) {
-        return Err(Refusal::BadSize);
-    }
+    check_alloc(&posts.segments.own, call.seg, call.size)?;
     Ok(Some(Reply::Done))
 }
 
@@ -48,11 +42,11 @@ pub fn alloc_leaves(
     ensures memory_kept { OnErr result (memory.new ≡ memory.old) }
 {
     let size = call.size as u32;
-    let generation = next_generation(&posts.next_generations, call.seg);
-    let segment = new_segment(alloc, limits.notes, generation, size)?;
-    set_segment(memory, call.seg, Some(segment));
-    set_own(posts, call.seg, Some(Extent { generation, size }));
-    use_generation(&mut posts.next_generations, call.seg);
+    let generation = next_generation(&posts.segments.next_generations, call.seg);
+    let segment = new_segment(alloc, generation, size)?;
+    let slots = new_slots(alloc, limits.notes)?;
+    set_segment(memory, call.seg, Some(segment), Some(slots));
+    add_own(&mut posts.segments, call.seg, size);
     Ok(())
 }
 
@@ -67,7 +61,7 @@ pub fn register_finds(
     if call.rank >= u64::from(limits.ranks) {
         return Err(Refusal::BadRank);
     }
-    extent_in(&posts.own, call.seg).ok_or(Refusal::NoSegment)?;
+    extent_in(&posts.segments.own, call.seg).ok_or(Refusal::NoSegment)?;
     Ok(Some(Reply::Done))
 }
 
@@ -81,27 +75,20 @@ pub struct News {
 
 /// What a peer is told of a segment that is made known to it. (GASPI: segment_register)
 pub fn register_news(me: RankId, posts: &Posts, call: &Register) -> News
-    ensures { result ≡ record { owner = me; seg = call.now.seg; extent = extent_in posts.now.own call.now.seg } }
+    ensures { result ≡ record { owner = me; seg = call.now.seg; extent = extent_in posts.now.segments.own call.now.seg } }
 {
     News {
         owner: me,
         seg: call.seg,
-        extent: extent_in(&posts.own, call.seg),
+        extent: extent_in(&posts.segments.own, call.seg),
     }
 }
 
 /// Makes a segment of an owner known to a rank.
-pub fn set_known(posts: &mut Posts, news: News)
+pub fn tell_known(posts: &mut Posts, news: News)
     ensures { posts.new ≡ with_known news.owner news.seg news.extent posts.old }
 {
-    let place = news.owner.index();
-    if place < posts.known.len() {
-        let table = posts.known.at_mut(place);
-        let segment = news.seg as usize;
-        if segment < table.len() {
-            *table.at_mut(segment) = news.extent;
-        }
-    }
+    set_known(&mut posts.segments, news.owner, news.seg, news.extent);
 }
 
 /// Whether an entry of a queue has to read an own segment yet.
@@ -124,7 +111,7 @@ pub fn delete_finds(posts: &Posts, call: &Delete) -> Result<Option<Reply>, Refus
     requires { length posts.now.queues ≤ 8 }
     ensures { result ≡ delete_finds posts.now call.now }
 {
-    extent_in(&posts.own, call.seg).ok_or(Refusal::NoSegment)?;
+    extent_in(&posts.segments.own, call.seg).ok_or(Refusal::NoSegment)?;
     match user_of(&posts.queues, call.seg) {
         Some(queue) => Err(Refusal::SegmentBusy {
             queue: queue as u32,
@@ -138,6 +125,6 @@ pub fn delete_leaves(posts: &mut Posts, memory: &mut Memory, call: &Delete)
     ensures posts { posts.new ≡ without_own posts.old call.now.seg }
     ensures memory { memory.new ≡ delete_leaves memory.old call.now }
 {
-    set_own(posts, call.seg, None);
-    set_segment(memory, call.seg, None);
+    remove_own(&mut posts.segments, call.seg);
+    set_segment(memory, call.seg, None, None);
 }

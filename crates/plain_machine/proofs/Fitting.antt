@@ -14,7 +14,8 @@ use Rattle.gaspi_types.specs.declared.events.Event.{Event}
 use Rattle.gaspi_types.specs.declared.events.Event.TheVariants.{Called, Take, Put}
 use Rattle.gaspi_model.specs.State.{owed, thread_at}
 use Rattle.gaspi_model.specs.Calls.{call_asks, answer, recorded_reply, charge, posts_done, posts_after, memory_after}
-use Rattle.gaspi_model.specs.Posting.{with_post, changed_at}
+use Rattle.gaspi_model.specs.Posting.{with_post}
+use Rattle.gaspi_types.specs.Tables.{changed_at}
 use Rattle.gaspi_model.specs.Step.{step, called, is_there}
 use Rattle.gaspi_model.specs.Transfers.{Worked}
 use Rattle.gaspi_model.specs.declared.states.Posts.{Posts}

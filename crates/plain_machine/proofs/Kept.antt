@@ -9,10 +9,12 @@ use Rattle.gaspi_types.specs.declared.entries.Phase.TheVariants as phases
 use Rattle.gaspi_types.specs.declared.events.Outcome.{Outcome}
 use Rattle.gaspi_types.specs.declared.events.Outcome.TheVariants.{Applied, Failed}
 use Rattle.gaspi_types.specs.declared.shapes.Limits.{Limits}
-use Rattle.gaspi_model.specs.State.{owed, queue_owed}
-use Rattle.gaspi_model.specs.Posting.{changed_at, counted}
+use Rattle.gaspi_model.specs.State.{owed}
+use Rattle.gaspi_types.specs.Queues.{queue_owed}
+use Rattle.gaspi_model.specs.Posting.{counted}
+use Rattle.gaspi_types.specs.Tables.{changed_at}
 use Rattle.gaspi_model.specs.Transfers.{Found, find_entry, take, put, put_with, put_outcome, same_outcome, with_phase, with_lane, Worked}
-use Rattle.gaspi_model.specs.declared.states.Queue.{Queue}
+use Rattle.gaspi_types.specs.declared.entries.Queue.{Queue}
 use Rattle.gaspi_model.specs.declared.states.Posts.{Posts}
 use Rattle.gaspi_model.specs.declared.states.Memory.{Memory}
 use Rattle.gaspi_model.specs.declared.states.Why.{Why}

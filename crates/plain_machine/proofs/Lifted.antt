@@ -14,7 +14,7 @@ use Rattle.gaspi_types.specs.declared.touches.Reach.{Reach}
 use Rattle.gaspi_types.specs.declared.touches.Reach.TheVariants.{PeerPosts}
 use Rattle.gaspi_model.specs.Calls.{peer_after}
 use Rattle.gaspi_model.specs.Parts.{no_memory}
-use Rattle.gaspi_model.specs.Posting.{changed_at}
+use Rattle.gaspi_types.specs.Tables.{changed_at}
 use Rattle.gaspi_model.specs.Sound.{IsSoundPosts}
 use Rattle.gaspi_model.specs.Step.{step, Steps}
 use Rattle.gaspi_model.specs.Transfers.{take, put, Worked}

@@ -3,7 +3,7 @@ use Rattle.std.proofs.Common.{◌≡◌, ℕ, zero, suc, ◌+◌, ◌<◌, List,
 use Rattle.std.specs.List.{flat_map, enumerate_from}
 use Rattle.std.proofs.lemmas.List.{map-set}
 use Rattle.std.proofs.lemmas.Option.{slice_get-map}
-use Rattle.gaspi_model.specs.Posting.{changed_at}
+use Rattle.gaspi_types.specs.Tables.{changed_at}
 use Rattle.plain_machine.specs.declared.standing.LaneId.{LaneId}
 use Rattle.plain_calls.proofs.Chains.{changed_there}
 use Rattle.plain_calls.proofs.Items.{set_there}

@@ -8,7 +8,8 @@ use Rattle.std.proofs.lemmas.List.FromFn.{length-map-range_with_len, get_or-map-
 use Rattle.std.proofs.lemmas.Option.{get_or_from_slice_get, slice_get_within}
 use Rattle.gaspi_types.specs.World.{World, are_limits}
 use Rattle.gaspi_types.specs.Lanes.{lane_owed}
-use Rattle.gaspi_model.specs.State.{opening, opening_posts, opening_memory, opening_thread, opening_queue, is_running, queue_owed, entries_owed}
+use Rattle.gaspi_model.specs.State.{opening, opening_posts, opening_memory, opening_thread, opening_queue, is_running, entries_owed}
+use Rattle.gaspi_types.specs.Queues.{queue_owed}
 use Rattle.gaspi_model.specs.declared.states.Posts.{Posts}
 use Rattle.plain_machine.specs.Machine.{IsFitting, taken_of}
 use Rattle.plain_machine.specs.Standing.{lane_named, queue_named, rank_named, standing_lanes}

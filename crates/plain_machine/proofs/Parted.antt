@@ -3,7 +3,7 @@ use Rattle.std.proofs.Common.{◌≡◌, ℕ, zero, suc, ◌+◌, ◌<◌, ◌�
 use Rattle.std.specs.List.{flat_map, enumerate_from, prefix_len, insert, remove}
 use Rattle.std.proofs.lemmas.Bool.{lt-ltb, le-ltb, eq-eqb, ne_eqb}
 use Rattle.gaspi_types.specs.declared.entries.Entry.{Entry}
-use Rattle.gaspi_model.specs.declared.states.Queue.{Queue}
+use Rattle.gaspi_types.specs.declared.entries.Queue.{Queue}
 use Rattle.gaspi_model.specs.declared.states.Posts.{Posts}
 use Rattle.plain_machine.specs.Standing.{lane_id, lane_named, queue_named, rank_named, standing_lanes, is_before}
 use Rattle.plain_machine.specs.declared.standing.LaneId.{LaneId}

@@ -16,7 +16,7 @@ use Rattle.gaspi_types.specs.declared.touches.Reach.{Reach}
 use Rattle.gaspi_types.specs.declared.touches.Reach.TheVariants.{Alone, OwnMemory, PeerMemory, PeerPosts}
 use Rattle.gaspi_model.specs.Calls.{peer_after}
 use Rattle.gaspi_model.specs.Parts.{touched_of, parts_of, part_at, with_part, worked_memory}
-use Rattle.gaspi_model.specs.Posting.{changed_at}
+use Rattle.gaspi_types.specs.Tables.{changed_at}
 use Rattle.gaspi_model.specs.Step.{step, called}
 use Rattle.gaspi_model.specs.Transfers.{take, put, Worked}
 use Rattle.gaspi_model.specs.declared.states.Posts.{Posts}
@@ -24,7 +24,7 @@ use Rattle.gaspi_model.specs.declared.states.Memory.{Memory}
 use Rattle.gaspi_model.specs.declared.states.State.{State}
 use Rattle.gaspi_model.specs.declared.states.Why.{Why}
 use Rattle.gaspi_model.specs.declared.states.Why.TheVariants as whys
-use Rattle.gaspi_model.proofs.Tables.{slice_get-set_other}
+use Rattle.gaspi_types.proofs.Items.{slice_get-set_other}
 use Rattle.plain_machine.specs.Reaching.{call_reach, entry_reach, memory_at, with_memory_at, with_peer_at, Lent, call_lent, put_lent}
 use Rattle.plain_calls.proofs.Chains.{passed, found_there}
 use Rattle.plain_calls.proofs.Items.{set_there}
@@ -244,7 +244,7 @@ taken_back s t origin queue target number outcome is =
         let reach = entry_reach s.limits origin take_touch p queue target number in
         passed (take s.limits p (memory_at s.memories origin reach) queue target number outcome) _ _
         (sym (take_as s origin queue target number outcome p reach there refl) ∙ is) (λ after steps more.
-        same p after _ more there steps)
+        same p after (memory_at s.memories origin reach) more there steps)
 
 pub record IsPut (s t : State) (origin queue target number : ℕ) (outcome : Outcome) : Type 0 where
   pub p : Posts

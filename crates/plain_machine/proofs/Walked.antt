@@ -15,10 +15,11 @@ use Rattle.gaspi_types.specs.declared.entries.Phase.{Phase}
 use Rattle.gaspi_types.specs.declared.entries.Phase.TheVariants as phases
 use Rattle.gaspi_types.specs.declared.events.Transfer.{Transfer}
 use Rattle.gaspi_types.specs.declared.shapes.Limits.{Limits}
-use Rattle.gaspi_model.specs.State.{queue_owed, entries_owed}
+use Rattle.gaspi_model.specs.State.{entries_owed}
+use Rattle.gaspi_types.specs.Queues.{queue_owed}
 use Rattle.gaspi_model.specs.Sound.{IsSoundPosts}
 use Rattle.gaspi_model.specs.Transfers.{transfer_of, lane_transfers, queue_transfers, rank_transfers, transfers}
-use Rattle.gaspi_model.specs.declared.states.Queue.{Queue}
+use Rattle.gaspi_types.specs.declared.entries.Queue.{Queue}
 use Rattle.gaspi_model.specs.declared.states.Posts.{Posts}
 use Rattle.plain_machine.specs.Standing.{lane_id, lane_named, queue_named, rank_named, standing_lanes, open_entries, open_transfers, entries_transfers}
 

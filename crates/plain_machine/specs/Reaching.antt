@@ -14,7 +14,7 @@ use Rattle.gaspi_types.specs.declared.touches.Touch.{Touch}
 use Rattle.gaspi_types.specs.declared.touches.Reach.{Reach}
 use Rattle.gaspi_types.specs.declared.touches.Reach.TheVariants.{Alone, OwnMemory, PeerMemory, PeerPosts}
 use Rattle.gaspi_model.specs.Parts.{no_memory, memory_or_none}
-use Rattle.gaspi_model.specs.Posting.{changed_at}
+use Rattle.gaspi_types.specs.Tables.{changed_at}
 use Rattle.gaspi_model.specs.Sound.{IsSoundPosts}
 use Rattle.gaspi_model.specs.Step.{called, entry_touch}
 use Rattle.gaspi_model.specs.Transfers.{put, entry_in}

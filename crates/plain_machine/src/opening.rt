@@ -3,12 +3,16 @@
 ghost use Rattle.std.specs.Prelude.{◌≡◌, ◌+◌, ◌<◌, ◌≤◌, IfOk, replicate, map, count_by, [], false};
 ghost use Rattle.std.specs.Option.{option_map};
 ghost use Rattle.std.specs.List.{list_any, range_with_len};
+ghost use Rattle.gaspi_types.specs.Segments.{new_segment};
 ghost use Rattle.gaspi_types.specs.World.{is_caller};
-ghost use Rattle.gaspi_model.specs.State.{declared_size, opening_extents, opening_generations, opening_thread, opening_queue, opening_posts, opening_segment, opening_memory, is_running};
+ghost use Rattle.gaspi_model.specs.State.{declared_size, opening_extents, opening_generations, opening_thread, opening_queue, opening_table, opening_posts, opening_segments, opening_slots, opening_memory, new_slots, is_running};
 
-use gaspi_model::{Memory, Posts, Queue, Segment, ThreadState};
-use gaspi_types::{Entry, Extent, NoMemory, Rows, Shape};
-use plain_calls::{is_running, new_segment};
+use gaspi_model::{Memory, Posts, ThreadState};
+use gaspi_types::{
+    Entry, Extent, Extents, NoMemory, OwnSegments, Queue, Rows, Segment, SegmentTable, Shape,
+};
+use plain_calls::{is_running, new_slots};
+use segment_tables::new_segment;
 use std::alloc::Global;
 
 /// The size with which a segment of a rank is declared.
@@ -24,11 +28,7 @@ fn declared_size(shape: &Shape, rank: u32, segment: u32) -> Option<u32>
 
 /// The segments that a rank declares, by their numbers.
 #[tactic(auto, using(crate::proofs::Ranges::map_range_more))]
-fn opening_extents(
-    alloc: Global,
-    shape: &Shape,
-    rank: u32,
-) -> Result<Rows<Option<Extent>>, NoMemory>
+fn opening_extents(alloc: Global, shape: &Shape, rank: u32) -> Result<Extents, NoMemory>
     ensures { IfOk result (λ extents. extents ≡ opening_extents shape.now rank) }
 {
     let mut extents = Rows::new(alloc);
@@ -44,7 +44,7 @@ fn opening_extents(
 
 /// What every rank knows of the segments of each rank.
 #[tactic(auto, using(crate::proofs::Ranges::map_range_more))]
-fn opening_known(alloc: Global, shape: &Shape) -> Result<Rows<Rows<Option<Extent>>>, NoMemory>
+fn opening_known(alloc: Global, shape: &Shape) -> Result<Rows<Extents>, NoMemory>
     ensures { IfOk result (λ known. known ≡ map (opening_extents shape.now) (range_with_len 0 shape.now.limits.ranks)) }
 {
     let mut known = Rows::new(alloc);
@@ -147,6 +147,17 @@ fn opening_corrupt(alloc: Global, ranks: u32) -> Result<Rows<bool>, NoMemory>
     Ok(Rows::from_vec(vec![in alloc; false; ranks as usize]?))
 }
 
+/// What a rank has and knows of segments.
+fn opening_table(alloc: Global, shape: &Shape, rank: u32) -> Result<SegmentTable, NoMemory>
+    ensures { IfOk result (λ table. table ≡ opening_table shape.now rank) }
+{
+    Ok(SegmentTable {
+        own: opening_extents(alloc, shape, rank)?,
+        next_generations: opening_generations(alloc, shape, rank)?,
+        known: opening_known(alloc, shape)?,
+    })
+}
+
 /// The posts of a rank.
 fn opening_posts(alloc: Global, shape: &Shape, rank: u32) -> Result<Posts, NoMemory>
     ensures { IfOk result (λ posts. posts ≡ opening_posts shape.now rank) }
@@ -155,9 +166,7 @@ fn opening_posts(alloc: Global, shape: &Shape, rank: u32) -> Result<Posts, NoMem
     Ok(Posts {
         queues: opening_queues(alloc, shape.queues(), ranks)?,
         corrupt: opening_corrupt(alloc, ranks)?,
-        own: opening_extents(alloc, shape, rank)?,
-        known: opening_known(alloc, shape)?,
-        next_generations: opening_generations(alloc, shape, rank)?,
+        segments: opening_table(alloc, shape, rank)?,
         threads: opening_threads(alloc, shape, rank)?,
         events: 0,
         next: 0,
@@ -171,24 +180,61 @@ fn opening_segment_at(
     rank: u32,
     segment: u32,
 ) -> Result<Option<Segment>, NoMemory>
-    ensures { IfOk result (λ s. s ≡ option_map (opening_segment shape.now.limits.notes) (declared_size shape.now rank segment)) }
+    ensures { IfOk result (λ s. s ≡ option_map (new_segment 0) (declared_size shape.now rank segment)) }
 {
     match declared_size(shape, rank, segment) {
-        Some(size) => Ok(Some(new_segment(alloc, shape.notes(), 0, size)?)),
+        Some(size) => Ok(Some(new_segment(alloc, 0, size)?)),
         None => Ok(None),
     }
 }
 
-/// The memory of a rank.
+/// The segments of a rank, by their numbers.
 #[tactic(auto, using(crate::proofs::Ranges::map_range_more))]
-fn opening_memory(alloc: Global, shape: &Shape, rank: u32) -> Result<Memory, NoMemory>
-    ensures { IfOk result (λ memory. memory ≡ opening_memory shape.now rank) }
+fn opening_segments(alloc: Global, shape: &Shape, rank: u32) -> Result<OwnSegments, NoMemory>
+    ensures { IfOk result (λ segments. segments ≡ opening_segments shape.now rank) }
 {
     let mut segments = Rows::new(alloc);
     for segment in 0..32 {
         segments.push(opening_segment_at(alloc, shape, rank, segment)?)?;
     }
-    Ok(Memory { segments })
+    Ok(segments)
+}
+
+/// The slots of the segment of a rank with a number.
+fn opening_slots_at(
+    alloc: Global,
+    shape: &Shape,
+    rank: u32,
+    segment: u32,
+) -> Result<Option<Rows<u32>>, NoMemory>
+    ensures { IfOk result (λ slots. slots ≡ option_map (λ size. new_slots shape.now.limits.notes) (declared_size shape.now rank segment)) }
+{
+    match declared_size(shape, rank, segment) {
+        Some(_) => Ok(Some(new_slots(alloc, shape.notes())?)),
+        None => Ok(None),
+    }
+}
+
+/// The slots of each segment of a rank.
+#[tactic(auto, using(crate::proofs::Ranges::map_range_more))]
+fn opening_slots(alloc: Global, shape: &Shape, rank: u32) -> Result<Rows<Option<Rows<u32>>>, NoMemory>
+    ensures { IfOk result (λ slots. slots ≡ opening_slots shape.now rank) }
+{
+    let mut slots = Rows::new(alloc);
+    for segment in 0..32 {
+        slots.push(opening_slots_at(alloc, shape, rank, segment)?)?;
+    }
+    Ok(slots)
+}
+
+/// The memory of a rank.
+fn opening_memory(alloc: Global, shape: &Shape, rank: u32) -> Result<Memory, NoMemory>
+    ensures { IfOk result (λ memory. memory ≡ opening_memory shape.now rank) }
+{
+    Ok(Memory {
+        segments: opening_segments(alloc, shape, rank)?,
+        slots: opening_slots(alloc, shape, rank)?,
+    })
 }
 
 /// The posts of each rank.

@@ -60,6 +60,7 @@ pub fn no_memory(alloc: Global) -> Memory
 {
     Memory {
         segments: Rows::new(alloc),
+        slots: Rows::new(alloc),
     }
 }
 

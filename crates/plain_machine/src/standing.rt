@@ -5,8 +5,8 @@ ghost use Rattle.std.specs.List.{insert, remove, prefix_len};
 ghost use Rattle.std.specs.Option.{option_copied};
 ghost use Rattle.plain_machine.specs.Standing.{is_before, lane_queue, queue_entries, lane_entries, open_entries, post_lane, call_lane, event_lane, is_put};
 
-use gaspi_model::{Posts, Queue};
-use gaspi_types::{Call, Entry, Event, QueueId, RankId, Rows};
+use gaspi_model::Posts;
+use gaspi_types::{Call, Entry, Event, Queue, QueueId, RankId, Rows};
 use plain_calls::is_idle;
 
 /// The name of a lane: its origin, its queue and its target.

@@ -5,13 +5,12 @@ ghost use Rattle.gaspi_model.specs.Transfers.{same_outcome, find_entry, take, pu
 ghost use Rattle.gaspi_model.specs.Step.{Steps};
 ghost use Rattle.plain_machine.specs.Entries.{Finds, lane_phase, queue_phase, posts_phase, queue_failed, posts_failed_at, queue_without, posts_without};
 
-use gaspi_model::{Memory, Posts, Queue, StepFault, Why};
+use gaspi_model::{Memory, Posts, StepFault, Why};
 use gaspi_types::{
-    Bytes, Entry, Kind, Limits, NoMemory, Outcome, Phase, QueueId, RankId, Rows, range_of,
+    Bytes, Entry, Kind, Limits, NoMemory, Outcome, Phase, Queue, QueueId, RankId, Rows,
 };
-use plain_calls::{
-    bytes_of, is_generation, may_put, may_take, place_of, segment_at, set_slot, store_bytes,
-};
+use plain_calls::{bytes_of, may_put, may_take, place_of, segment_at, set_slot};
+use segment_tables::{is_generation, range_of, store_bytes};
 use std::alloc::Global;
 
 /// Where an entry stands: its queue, its lane, its place there and itself.
@@ -219,7 +218,7 @@ fn memory_put(memory: &mut Memory, entry: &Entry)
 {
     match &entry.kind {
         Kind::Write { own: _, target } => store_bytes(
-            memory,
+            &mut memory.segments,
             u64::from(target.segment),
             u64::from(target.offset),
             carried_bytes(&entry.phase),

@@ -6,7 +6,7 @@ use Rattle.std.proofs.lemmas.Bool.{lt-ltb, le-ltb, leb-true}
 use Rattle.std.proofs.lemmas.Option.{slice_get-map}
 use Rattle.gaspi_types.specs.SegmentTables.{extent_in, with_generation}
 use Rattle.gaspi_types.specs.World.{is_segment_size}
-use Rattle.gaspi_types.specs.declared.entries.Extent.{Extent}
+use Rattle.gaspi_types.specs.declared.segments.Extent.{Extent}
 use Rattle.segment_store.specs.Segments.{segment_in, extent_of, extents_of}
 use Rattle.segment_store.specs.declared.tables.OwnSegment.{OwnSegment}
 

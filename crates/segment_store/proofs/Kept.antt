@@ -10,7 +10,7 @@ use Rattle.gaspi_types.specs.SegmentBytes.{is_within, with_range}
 use Rattle.gaspi_types.specs.SegmentTables.{extent_in, next_generation, with_generation}
 use Rattle.gaspi_types.specs.SegmentWords.{word_at, with_sum, with_swap}
 use Rattle.gaspi_types.specs.World.{is_segment_size}
-use Rattle.gaspi_types.specs.declared.entries.Extent.{Extent}
+use Rattle.gaspi_types.specs.declared.segments.Extent.{Extent}
 use Rattle.segment_store.specs.Segments.{Stored, IsSound, AreSized, segment_in, bytes_in, extent_of, extents_of, with_bytes, with_segment}
 use Rattle.segment_store.specs.declared.tables.OwnSegment.{OwnSegment}
 use Rattle.segment_store.proofs.Changed.{map-set_alike, extent_in-set, extent-below, extent-over, next-rises, next-risen}

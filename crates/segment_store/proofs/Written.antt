@@ -8,7 +8,7 @@ use Rattle.byteorder.specs.Endian.{little_bytes}
 use Rattle.gaspi_types.specs.SegmentBytes.{is_transfer_size, is_within, with_range, range_checks}
 use Rattle.gaspi_types.specs.SegmentTables.{extent_in, own_range_checks}
 use Rattle.gaspi_types.specs.SegmentWords.{word_at, word_checks}
-use Rattle.gaspi_types.specs.declared.entries.Extent.{Extent}
+use Rattle.gaspi_types.specs.declared.segments.Extent.{Extent}
 use Rattle.gaspi_types.specs.declared.replies.Refusal.{Refusal}
 use Rattle.gaspi_types.specs.declared.replies.Refusal.TheVariants.{NoSegment, Unregistered, BadSize, BadRange}
 use Rattle.gaspi_types.specs.Checks.{◌>>=◌, found}

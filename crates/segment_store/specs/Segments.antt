@@ -6,7 +6,7 @@ use Rattle.gaspi_types.specs.SegmentBytes.{range_of, with_range}
 use Rattle.gaspi_types.specs.SegmentTables.{extent_in, own_range_checks, next_generation, with_generation}
 use Rattle.gaspi_types.specs.SegmentWords.{word_checks, word_at, with_sum, with_swap}
 use Rattle.gaspi_types.specs.World.{is_segment_size}
-use Rattle.gaspi_types.specs.declared.entries.Extent.{Extent}
+use Rattle.gaspi_types.specs.declared.segments.Extent.{Extent}
 use Rattle.gaspi_types.specs.declared.replies.Refusal.{Refusal}
 use Rattle.gaspi_types.specs.declared.replies.Refusal.TheVariants.{NoSegment, Unregistered}
 use Rattle.segment_store.specs.declared.tables.OwnSegment.{OwnSegment}

@@ -2,7 +2,7 @@ use Rattle.gaspi_model.proofs.SoundOpening.{opens}
 use Rattle.gaspi_model.proofs.SoundSteps.{steps, counts, limits-stay}
 use Rattle.gaspi_model.proofs.Activity.{active}
 use Rattle.gaspi_model.proofs.Histories.{reached-sound}
-use Rattle.gaspi_model.proofs.TableLengths.{segment-places}
+use Rattle.gaspi_model.proofs.TableLengths.{segment-places, slot-places}
 use Rattle.gaspi_model.proofs.laws.soundness.Goals as goal
 
 pub returns-clause-opens : goal.returns-clause-opens
@@ -25,3 +25,6 @@ returns-clause-histories c = reached-sound
 
 pub returns-clause-segments : goal.returns-clause-segments
 returns-clause-segments c = segment-places
+
+pub returns-clause-slots : goal.returns-clause-slots
+returns-clause-slots c = slot-places

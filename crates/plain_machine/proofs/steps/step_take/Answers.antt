@@ -24,4 +24,4 @@ returns-clause-step c =
 
 pub returns-clause-taken : goal.returns-clause-taken
 returns-clause-taken c =
-    map_kept taken_of _ _ _ _ c.at_mut.ensures.value (take_taken c.args.limits.now _ _ _ c.args.queue c.args.target c.args.number c.args.outcome c.take.result c.take.ensures)
+    map_kept taken_of _ _ _ _ c.at_mut.ensures.value (take_taken c.args.limits.now _ _ c.worked_memory-memory.result.now c.args.queue c.args.target c.args.number c.args.outcome c.take.result c.take.ensures)

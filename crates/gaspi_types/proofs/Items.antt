@@ -1,4 +1,4 @@
--- Tables with one item changed.
+-- What stands in lists and in tables, also where one item is changed, or lists are cut and joined.
 use Rattle.std.proofs.Common.{Bool, true, false, ◌==◌, map, replicate, take, drop, ◌≤◌, ◌<◌, Option, None, length, ◌++◌, ◌∙◌, arith, remove, ◌≡◌, ℕ, ◌+◌, zero, suc, List, [], ◌∷◌, Some, refl, sym, ap, subst, inl, inr, ◌⊎◌}
 use Rattle.std.specs.List.{slice_get, slice_set, sum_by, flat_map, enumerate_from}
 use Rattle.std.specs.Option.{option_map}
@@ -6,8 +6,7 @@ use Rattle.std.proofs.lemmas.List.{get_or-replicate, length-replicate, length-se
 use Rattle.std.proofs.lemmas.Bool.{eq-eqb, eqb-true}
 use Rattle.std.proofs.lemmas.List.Sums.{sum_by-set}
 use Rattle.std.proofs.lemmas.Option.{slice_get-map, slice_get_within, get_or_from_slice_get}
-use Rattle.gaspi_model.specs.State.{entry_at}
-use Rattle.gaspi_model.specs.Posting.{changed_at}
+use Rattle.gaspi_types.specs.Tables.{entry_at, changed_at}
 
 -- what stands in a table after a change: at the place what was set, elsewhere what was there
 pub slice_get-set : {A : Type 0} (xs : List A) (i j : ℕ) (y z : A) → slice_get (slice_set xs i y) j ≡ Some z → ((j ≡ i) × (z ≡ y)) ⊎ (slice_get xs j ≡ Some z)
@@ -167,3 +166,9 @@ rest-of-dropped zero xs k j is = let same : j ≡ k = omega arith in rw same ref
 rest-of-dropped (suc n) [] k j is = refl
 rest-of-dropped (suc n) (x ∷ xs) k zero is = absurd (let no : ⊥ = omega arith in no)
 rest-of-dropped (suc n) (x ∷ xs) k (suc j) is = rest-of-dropped n xs k j (omega arith)
+
+-- an item replaced by one that a function cannot tell from it
+pub map-set_alike : {A B : Type 0} (f : A → B) (xs : List A) (i : ℕ) (y : A) → ((x : A) → slice_get xs i ≡ Some x → f y ≡ f x) → map f (slice_set xs i y) ≡ map f xs
+map-set_alike f [] i y alike = refl
+map-set_alike f (x ∷ xs) zero y alike = ap (λ (z : _). z ∷ map f xs) (alike x refl)
+map-set_alike f (x ∷ xs) (suc i) y alike = ap (λ (rest : List _). f x ∷ rest) (map-set_alike f xs i y alike)
