@@ -38,7 +38,7 @@ use Rattle.gaspi_types.specs.declared.segments.Segment.{Segment}
 use Rattle.gaspi_model.specs.declared.states.Memory.{Memory}
 use Rattle.gaspi_model.proofs.Chains.{bind_then, check_then, found_then, absent_then}
 use Rattle.gaspi_model.proofs.Layouts.{HaveSameLayout, same-layout, bytes-layout, slots-layout, replaced-layout}
-use Rattle.gaspi_types.proofs.Written.{with_range-length, with_swap-length}
+use Rattle.gaspi_types.proofs.Written.{with_range-length, with_swap-length, set-extents}
 use Rattle.gaspi_model.proofs.Told.{changed_at-get, told, told-cases}
 use Rattle.gaspi_model.proofs.Worked.{memory_rank}
 use Rattle.gaspi_model.proofs.Successors.{lies-other, Succeeds, succeeds-itself, SourcesStay, alloc-succeeds, delete-succeeds}
@@ -210,11 +210,7 @@ with_post-own : (posts : Posts) (queue target : ℕ) (asked : Result (List Kind)
 with_post-own posts queue target (Ok kinds) = refl
 with_post-own posts queue target (Err refusal) = refl
 
--- a segment set in a memory
-set-extents : (memory : Memory) (seg : ℕ) (o : Option Segment) (own : List (Option Extent)) → own ≡ extents_of memory.segments
-    → slice_set own seg (option_map extent_of o) ≡ extents_of (slice_set memory.segments seg o)
-set-extents memory seg o own agrees = ap (λ (t : List (Option Extent)). slice_set t seg (option_map extent_of o)) agrees ∙ sym (map-set (option_map extent_of) memory.segments seg o)
-
+-- a segment set in a memory, with its slots
 set-slots : (notes : ℕ) (memory : Memory) (seg : ℕ) (o : Option Segment) (slots : Option (List ℕ)) → option_map length slots ≡ option_map (λ (x : Extent). notes) (option_map extent_of o)
     → HasSlots notes memory → HasSlots notes (record { segments = slice_set memory.segments seg o; slots = slice_set memory.slots seg slots })
 set-slots notes memory seg o slots fresh all =
@@ -234,11 +230,11 @@ plain-tables limits me posts memory thread (Alloc call) =
     inr (
       refl,
       (λ agrees.
-          ap (λ (e : Extent). slice_set posts.segments.own call.seg (Some e)) (sym extent) ∙ set-extents memory call.seg (Some new) posts.segments.own agrees),
+          ap (λ (e : Extent). slice_set posts.segments.own call.seg (Some e)) (sym extent) ∙ set-extents memory.segments call.seg (Some new) posts.segments.own agrees),
       set-slots limits.notes memory call.seg (Some new) (Some (new_slots limits.notes)) (ap (λ (n : ℕ). Some n) (length-replicate limits.notes 0)),
     )
 plain-tables limits me posts memory thread (Delete call) =
-    inr (refl, (λ agrees. set-extents memory call.seg None posts.segments.own agrees), set-slots limits.notes memory call.seg None None refl)
+    inr (refl, (λ agrees. set-extents memory.segments call.seg None posts.segments.own agrees), set-slots limits.notes memory call.seg None None refl)
 plain-tables limits me posts memory thread (Store call) = inl (refl, bytes-layout memory call.seg call.offset call.bytes)
 plain-tables limits me posts memory thread (Reset call) = inl (refl, slots-layout memory call.seg call.note 0)
 plain-tables limits me posts memory thread (FetchAdd call) =

@@ -172,3 +172,16 @@ pub map-set_alike : {A B : Type 0} (f : A → B) (xs : List A) (i : ℕ) (y : A)
 map-set_alike f [] i y alike = refl
 map-set_alike f (x ∷ xs) zero y alike = ap (λ (z : _). z ∷ map f xs) (alike x refl)
 map-set_alike f (x ∷ xs) (suc i) y alike = ap (λ (rest : List _). f x ∷ rest) (map-set_alike f xs i y alike)
+
+-- what stands in a table with one item changed stood there, or is that item changed
+pub slice_get-changed_at : {A : Type 0} (xs : List A) (place : ℕ) (change : A → A) (i : ℕ) (y : A) → slice_get (changed_at xs place change) i ≡ Some y
+    → (k : ℕ) × (x : A) × (slice_get xs k ≡ Some x) × ((y ≡ x) ⊎ (y ≡ change x))
+slice_get-changed_at {A} xs place change i y h = go (slice_get xs place) refl
+  where
+    parts : (x : A) → slice_get xs place ≡ Some x → ((i ≡ place) × (y ≡ change x)) ⊎ (slice_get xs i ≡ Some y) → (k : ℕ) × (x : A) × (slice_get xs k ≡ Some x) × ((y ≡ x) ⊎ (y ≡ change x))
+    parts x at (inl both) = (place, x, at, inr both.1)
+    parts x at (inr there) = (i, y, there, inl refl)
+
+    go : (o : Option A) → slice_get xs place ≡ o → (k : ℕ) × (x : A) × (slice_get xs k ≡ Some x) × ((y ≡ x) ⊎ (y ≡ change x))
+    go None at = (i, y, rw at at h, inl refl)
+    go (Some x) at = parts x at (slice_get-set xs place i (change x) y (rw at at h))

@@ -3,7 +3,7 @@ use Rattle.std.proofs.Common.{◌≡◌, ℕ, zero, suc, ◌+◌, ◌%◌, ◌^�
 use Rattle.std.specs.List.{slice_get, slice_set}
 use Rattle.std.specs.Option.{option_map}
 use Rattle.std.proofs.lemmas.Bool.{le-leb, leb-true, eqb-true}
-use Rattle.std.proofs.lemmas.List.{length-set, length-append, length-take-le, length-drop}
+use Rattle.std.proofs.lemmas.List.{length-set, length-append, length-take-le, length-drop, map-set}
 use Rattle.std.proofs.lemmas.Option.{slice_get-map}
 use Rattle.byteorder.specs.Endian.{little_bytes}
 use Rattle.gaspi_types.specs.SegmentBytes.{is_within, range_of, with_range, IsRangeWritten}
@@ -133,6 +133,11 @@ extents_of-with_bytes own segment bytes same = map-set_alike (option_map extent_
     alike (Some s) at =
         let size : length bytes ≡ length s.bytes = rw at at same in
         rw at (ap (λ (n : ℕ). Some (record { generation = s.generation; size = n })) size)
+
+-- a segment set, or taken away, in a table and in its extents
+pub set-extents : (own : List (Option Segment)) (seg : ℕ) (o : Option Segment) (table : List (Option Extent)) → table ≡ extents_of own
+    → slice_set table seg (option_map extent_of o) ≡ extents_of (slice_set own seg o)
+set-extents own seg o table agrees = ap (λ (t : List (Option Extent)). slice_set t seg (option_map extent_of o)) agrees ∙ sym (map-set (option_map extent_of) own seg o)
 
 -- Slots.
 

@@ -6,27 +6,25 @@ ghost use Rattle.gaspi_types.specs.SegmentBytes.{range_of};
 ghost use Rattle.gaspi_types.specs.SegmentTables.{extent_in, own_range_checks, alloc_checks, next_generation};
 
 use crate::stops::PartStop;
-use crate::tables::{
-    OwnSegment, OwnTable, add_value, bytes_in, check_alloc, check_delete, check_own_range,
-    check_own_word, first_generations, no_segments, nothing_known, own_extent, set_known,
-    store_bytes, swap_value, zeroed, zeros,
-};
+use crate::tables::{check_delete, check_own_word, no_segments, nothing_known, zeroed};
 use gaspi_types::{
-    Bytes, Extent, Extents, NoMemory, RankId, Refusal, Rows, extent_in, range_of, word_at,
+    Bytes, Extent, NoMemory, OwnSegments, RankId, Refusal, Rows, Segment, SegmentTable,
+};
+use segment_tables::{
+    add_own, add_to_segment, bytes_of, check_alloc, check_own_range, extent_in, new_segment,
+    next_generation, range_of, remove_own, set_known, store_bytes, swap_in_segment, word_at,
 };
 use std::alloc::Global;
 use std::marker::Model;
 
-/// The segments of one rank, and what it knows of the segments of all ranks. Contracts see it as three tables.
+/// The segments of one rank, and what it knows of the segments of all ranks. Contracts see it as the table of segments
+/// that a rank's posts are built from, and the segments with their bytes.
 ///
 /// The numbers of segments, offsets and sizes are those that a caller wrote, so any number may come.
 #[derive(Debug, Drop)]
 pub struct Segments {
-    own: OwnTable,
-    /// The generation that the next segment of each number has.
-    next: Rows<u32>,
-    /// What was made known of the segments of each rank.
-    known: Rows<Extents>,
+    table: SegmentTable,
+    own: OwnSegments,
 }
 
 impl Model for Segments {
@@ -34,15 +32,16 @@ impl Model for Segments {
 
     ghost Value = { Stored };
 
-    ghost view = { λ s. record { own = s.own; next = s.next; known = s.known } };
+    ghost view = { λ s. record { table = s.table; segments = s.own } };
 
-    ghost invariant = { λ s. IsSound (record { own = s.own; next = s.next; known = s.known }) };
+    ghost invariant = { λ s. IsSound (record { table = s.table; segments = s.own }) };
 }
 
 impl Segments {
     ghost use Rattle.gaspi_types.specs.World.{is_segment_size};
     ghost use Rattle.std.specs.Prelude.{true};
-    ghost use Rattle.segment_store.specs.Segments.{IsSound, nothing_stored, segment_in, bytes_in, extents_of, known_of, delete_checks, own_bytes, own_word, with_segment, with_zeros, without, with_stored, with_added, with_swapped, with_registered, HasNextGeneration};
+    ghost use Rattle.gaspi_types.specs.Segments.{segment_in, new_segment, bytes_of};
+    ghost use Rattle.segment_store.specs.Segments.{IsSound, nothing_stored, known_of, delete_checks, own_bytes, own_word, with_zeros, without, with_stored, with_added, with_swapped, with_registered, HasNextGeneration};
     ghost use Rattle.segment_store.specs.Stops.{Answers};
 
     /// No segment is there, and nothing is known of the segments of so many ranks. All tables are taken here.
@@ -51,24 +50,23 @@ impl Segments {
         ensures { IfOk result (λ segments. segments ≡ nothing_stored ranks) }
     {
         Ok(Segments {
+            table: nothing_known(alloc, ranks)?,
             own: no_segments(alloc)?,
-            next: first_generations(alloc)?,
-            known: nothing_known(alloc, ranks)?,
         })
     }
 
     /// Whether a rank is one of those of which something may be known.
     pub fn has_rank(&self, owner: RankId) -> bool
-        ensures { IsTrue result ↔ (owner < length self.now.known) }
+        ensures { IsTrue result ↔ (owner < length self.now.table.known) }
     {
-        owner.index() < self.known.len()
+        owner.index() < self.table.known.len()
     }
 
     /// Whether the next segment of a number may be made: its generation is below 4294967295, or the number over 31.
     pub fn has_next_generation(&self, seg: u64) -> bool
         ensures { IsTrue result ↔ HasNextGeneration self.now seg }
     {
-        seg >= 32 || *self.next.at(seg as usize) < u32::MAX
+        seg >= 32 || *self.table.next_generations.at(seg as usize) < u32::MAX
     }
 
     /// Makes a segment of so many zeros, of the next generation of its number. Refused with `NoSegment` where the number
@@ -76,13 +74,14 @@ impl Segments {
     /// checks. (GASPI: segment_alloc)
     pub fn alloc(&mut self, alloc: Global, seg: u64, size: u64) -> Result<(), PartStop>
         requires { HasNextGeneration self.old seg }
-        ensures answer { Answers result (alloc_checks (extents_of self.old.own) seg size) }
+        ensures answer { Answers result (alloc_checks self.old.table.own seg size) }
         ensures made { OnOk result (self.new ≡ with_zeros self.old seg size) }
         ensures stopped { OnErr result (self.new ≡ self.old) }
     {
-        check_alloc(&self.own, seg, size)?;
-        let room = zeros(alloc, size)?;
-        self.keep(seg, room);
+        check_alloc(&self.table.own, seg, size)?;
+        let generation = next_generation(&self.table.next_generations, seg);
+        let segment = new_segment(alloc, generation, size as u32)?;
+        self.keep(seg, size as u32, segment);
         Ok(())
     }
 
@@ -90,36 +89,41 @@ impl Segments {
     /// memory is taken. A refusal drops the room.
     pub fn alloc_in(&mut self, seg: u64, room: Bytes) -> Result<(), Refusal>
         requires { HasNextGeneration self.old seg }
-        ensures answer { result ≡ alloc_checks (extents_of self.old.own) seg (length room) }
+        ensures answer { result ≡ alloc_checks self.old.table.own seg (length room) }
         ensures made { OnOk result (self.new ≡ with_zeros self.old seg (length room)) }
         ensures refused { OnErr result (self.new ≡ self.old) }
     {
-        check_alloc(&self.own, seg, room.len() as u64)?;
-        self.keep(seg, zeroed(room));
+        let size = room.len() as u64;
+        check_alloc(&self.table.own, seg, size)?;
+        let segment = Segment {
+            generation: next_generation(&self.table.next_generations, seg),
+            bytes: zeroed(room),
+        };
+        self.keep(seg, size as u32, segment);
         Ok(())
     }
 
-    /// Keeps bytes as a segment of the next generation of its number.
-    fn keep(&mut self, seg: u64, bytes: Bytes)
+    /// Keeps a segment of so many zeros, of the next generation of its number.
+    fn keep(&mut self, seg: u64, size: u32, segment: Segment)
         requires number { seg < 32 }
-        requires size { is_segment_size (length bytes) ≡ true }
-        requires next { next_generation self.old.next seg < 4294967295 }
-        ensures { self.new ≡ with_segment self.old seg bytes }
+        requires size { is_segment_size size ≡ true }
+        requires next { next_generation self.old.table.next_generations seg < 4294967295 }
+        requires segment { segment ≡ new_segment (next_generation self.old.table.next_generations seg) size }
+        ensures { self.new ≡ with_zeros self.old seg size }
     {
-        let place = seg as usize;
-        let generation = *self.next.at(place);
-        *self.next.at_mut(place) = generation + 1;
-        *self.own.at_mut(place) = Some(OwnSegment { generation, bytes });
+        add_own(&mut self.table, seg, size);
+        *self.own.at_mut(seg as usize) = Some(segment);
     }
 
     /// Deletes a segment; `NoSegment` where it is not there. Whether an entry that the rank posted still uses the segment
     /// cannot be seen here: the caller sees to it first that none does. (GASPI: segment_delete)
     pub fn delete(&mut self, seg: u64) -> Result<(), Refusal>
-        ensures answer { result ≡ delete_checks (extents_of self.old.own) seg }
+        ensures answer { result ≡ delete_checks self.old.table.own seg }
         ensures deleted { OnOk result (self.new ≡ without self.old seg) }
         ensures refused { OnErr result (self.new ≡ self.old) }
     {
-        check_delete(&self.own, seg)?;
+        check_delete(&self.table.own, seg)?;
+        remove_own(&mut self.table, seg);
         *self.own.at_mut(seg as usize) = None;
         Ok(())
     }
@@ -127,19 +131,19 @@ impl Segments {
     /// Checks a range of an own segment, which `bytes` then lends: `NoSegment`, then `BadSize` where the size is not 1 to
     /// 65,536, then `BadRange`.
     pub fn range(&self, seg: u64, offset: u64, size: u64) -> Result<(), Refusal>
-        ensures answer { result ≡ own_range_checks (extents_of self.now.own) seg offset size }
-        ensures within { OnOk result (IsSomeAnd (segment_in self.now.own seg) (λ mine. offset + size ≤ length mine.bytes)) }
+        ensures answer { result ≡ own_range_checks self.now.table.own seg offset size }
+        ensures within { OnOk result (IsSomeAnd (segment_in self.now.segments seg) (λ mine. offset + size ≤ length mine.bytes)) }
     {
-        check_own_range(&self.own, seg, offset, size)
+        check_own_range(&self.table.own, seg, offset, size)
     }
 
     /// Stores bytes into an own segment, from an offset on. Refused as `range` is. (own choice)
     pub fn store(&mut self, seg: u64, offset: u64, bytes: &[u8]) -> Result<(), Refusal>
-        ensures answer { result ≡ own_range_checks (extents_of self.old.own) seg offset (length bytes.now) }
+        ensures answer { result ≡ own_range_checks self.old.table.own seg offset (length bytes.now) }
         ensures stored { OnOk result (self.new ≡ with_stored self.old seg offset bytes.now) }
         ensures refused { OnErr result (self.new ≡ self.old) }
     {
-        check_own_range(&self.own, seg, offset, bytes.len() as u64)?;
+        check_own_range(&self.table.own, seg, offset, bytes.len() as u64)?;
         store_bytes(&mut self.own, seg, offset, bytes);
         Ok(())
     }
@@ -147,74 +151,75 @@ impl Segments {
     /// The bytes of a range of an own segment, copied. Refused as `range` is; the memory is taken after these checks.
     /// (own choice)
     pub fn load(&self, alloc: Global, seg: u64, offset: u64, size: u64) -> Result<Bytes, PartStop>
-        ensures answer { Answers result (own_bytes self.now.own seg offset size) }
+        ensures answer { Answers result (own_bytes self.now seg offset size) }
     {
-        check_own_range(&self.own, seg, offset, size)?;
-        let bytes = range_of(bytes_in(&self.own, seg), offset as usize, size as usize);
+        check_own_range(&self.table.own, seg, offset, size)?;
+        let bytes = range_of(bytes_of(&self.own, seg), offset as usize, size as usize);
         Ok(Rows::copied_from(alloc, bytes)?)
     }
 
     /// The bytes of a range of an own segment, lent.
     pub fn bytes(&self, seg: u64, offset: u64, size: u64) -> &[u8]
-        requires { IsSomeAnd (segment_in self.now.own seg) (λ mine. offset + size ≤ length mine.bytes) }
-        ensures { result.now ≡ range_of (bytes_in self.now.own seg) offset size }
+        requires { IsSomeAnd (segment_in self.now.segments seg) (λ mine. offset + size ≤ length mine.bytes) }
+        ensures { result.now ≡ range_of (bytes_of self.now.segments seg) offset size }
     {
-        range_of(bytes_in(&self.own, seg), offset as usize, size as usize)
+        range_of(bytes_of(&self.own, seg), offset as usize, size as usize)
     }
 
     /// How many bytes an own segment has; None exactly where it is not there.
     pub fn size_of(&self, seg: u64) -> Option<u32>
-        ensures size { result ≡ option_map (λ mine. mine.size) (extent_in (extents_of self.now.own) seg) }
+        ensures size { result ≡ option_map (λ mine. mine.size) (extent_in self.now.table.own seg) }
         ensures sound { IsSound self.now }
     {
-        own_extent(&self.own, seg).map(|mine| mine.size)
+        extent_in(&self.table.own, seg).map(|mine| mine.size)
     }
 
     /// The generation of an own segment; None exactly where it is not there.
     pub fn generation(&self, seg: u64) -> Option<u32>
-        ensures { result ≡ option_map (λ mine. mine.generation) (extent_in (extents_of self.now.own) seg) }
+        ensures { result ≡ option_map (λ mine. mine.generation) (extent_in self.now.table.own seg) }
     {
-        own_extent(&self.own, seg).map(|mine| mine.generation)
+        extent_in(&self.table.own, seg).map(|mine| mine.generation)
     }
 
     /// Makes a segment of an owner known, in a generation and a size, in place of what was known of that number.
     /// The size is that of a segment, 1 to 1,048,576 bytes. (GASPI: segment_register)
     pub fn register(&mut self, owner: RankId, seg: u64, generation: u32, size: u64)
-        requires rank { owner < length self.old.known }
+        requires rank { owner < length self.old.table.known }
         requires segment { seg < 32 }
         requires size { is_segment_size size ≡ true }
         ensures { self.new ≡ with_registered self.old owner seg (record { generation = generation; size = size }) }
     {
+        let size = size as u32;
         set_known(
-            &mut self.known,
-            owner.index(),
+            &mut self.table,
+            owner,
             seg,
-            Extent {
-                generation,
-                size: size as u32,
-            },
+            Some(Extent { generation, size }),
         );
     }
 
     /// The generation and the size in which a segment of an owner is known; None exactly where it is not.
     pub fn known(&self, owner: RankId, seg: u64) -> Option<(u32, u32)>
-        requires { owner < length self.now.known }
-        ensures { result ≡ option_map (λ extent. (extent.generation, extent.size)) (extent_in (known_of self.now.known owner) seg) }
+        requires { owner < length self.now.table.known }
+        ensures { result ≡ option_map (λ extent. (extent.generation, extent.size)) (extent_in (known_of self.now.table.known owner) seg) }
     {
-        extent_in(self.known.at(owner.index()), seg).map(|extent| (extent.generation, extent.size))
+        extent_in(self.table.known.at(owner.index()), seg).map(|extent| (
+            extent.generation,
+            extent.size,
+        ))
     }
 
     /// Adds a value to a word of an own segment, and answers the word that stood there. Sums wrap. Refused with
     /// `Unregistered` where the segment is not there, then `BadRange`, then `BadAlign` where the offset is not divisible by
     /// 8. (GASPI: atomic_fetch_add)
     pub fn fetch_add(&mut self, seg: u64, offset: u64, value: u64) -> Result<u64, Refusal>
-        ensures answer { result ≡ own_word self.old.own seg offset }
+        ensures answer { result ≡ own_word self.old seg offset }
         ensures added { OnOk result (self.new ≡ with_added self.old seg offset value) }
         ensures refused { OnErr result (self.new ≡ self.old) }
     {
-        check_own_word(&self.own, seg, offset)?;
-        let old = word_at(bytes_in(&self.own, seg), offset);
-        add_value(&mut self.own, seg, offset, value);
+        check_own_word(&self.table.own, seg, offset)?;
+        let old = word_at(bytes_of(&self.own, seg), offset);
+        add_to_segment(&mut self.own, seg, offset, value);
         Ok(old)
     }
 
@@ -227,13 +232,13 @@ impl Segments {
         comparator: u64,
         new: u64,
     ) -> Result<u64, Refusal>
-        ensures answer { result ≡ own_word self.old.own seg offset }
+        ensures answer { result ≡ own_word self.old seg offset }
         ensures swapped { OnOk result (self.new ≡ with_swapped self.old seg offset comparator new) }
         ensures refused { OnErr result (self.new ≡ self.old) }
     {
-        check_own_word(&self.own, seg, offset)?;
-        let old = word_at(bytes_in(&self.own, seg), offset);
-        swap_value(&mut self.own, seg, offset, comparator, new);
+        check_own_word(&self.table.own, seg, offset)?;
+        let old = word_at(bytes_of(&self.own, seg), offset);
+        swap_in_segment(&mut self.own, seg, offset, comparator, new);
         Ok(old)
     }
 }
