@@ -2,3 +2,4 @@ pub mod Declarations
 pub mod Items
 pub mod Extents
 pub mod Written
+mod InType

@@ -1,9 +1,11 @@
+pub mod Buffered
 pub mod CallRows
 pub mod Checks
 pub mod Copies
 pub mod Fields
 pub mod Lanes
 pub mod Lending
+pub mod NumberTypes
 pub mod Posts
 pub mod Queues
 pub mod Ranges

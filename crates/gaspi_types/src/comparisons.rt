@@ -127,7 +127,7 @@ fn same_refusal(a: &Refusal, b: &Refusal) -> bool
 fn same_numbers(a: &Numbers, b: &Numbers) -> bool
     ensures { result ≡ same_numbers a.now b.now }
 {
-    type_number(a.num_type) == type_number(b.num_type) && a.items.as_slice() == b.items.as_slice()
+    type_number(a.num_type()) == type_number(b.num_type()) && a.items() == b.items()
 }
 
 /// Whether replies are the same.

@@ -143,10 +143,7 @@ impl Reply {
             Reply::Id(n) => Ok(Reply::Id(*n)),
             Reply::Bytes(bytes) => Ok(Reply::Bytes(Rows::copied_from(alloc, bytes.as_slice())?)),
             Reply::Mask(mask) => Ok(Reply::Mask(*mask)),
-            Reply::List(numbers) => Ok(Reply::List(Numbers {
-                num_type: numbers.num_type,
-                items: Rows::copied_from(alloc, numbers.items.as_slice())?,
-            })),
+            Reply::List(numbers) => Ok(Reply::List(numbers.copy(alloc)?)),
             Reply::Timeout => Ok(Reply::Timeout),
             Reply::Refused(refusal) => Ok(Reply::Refused(*refusal)),
         }

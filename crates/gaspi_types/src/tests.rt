@@ -30,6 +30,23 @@ fn lists_keep_their_items(rt: HostRuntime) -> Result<(), Fail> {
 }
 
 #[test]
+fn buffers_have_room(rt: HostRuntime) -> Result<(), Fail> {
+    let mut buffer: Buffer<u32> = Buffer::with_room(rt.alloc(), 2)?;
+    buffer.push(4);
+    assert!(rt; buffer.has_room());
+    buffer.push(5);
+    assert!(rt; !buffer.has_room());
+    assert_eq!(rt; (buffer.len(), buffer.room()), (2, 2));
+    assert_eq!(rt; buffer.remove(0), 4);
+    buffer.push(6);
+    assert_eq!(rt; buffer.as_slice(), [5, 6].as_slice());
+    buffer.truncate(1);
+    buffer.push(7);
+    assert_eq!(rt; buffer.into_rows().as_slice(), [5, 7].as_slice());
+    Ok(())
+}
+
+#[test]
 fn shapes_are_declared(rt: HostRuntime) -> Result<(), Fail> {
     let mut shape = Shape::new(rt.alloc(), 2, 3, 4, 5, 6, 2)?;
     shape.add_segment(0, 31, 16)?;
@@ -93,11 +110,13 @@ fn allreduce(num_type: NumType, count: u32) -> Reply {
     })
 }
 
+/// The list of these numbers, or nothing but `Done` where one is out of the type's range.
 fn numbers(alloc: Global, num_type: NumType, items: &[i128]) -> Result<Reply, NoMemory> {
-    Ok(Reply::List(Numbers {
-        num_type,
-        items: Rows::copied_from(alloc, items)?,
-    }))
+    if !are_in_type(num_type, items) {
+        return Ok(Reply::Done);
+    }
+    let items = Rows::copied_from(alloc, items)?;
+    Ok(Reply::List(Numbers::new(num_type, items)))
 }
 
 #[test]
@@ -137,5 +156,6 @@ fn replies_are_compared(rt: HostRuntime) -> Result<(), Fail> {
     );
     let list = numbers(alloc, NumType::Ulong, &[0, 18_446_744_073_709_551_615])?;
     assert!(rt; same_reply(&list.copy(alloc)?, &list));
+    assert!(rt; differ(numbers(alloc, NumType::Uint, &[-1])?, list));
     Ok(())
 }
