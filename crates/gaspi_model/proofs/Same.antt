@@ -9,7 +9,7 @@ use Rattle.gaspi_types.specs.declared.collectives.NumType.{NumType}
 use Rattle.gaspi_types.specs.declared.collectives.Op.{Op}
 use Rattle.gaspi_types.specs.declared.collectives.Stage.{Stage}
 use Rattle.gaspi_types.specs.declared.collectives.Coll.{Coll}
-use Rattle.gaspi_types.specs.declared.collectives.Numbers.{Numbers}
+use Rattle.gaspi_types.specs.NumberTypes.{TypedNumbers}
 use Rattle.gaspi_types.specs.declared.collectives.NumType.TheVariants.{Int, Uint, Long, Ulong, Float, Double}
 use Rattle.gaspi_types.specs.declared.collectives.Op.TheVariants.{Min, Max, Sum}
 use Rattle.gaspi_types.specs.declared.collectives.Stage.TheVariants.{Building, Committed}
@@ -116,31 +116,10 @@ refusal_named number fields =
 
 refusal_named-same : (r : Refusal) → refusal_named (refusal_number r) (refusal_fields r) ≡ r
 unfolding refusal_named
-refusal_named-same BadRank = refl
-refusal_named-same NoSegment = refl
-refusal_named-same SegmentThere = refl
-refusal_named-same Unregistered = refl
-refusal_named-same (BadRange size) = refl
-refusal_named-same BadSize = refl
-refusal_named-same BadQueue = refl
-refusal_named-same (QueueFull count need) = refl
-refusal_named-same (QueueBroken rank) = refl
-refusal_named-same BadNote = refl
-refusal_named-same ZeroValue = refl
-refusal_named-same BadAlign = refl
-refusal_named-same (PassiveSize waiting) = refl
-refusal_named-same NoGroup = refl
 refusal_named-same (GroupStage stage) = ap GroupStage (stage_named-same stage)
-refusal_named-same NotMember = refl
-refusal_named-same (GroupMismatch kept) = refl
-refusal_named-same (ActiveCollective thread) = refl
 refusal_named-same (ResumeOther kept) = ap ResumeOther (coll_named-same kept)
 refusal_named-same (CollectiveMismatch kept) = ap CollectiveMismatch (coll_named-same kept)
-refusal_named-same BadCount = refl
-refusal_named-same FloatType = refl
-refusal_named-same (SegmentBusy queue) = refl
-refusal_named-same GroupsFull = refl
-refusal_named-same CallerEnded = refl
+refusal_named-same refusal = refl
 
 pub same_refusal-same : (a b : Refusal) → same_refusal a b ≡ true → a ≡ b
 same_refusal-same a b h =
@@ -160,10 +139,10 @@ pointwise-int (x ∷ a) (y ∷ b) h =
     let tail = pointwise-int a b parts.1 in
     cc
 
-numbers_of : NumType → List ℤ → Numbers
+numbers_of : NumType → List ℤ → TypedNumbers
 numbers_of num_type items = record { num_type = num_type; items = items }
 
-same_numbers-same : (a b : Numbers) → same_numbers a b ≡ true → a ≡ b
+same_numbers-same : (a b : TypedNumbers) → same_numbers a b ≡ true → a ≡ b
 unfolding numbers_of
 same_numbers-same a b h =
     let parts = both (type_number a.num_type == type_number b.num_type) (pointwise int_eq a.items b.items) h in
@@ -176,7 +155,7 @@ same_reply-same (replies.Value m) (replies.Value n) h = ap (λ (k : ℕ). replie
 same_reply-same (replies.Id m) (replies.Id n) h = ap (λ (k : ℕ). replies.Id k) (eqb-true m n h)
 same_reply-same (replies.Bytes a) (replies.Bytes b) h = ap (λ (k : List ℕ). replies.Bytes k) (pointwise-same a b h)
 same_reply-same (replies.Mask m) (replies.Mask n) h = ap (λ (k : ℕ). replies.Mask k) (eqb-true m n h)
-same_reply-same (replies.List a) (replies.List b) h = ap (λ (k : Numbers). replies.List k) (same_numbers-same a b h)
+same_reply-same (replies.List a) (replies.List b) h = ap (λ (k : TypedNumbers). replies.List k) (same_numbers-same a b h)
 same_reply-same replies.Timeout replies.Timeout h = refl
 same_reply-same (replies.Refused a) (replies.Refused b) h = ap (λ (k : Refusal). replies.Refused k) (same_refusal-same a b h)
 same_reply-same _ _ h = absurd (let no : ⊥ = cc in no)

@@ -69,33 +69,19 @@ coll_fields (Allreduce op num_type count) = 1 ∷ op_number op ∷ type_number n
 coll_fields (Create segment size) = 2 ∷ segment ∷ size ∷ []
 coll_fields (Commit mask) = 3 ∷ mask ∷ []
 
--- the fields of a refusal as numbers, in order
+-- the fields of a refusal as numbers, in order; most have none
 abbrev pub refusal_fields : Refusal → List ℕ
-refusal_fields BadRank = []
-refusal_fields NoSegment = []
-refusal_fields SegmentThere = []
-refusal_fields Unregistered = []
 refusal_fields (BadRange size) = size ∷ []
-refusal_fields BadSize = []
-refusal_fields BadQueue = []
 refusal_fields (QueueFull count need) = count ∷ need ∷ []
 refusal_fields (QueueBroken rank) = rank ∷ []
-refusal_fields BadNote = []
-refusal_fields ZeroValue = []
-refusal_fields BadAlign = []
 refusal_fields (PassiveSize waiting) = waiting ∷ []
-refusal_fields NoGroup = []
 refusal_fields (GroupStage stage) = stage_number stage ∷ []
-refusal_fields NotMember = []
 refusal_fields (GroupMismatch kept) = kept ∷ []
 refusal_fields (ActiveCollective thread) = thread ∷ []
 refusal_fields (ResumeOther kept) = coll_fields kept
 refusal_fields (CollectiveMismatch kept) = coll_fields kept
-refusal_fields BadCount = []
-refusal_fields FloatType = []
 refusal_fields (SegmentBusy queue) = queue ∷ []
-refusal_fields GroupsFull = []
-refusal_fields CallerEnded = []
+refusal_fields refusal = []
 
 -- refusals are the same where their numbers and fields are
 abbrev pub same_refusal : Refusal → Refusal → Bool
@@ -118,21 +104,10 @@ same_reply _ _ = false
 
 abbrev pub is_done : Reply → Bool
 is_done replies.Done = true
-is_done (replies.Value n) = false
-is_done (replies.Id n) = false
-is_done (replies.Bytes bytes) = false
-is_done (replies.Mask mask) = false
-is_done (replies.List numbers) = false
-is_done replies.Timeout = false
-is_done (replies.Refused refusal) = false
+is_done reply = false
 
 -- a reply that says that the call did nothing
 abbrev pub is_idle : Reply → Bool
-is_idle replies.Done = false
-is_idle (replies.Value n) = false
-is_idle (replies.Id n) = false
-is_idle (replies.Bytes bytes) = false
-is_idle (replies.Mask mask) = false
-is_idle (replies.List numbers) = false
 is_idle replies.Timeout = true
 is_idle (replies.Refused refusal) = true
+is_idle reply = false

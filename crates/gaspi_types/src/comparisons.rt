@@ -82,21 +82,7 @@ fn refusal_fields(refusal: &Refusal) -> Fields
         Refusal::ResumeOther { kept } => coll_fields(*kept),
         Refusal::CollectiveMismatch { kept } => coll_fields(*kept),
         Refusal::SegmentBusy { queue } => Fields::One(*queue),
-        Refusal::BadRank
-        | Refusal::NoSegment
-        | Refusal::SegmentThere
-        | Refusal::Unregistered
-        | Refusal::BadSize
-        | Refusal::BadQueue
-        | Refusal::BadNote
-        | Refusal::ZeroValue
-        | Refusal::BadAlign
-        | Refusal::NoGroup
-        | Refusal::NotMember
-        | Refusal::BadCount
-        | Refusal::FloatType
-        | Refusal::GroupsFull
-        | Refusal::CallerEnded => Fields::Nothing,
+        _ => Fields::Nothing,
     }
 }
 
