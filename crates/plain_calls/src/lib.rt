@@ -5,6 +5,7 @@
 mod atomic_calls;
 mod calls;
 mod lanes;
+mod looks;
 mod memories;
 mod memory_calls;
 mod notification_calls;
@@ -17,10 +18,11 @@ mod segment_calls;
 mod tables;
 mod threads;
 
-pub use calls::{answer, news, tell};
+pub use calls::{answer, look, news, tell};
 pub use lanes::{is_carried, is_posted, is_write, may_put, may_take, place_of};
+pub use looks::{Kinds, Look};
 pub use memories::{bytes_of, is_generation, new_segment, segment_at, set_slot, store_bytes};
-pub use recording::called;
+pub use recording::{called, record};
 pub use replies::is_idle;
 pub use segment_calls::News;
 pub use threads::{is_running, is_there, thread_at};
