@@ -100,8 +100,8 @@ look_taken look limits me posts memory thread call sound l =
 pub charged : (t t' : ThreadState) (call : Call) (ready : Ready) (n : ℕ) → t ≡ t' → n ≡ charge t call (recorded_reply ready) → n ≡ charge t' call (recorded_reply ready)
 charged t t' call ready n state is = is ∙ ap (λ (t : ThreadState). charge t call (recorded_reply ready)) state
 
--- a step that gives its reply, as one that does not
-pub steps_as : (result : Result Reply StepFault) (made : Result (Unit {0}) StepFault) (old new : Worked) (outcome outcome' : Result Worked Why)
+-- a step that gives something, as one that does not
+pub steps_as : {A S : Type 0} (result : Result A StepFault) (made : Result (Unit {0}) StepFault) (old new : S) (outcome outcome' : Result S Why)
     → made_of result ≡ made → outcome ≡ outcome' → Steps (made_of result) old new outcome → Steps made old new outcome'
-steps_as result made old new outcome outcome' is same steps =
-    subst (λ (m : Result (Unit {0}) StepFault). Steps m old new outcome') is (subst (λ (o : Result Worked Why). Steps (made_of result) old new o) same steps)
+steps_as {A} {S} result made old new outcome outcome' is same steps =
+    subst (λ (m : Result (Unit {0}) StepFault). Steps m old new outcome') is (subst (λ (o : Result S Why). Steps (made_of result) old new o) same steps)

@@ -63,7 +63,7 @@ abbrev pub found_after : Posts → ℕ → Call → Look → Posts
 found_after posts thread call look =
     counted (if is_idle (recorded_reply look.ready) then posts else found_done posts thread call (kinds_of look.kinds))
 
--- whether a step that gives its reply was made, or why not
-abbrev pub made_of : Result Reply StepFault → Result (Unit {0}) StepFault
-made_of (Ok reply) = Ok tt
+-- whether a step that gives something was made, or why not
+abbrev pub made_of : {A : Type 0} → Result A StepFault → Result (Unit {0}) StepFault
+made_of (Ok given) = Ok tt
 made_of (Err fault) = Err fault

@@ -4,7 +4,7 @@ ghost use Rattle.std.specs.Prelude.{◌≡◌, ◌≤◌, List, Option, Result, 
 ghost use Rattle.gaspi_types.specs.declared.entries.Kind.{Kind};
 ghost use Rattle.gaspi_types.specs.declared.replies.Refusal.{Refusal};
 ghost use Rattle.gaspi_types.specs.declared.replies.Reply.{Reply};
-ghost use Rattle.gaspi_model.specs.Calls.{plain_finds, answer, plain_done, memory_done, peer_after};
+ghost use Rattle.gaspi_model.specs.Calls.{plain_finds, answer, plain_done, memory_done, peer_after, recorded_reply};
 ghost use Rattle.gaspi_model.specs.declared.states.Posts.{Posts};
 ghost use Rattle.plain_calls.specs.Looks.{Accepts, IsPostLook, IsLook, found_done};
 ghost use Rattle.plain_calls.specs.Memory.{is_load, is_alloc, keeps_memory};
@@ -18,7 +18,7 @@ use crate::notification_calls::{reset_finds, reset_leaves, waitsome_finds};
 use crate::post_calls::posting_finds;
 use crate::posting::post;
 use crate::queue_calls::{closed, wait_finds};
-use crate::replies::{is_idle, ready_of};
+use crate::replies::ready_of;
 use crate::segment_calls::{
     News, alloc_finds, alloc_leaves, delete_finds, delete_leaves, register_finds, register_news,
     set_known,
@@ -195,11 +195,11 @@ pub fn call_done(
     }
 }
 
-/// What a call tells a peer that it reaches.
-pub fn news(me: RankId, posts: &Posts, call: &Call, reply: &Reply) -> Option<News>
-    ensures { (peer : Posts) → told result peer ≡ peer_after me posts.now call.now reply.now peer }
+/// What a call tells a peer that it reaches, where its look is recorded.
+pub fn news(me: RankId, posts: &Posts, call: &Call, look: &Look) -> Option<News>
+    ensures { (peer : Posts) → told result peer ≡ peer_after me posts.now call.now (recorded_reply look.now.ready) peer }
 {
-    if is_idle(reply) {
+    if look.is_idle() {
         return None;
     }
     match call {

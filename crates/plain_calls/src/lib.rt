@@ -23,6 +23,5 @@ pub use lanes::{is_carried, is_posted, is_write, may_put, may_take, place_of};
 pub use looks::{Kinds, Look};
 pub use memories::{bytes_of, is_generation, new_segment, segment_at, set_slot, store_bytes};
 pub use recording::{called, record};
-pub use replies::is_idle;
 pub use segment_calls::News;
 pub use threads::{is_running, is_there, thread_at};

@@ -1,10 +1,11 @@
 //! What a look at a call found. It is recorded as it was found, and nothing of it is looked for again.
 
 ghost use Rattle.std.specs.Prelude.{◌≡◌, ◌≤◌, length};
-ghost use Rattle.gaspi_types.specs.Replies.{same_reply};
+ghost use Rattle.gaspi_types.specs.Replies.{same_reply, is_idle};
 ghost use Rattle.gaspi_model.specs.Calls.{recorded_reply};
 ghost use Rattle.plain_calls.specs.Looks.{kinds_of};
 
+use crate::replies::is_idle;
 use gaspi_types::{Kind, Ready, Reply, same_reply};
 
 /// The kinds of the entries that a call asks to be appended, in order.
@@ -37,6 +38,16 @@ pub struct Look {
 }
 
 impl Look {
+    /// Whether the call is recorded as a refusal or a timeout.
+    pub fn is_idle(&self) -> bool
+        ensures { result ≡ is_idle (recorded_reply self.now.ready) }
+    {
+        match &self.ready {
+            Ready::Reply(reply) => is_idle(reply),
+            Ready::NotReady => true,
+        }
+    }
+
     /// Whether a reply is the one with which the call may be recorded. (GASPI: timeouts)
     pub fn is_recorded_with(&self, reply: &Reply) -> bool
         ensures { result ≡ same_reply reply.now (recorded_reply self.now.ready) }

@@ -56,16 +56,20 @@ fn record_found(
     ensures memory_kept { OnErr result (memory.new ≡ memory.old) }
     ensures ample { keeps_memory call.now ≡ false → IsOk result }
 {
-    let Look { ready, kinds } = look;
-    let reply = recorded_reply(ready);
-    if is_idle(&reply) {
-        posts.events += 1;
-        return Ok(reply);
-    }
     let events = posts.events + 1;
-    call_done(alloc, limits, posts, memory, thread, call, kinds.as_slice())?;
+    if !look.is_idle() {
+        call_done(
+            alloc,
+            limits,
+            posts,
+            memory,
+            thread,
+            call,
+            look.kinds.as_slice(),
+        )?;
+    }
     posts.events = events;
-    Ok(reply)
+    Ok(recorded_reply(look.ready))
 }
 
 /// Records a look at a call: the step by the call with what the look found. It gives the reply with which the call was
