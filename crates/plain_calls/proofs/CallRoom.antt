@@ -1,5 +1,5 @@
 -- The room of a call that may be recorded: a post's numbers fit, and what its rank has taken grows by its charge.
-use Rattle.std.proofs.Common.{◌≡◌, ℕ, ◌+◌, ◌*◌, ◌^◌, ◌<◌, ◌≤◌, Bool, true, false, cond, nat_le, nat_lt, List, [], ◌++◌, Option, None, Some, Result, Ok, Err, length, get_or, count_by, sum_by, slice_get, slice_set, refl, sym, ap, ◌∙◌, arith}
+use Rattle.std.proofs.Common.{◌≡◌, ℕ, ◌+◌, ◌*◌, ◌^◌, ◌<◌, ◌≤◌, Bool, true, false, cond, nat_le, nat_lt, List, [], ◌++◌, Option, None, Some, Result, Ok, Err, length, get_or, count_by, sum_by, slice_get, slice_set, refl, sym, ap, subst, ◌∙◌, arith}
 use Rattle.std.proofs.lemmas.Bool.Decides.{nat_tests}
 use Rattle.std.proofs.lemmas.List.Sums.{sum_by-append}
 use Rattle.std.proofs.lemmas.Option.{slice_get-get_or}
@@ -33,7 +33,7 @@ use Rattle.gaspi_model.specs.declared.states.Posts.{Posts}
 use Rattle.gaspi_model.specs.declared.states.Memory.{Memory}
 use Rattle.gaspi_model.specs.declared.states.ThreadState.{ThreadState}
 use Rattle.gaspi_model.specs.declared.states.ThreadState.TheVariants as threads
-use Rattle.plain_calls.specs.Room.{IsRoom, HasPostingRoom, HasAllocRoom, HasCallRoom}
+use Rattle.plain_calls.specs.Room.{IsRoom, HasPostingRoom, HasAllocRoom, HasPlainRoom, HasCallRoom}
 use Rattle.plain_calls.proofs.Chains.{passed, check_holds, changed_there}
 use Rattle.plain_calls.proofs.Owed.{sum_by-put, lane_owed-posted}
 use Rattle.plain_calls.proofs.Postings.{IsPost, post_by, HasLength, IsPosting, posting_of}
@@ -126,17 +126,27 @@ pub posted : (limits : Limits) (me : ℕ) (posts : Posts) (memory : Memory) (thr
 posted limits me posts memory thread call reply posting p f = post_by limits posts posting.rank posting.queue (call_asks limits me posts call) f.reply_found (sym (p.finds memory) ∙ f.finds)
 
 -- the numbers and the open count of a post that may be recorded fit
-posting_room : (limits : Limits) (me : ℕ) (posts : Posts) (memory : Memory) (thread : ℕ) (call : Call) (reply : Reply) (posting : Option Posting)
-    → (row_of call).posting ≡ posting → are_limits limits ≡ true → IsSoundPosts limits posts → IsFound limits me posts memory thread call reply → HasPostingRoom posts posting
-posting_room limits me posts memory thread call reply None is limited sound f = tt
-posting_room limits me posts memory thread call reply (Some posting) is limited sound f =
+posting_room : (limits : Limits) (me : ℕ) (posts : Posts) (memory : Memory) (thread : ℕ) (call : Call) (reply : Reply) (kinds : List Kind) (posting : Option Posting)
+    → (row_of call).posting ≡ posting → call_asks limits me posts call ≡ Ok kinds → are_limits limits ≡ true → IsSoundPosts limits posts
+    → IsFound limits me posts memory thread call reply → HasPostingRoom posts posting (length kinds)
+posting_room limits me posts memory thread call reply kinds None is asks limited sound f = tt
+posting_room limits me posts memory thread call reply kinds (Some posting) is asks limited sound f =
     let p = posting_of limits me posts call posting is in
-    post_room limits posts posting.rank posting.queue (call_asks limits me posts call) f.reply_found posting.entries p.few limited sound (posted limits me posts memory thread call reply posting p f) p.long
+    subst (λ (n : ℕ). IsRoom posts n posting.queue) (sym (p.long kinds asks))
+    (post_room limits posts posting.rank posting.queue (call_asks limits me posts call) f.reply_found posting.entries p.few limited sound (posted limits me posts memory thread call reply posting p f) p.long)
 
-pub room_by : (limits : Limits) (me : ℕ) (posts : Posts) (memory : Memory) (thread : ℕ) (call : Call) (reply : Reply)
-    → are_limits limits ≡ true → IsSoundPosts limits posts → IsFound limits me posts memory thread call reply → HasCallRoom posts call
-room_by limits me posts memory thread (Alloc call) reply limited sound f = alloc_room limits posts call f.reply_found limited sound f.finds
-room_by limits me posts memory thread call reply limited sound f = posting_room limits me posts memory thread call reply (row_of call).posting refl limited sound f
+plain_room : (limits : Limits) (me : ℕ) (posts : Posts) (memory : Memory) (thread : ℕ) (call : Call) (reply : Reply)
+    → are_limits limits ≡ true → IsSoundPosts limits posts → IsFound limits me posts memory thread call reply → HasPlainRoom posts call
+plain_room limits me posts memory thread (Alloc call) reply limited sound f = alloc_room limits posts call f.reply_found limited sound f.finds
+plain_room limits me posts memory thread call reply limited sound f = tt
+
+pub room_by : (limits : Limits) (me : ℕ) (posts : Posts) (memory : Memory) (thread : ℕ) (call : Call) (reply : Reply) (kinds : List Kind)
+    → call_asks limits me posts call ≡ Ok kinds → are_limits limits ≡ true → IsSoundPosts limits posts → IsFound limits me posts memory thread call reply
+    → HasCallRoom posts call (length kinds)
+room_by limits me posts memory thread call reply kinds asks limited sound f = record {
+  posting = posting_room limits me posts memory thread call reply kinds (row_of call).posting refl asks limited sound f;
+  plain = plain_room limits me posts memory thread call reply limited sound f;
+}
 
 idle_not_done : (reply : Reply) → is_idle reply ≡ true → is_done reply ≡ false
 idle_not_done replies.Done idle = cc

@@ -1,3 +1,4 @@
+pub mod Looks
 pub mod Memory
 pub mod Room
 pub mod Telling

@@ -15,13 +15,20 @@ pub record IsRoom (posts : Posts) (entries queue : ℕ) : Type 0 where
   pub numbers : posts.next + entries < 2 ^ 32
   pub counts : (q : Queue) → slice_get posts.queues queue ≡ Some q → q.open_count + entries < 2 ^ 32
 
-abbrev pub HasPostingRoom : Posts → Option Posting → Type 0
-HasPostingRoom posts None = Unit {0}
-HasPostingRoom posts (Some posting) = IsRoom posts posting.entries posting.queue
+-- a call that posts, for what it appends
+abbrev pub HasPostingRoom : Posts → Option Posting → ℕ → Type 0
+HasPostingRoom posts None entries = Unit {0}
+HasPostingRoom posts (Some posting) entries = IsRoom posts entries posting.queue
 
 abbrev pub HasAllocRoom : Posts → alloc.Alloc → Type 0
 HasAllocRoom posts call = (next_generation posts.segments.next_generations call.seg + 1 < 2 ^ 32) × (call.size < 2 ^ 32)
 
-abbrev pub HasCallRoom : Posts → Call → Type 0
-HasCallRoom posts (Alloc call) = HasAllocRoom posts call
-HasCallRoom posts call = HasPostingRoom posts (row_of call).posting
+-- a call that posts nothing
+abbrev pub HasPlainRoom : Posts → Call → Type 0
+HasPlainRoom posts (Alloc call) = HasAllocRoom posts call
+HasPlainRoom posts call = Unit {0}
+
+-- a call that appends so many entries
+pub record HasCallRoom (posts : Posts) (call : Call) (entries : ℕ) : Type 0 where
+  pub posting : HasPostingRoom posts (row_of call).posting entries
+  pub plain : HasPlainRoom posts call

@@ -1,19 +1,24 @@
 //! What a call answers and what it leaves, by the kinds of calls.
 
-ghost use Rattle.std.specs.Prelude.{◌≡◌, ◌≤◌, length, IfOk, IsOk, OnOk, OnErr, false};
-ghost use Rattle.gaspi_model.specs.Calls.{plain_finds, call_finds, answer, posts_done, memory_done, peer_after};
+ghost use Rattle.std.specs.Prelude.{◌≡◌, ◌≤◌, List, Option, Result, length, IfOk, IsOk, OnOk, OnErr, false};
+ghost use Rattle.gaspi_types.specs.declared.entries.Kind.{Kind};
+ghost use Rattle.gaspi_types.specs.declared.replies.Refusal.{Refusal};
+ghost use Rattle.gaspi_types.specs.declared.replies.Reply.{Reply};
+ghost use Rattle.gaspi_model.specs.Calls.{plain_finds, answer, plain_done, memory_done, peer_after, recorded_reply};
 ghost use Rattle.gaspi_model.specs.declared.states.Posts.{Posts};
-ghost use Rattle.plain_calls.specs.Memory.{is_load, keeps_memory};
-ghost use Rattle.plain_calls.specs.Room.{HasCallRoom};
+ghost use Rattle.plain_calls.specs.Looks.{Accepts, IsPostLook, IsLook, found_done};
+ghost use Rattle.plain_calls.specs.Memory.{is_load, is_alloc, keeps_memory};
+ghost use Rattle.plain_calls.specs.Room.{HasPlainRoom, HasCallRoom};
 ghost use Rattle.plain_calls.specs.Telling.{told};
 
 use crate::atomic_calls::{compare_swap_leaves, fetch_add_leaves, word_finds};
+use crate::looks::{Kinds, Look};
 use crate::memory_calls::{load_finds, store_finds, store_leaves};
 use crate::notification_calls::{reset_finds, reset_leaves, waitsome_finds};
-use crate::post_calls::{asked_finds, notify_asks, write_asks, write_notify_asks};
-use crate::posting::post_asked;
+use crate::post_calls::posting_finds;
+use crate::posting::post;
 use crate::queue_calls::{closed, wait_finds};
-use crate::replies::{is_idle, ready_of};
+use crate::replies::ready_of;
 use crate::segment_calls::{
     News, alloc_finds, alloc_leaves, delete_finds, delete_leaves, register_finds, register_news,
     tell_known,
@@ -21,7 +26,7 @@ use crate::segment_calls::{
 use crate::threads::{end_thread, is_running, thread_at};
 use gaspi_model::{Memory, Posts};
 use gaspi_types::{
-    Call, CompareSwap, FetchAdd, Limits, NoMemory, RankId, Ready, Refusal, Reply, ThreadId,
+    Call, CompareSwap, FetchAdd, Kind, Limits, NoMemory, RankId, Ready, Refusal, Reply, ThreadId,
 };
 use std::alloc::Global;
 
@@ -67,34 +72,52 @@ fn plain_finds(
     })
 }
 
-/// What a call finds: its refusal, or a reply, or that it is not ready. The memory is that which the call works on. Only a
-/// load takes memory.
-fn call_finds(
+/// The look at a call that posts.
+fn posting_look(finds: Result<Kinds, Refusal>) -> Look
+    ensures { (asked : Result (List Kind) Refusal) (answers : Result (Option Reply) Refusal) → Accepts finds asked answers → IsPostLook result asked answers }
+{
+    match finds {
+        Ok(kinds) => Look {
+            ready: Ready::Reply(Reply::Done),
+            kinds,
+        },
+        Err(refusal) => Look {
+            ready: Ready::Reply(Reply::Refused(refusal)),
+            kinds: Kinds::Nothing,
+        },
+    }
+}
+
+/// Looks at a call. The memory is that which the call works on: its rank's or, of an atomic, that of the rank that it
+/// names. Only a load takes memory.
+pub fn look(
     alloc: Global,
     limits: &Limits,
     me: RankId,
     posts: &Posts,
     memory: &Memory,
+    thread: ThreadId,
     call: &Call,
-) -> Result<Result<Option<Reply>, Refusal>, NoMemory>
+) -> Result<Look, NoMemory>
     requires { length posts.now.queues ≤ 8 }
-    ensures finds { IfOk result (λ finds. finds ≡ call_finds limits.now me posts.now memory.now call.now) }
+    ensures look { IfOk result (λ look. IsLook look limits.now me posts.now memory.now thread call.now) }
     ensures ample { is_load call.now ≡ false → IsOk result }
 {
-    match call {
-        Call::Write(call) => {
-            let asked = write_asks(me, posts, call);
-            Ok(asked_finds(limits, posts, call.rank, call.queue, asked))
+    if !is_running(thread_at(posts, thread)) {
+        return Ok(Look {
+            ready: Ready::Reply(Reply::Refused(Refusal::CallerEnded)),
+            kinds: Kinds::Nothing,
+        });
+    }
+    match call.row().posting {
+        Some(to) => Ok(posting_look(posting_finds(limits, me, posts, to, call))),
+        None => {
+            let finds = plain_finds(alloc, limits, me, posts, memory, call)?;
+            Ok(Look {
+                ready: ready_of(finds),
+                kinds: Kinds::Nothing,
+            })
         }
-        Call::Notify(call) => {
-            let asked = notify_asks(limits, me, posts, call);
-            Ok(asked_finds(limits, posts, call.rank, call.queue, asked))
-        }
-        Call::WriteNotify(call) => {
-            let asked = write_notify_asks(limits, me, posts, call);
-            Ok(asked_finds(limits, posts, call.rank, call.queue, asked))
-        }
-        _ => plain_finds(alloc, limits, me, posts, memory, call),
     }
 }
 
@@ -113,47 +136,30 @@ pub fn answer(
     ensures answer { IfOk result (λ ready. ready ≡ answer limits.now me posts.now memory.now thread call.now) }
     ensures ample { is_load call.now ≡ false → IsOk result }
 {
-    if !is_running(thread_at(posts, thread)) {
-        return Ok(Ready::Reply(Reply::Refused(Refusal::CallerEnded)));
-    }
-    let finds = call_finds(alloc, limits, me, posts, memory, call)?;
-    Ok(ready_of(finds))
+    let look = look(alloc, limits, me, posts, memory, thread, call)?;
+    Ok(look.ready)
 }
 
-/// What a call leaves that was answered neither with a refusal nor with a timeout, in the posts of its rank and in the
-/// memory that it works on. Only a post and a segment that is made take memory, and without it nothing changes.
-pub fn call_done(
+/// What a call leaves that posts nothing.
+fn plain_done(
     alloc: Global,
     limits: &Limits,
-    me: RankId,
     posts: &mut Posts,
     memory: &mut Memory,
     thread: ThreadId,
     call: &Call,
 ) -> Result<(), NoMemory>
-    requires { HasCallRoom posts.old call.now }
-    ensures posts { OnOk result (posts.new ≡ posts_done limits.now me posts.old thread call.now) }
+    requires { HasPlainRoom posts.old call.now }
+    ensures posts { OnOk result (posts.new ≡ plain_done posts.old thread call.now) }
     ensures memory { OnOk result (memory.new ≡ memory_done limits.now posts.old memory.old call.now) }
     ensures posts_kept { OnErr result (posts.new ≡ posts.old) }
     ensures memory_kept { OnErr result (memory.new ≡ memory.old) }
-    ensures ample { keeps_memory call.now ≡ false → IsOk result }
+    ensures ample { is_alloc call.now ≡ false → IsOk result }
 {
     match call {
         Call::Alloc(call) => return alloc_leaves(alloc, limits, posts, memory, call),
         Call::Delete(call) => delete_leaves(posts, memory, call),
         Call::Store(call) => store_leaves(memory, call),
-        Call::Write(call) => {
-            let asked = write_asks(me, posts, call);
-            return post_asked(alloc, posts, call.queue, call.rank, asked);
-        }
-        Call::Notify(call) => {
-            let asked = notify_asks(limits, me, posts, call);
-            return post_asked(alloc, posts, call.queue, call.rank, asked);
-        }
-        Call::WriteNotify(call) => {
-            let asked = write_notify_asks(limits, me, posts, call);
-            return post_asked(alloc, posts, call.queue, call.rank, asked);
-        }
         Call::Wait(call) => closed(posts, call.queue),
         Call::Reset(call) => reset_leaves(memory, call),
         Call::FetchAdd(call) => fetch_add_leaves(memory, call),
@@ -164,11 +170,36 @@ pub fn call_done(
     Ok(())
 }
 
-/// What a call tells a peer that it reaches.
-pub fn news(me: RankId, posts: &Posts, call: &Call, reply: &Reply) -> Option<News>
-    ensures { (peer : Posts) → told result peer ≡ peer_after me posts.now call.now reply.now peer }
+/// What a call leaves that was answered neither with a refusal nor with a timeout, in the posts of its rank and in the
+/// memory that it works on; a post appends entries of these kinds. Only a post and a segment that is made take memory, and
+/// without it nothing changes.
+pub fn call_done(
+    alloc: Global,
+    limits: &Limits,
+    posts: &mut Posts,
+    memory: &mut Memory,
+    thread: ThreadId,
+    call: &Call,
+    kinds: &[Kind],
+) -> Result<(), NoMemory>
+    requires { HasCallRoom posts.old call.now (length kinds.now) }
+    ensures posts { OnOk result (posts.new ≡ found_done posts.old thread call.now kinds.now) }
+    ensures memory { OnOk result (memory.new ≡ memory_done limits.now posts.old memory.old call.now) }
+    ensures posts_kept { OnErr result (posts.new ≡ posts.old) }
+    ensures memory_kept { OnErr result (memory.new ≡ memory.old) }
+    ensures ample { keeps_memory call.now ≡ false → IsOk result }
 {
-    if is_idle(reply) {
+    match call.row().posting {
+        Some(to) => post(alloc, posts, to.queue, to.rank, kinds),
+        None => plain_done(alloc, limits, posts, memory, thread, call),
+    }
+}
+
+/// What a call tells a peer that it reaches, where its look is recorded.
+pub fn news(me: RankId, posts: &Posts, call: &Call, look: &Look) -> Option<News>
+    ensures { (peer : Posts) → told result peer ≡ peer_after me posts.now call.now (recorded_reply look.now.ready) peer }
+{
+    if look.is_idle() {
         return None;
     }
     match call {

@@ -5,6 +5,7 @@
 mod atomic_calls;
 mod calls;
 mod lanes;
+mod looks;
 mod memories;
 mod memory_calls;
 mod notification_calls;
@@ -16,10 +17,10 @@ mod replies;
 mod segment_calls;
 mod threads;
 
-pub use calls::{answer, news, tell};
+pub use calls::{answer, look, news, tell};
 pub use lanes::{is_carried, is_posted, is_write, may_put, may_take, place_of};
+pub use looks::{Kinds, Look};
 pub use memories::{bytes_of, new_slots, segment_at, set_slot};
-pub use recording::called;
-pub use replies::is_idle;
+pub use recording::{called, record};
 pub use segment_calls::News;
 pub use threads::{is_running, is_there, thread_at};

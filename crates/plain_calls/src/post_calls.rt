@@ -1,16 +1,20 @@
 //! The calls that post entries to a lane: what they ask for, and what they find. (GASPI: one-sided communication)
 
 ghost use Rattle.std.specs.Prelude.{◌≡◌, ◌≤◌, length};
+ghost use Rattle.gaspi_model.specs.Calls.{call_asks};
 ghost use Rattle.gaspi_model.specs.PostCalls.{post_finds, asked_finds, write_asks, notify_asks, write_notify_asks};
+ghost use Rattle.plain_calls.specs.Looks.{Asks, Grants, Accepts};
 
+use crate::looks::Kinds;
 use gaspi_model::Posts;
 use gaspi_types::{
-    ByteRange, Kind, Limits, NoteSlot, Notify, Queue, RankId, Refusal, Reply, Write, WriteNotify,
+    ByteRange, Call, Kind, Limits, NoteSlot, Notify, Posting, Queue, RankId, Refusal, Write,
+    WriteNotify,
 };
 use segment_tables::{extent_in, is_transfer_size, is_within, known_extent};
 
 /// The entry of a write, or its first refusal. (GASPI: write)
-pub fn write_asks(me: RankId, posts: &Posts, call: &Write) -> Result<[Kind; 1], Refusal>
+fn write_asks(me: RankId, posts: &Posts, call: &Write) -> Result<[Kind; 1], Refusal>
     ensures { result ≡ write_asks me posts.now call.now }
 {
     let mine = extent_in(&posts.segments.own, call.seg).ok_or(Refusal::NoSegment)?;
@@ -44,7 +48,7 @@ pub fn write_asks(me: RankId, posts: &Posts, call: &Write) -> Result<[Kind; 1], 
 }
 
 /// The entry of a notification, or its first refusal. (GASPI: notify)
-pub fn notify_asks(
+fn notify_asks(
     limits: &Limits,
     me: RankId,
     posts: &Posts,
@@ -74,7 +78,7 @@ pub fn notify_asks(
 /// The entries of a write and the notification behind it, or the first refusal up to the notification value.
 /// (GASPI: write_notify)
 #[tactic(auto, using(crate::proofs::Both::both_kinds))]
-pub fn write_notify_asks(
+fn write_notify_asks(
     limits: &Limits,
     me: RankId,
     posts: &Posts,
@@ -103,10 +107,22 @@ pub fn write_notify_asks(
     Ok([write, notify])
 }
 
+/// What a call asks to be appended that posts, or its first refusal. (GASPI: one-sided communication)
+fn call_asks(limits: &Limits, me: RankId, posts: &Posts, call: &Call) -> Result<Kinds, Refusal>
+    ensures { Asks result (call_asks limits.now me posts.now call.now) }
+{
+    match call {
+        Call::Write(call) => Ok(Kinds::One(write_asks(me, posts, call)?)),
+        Call::Notify(call) => Ok(Kinds::One(notify_asks(limits, me, posts, call)?)),
+        Call::WriteNotify(call) => Ok(Kinds::Two(write_notify_asks(limits, me, posts, call)?)),
+        _ => Ok(Kinds::Nothing),
+    }
+}
+
 /// Checks that a queue is not broken and has room for entries.
-fn post_finds(limits: &Limits, q: &Queue, kinds: &[Kind]) -> Result<Option<Reply>, Refusal>
-    requires { length kinds.now ≤ 256 }
-    ensures { result ≡ post_finds limits.now q.now kinds.now }
+fn check_room(limits: &Limits, q: &Queue, kinds: &[Kind]) -> Result<(), Refusal>
+    requires { length kinds.now ≤ 2 }
+    ensures { Grants result (post_finds limits.now q.now kinds.now) }
 {
     if let Some(rank) = q.broken {
         return Err(Refusal::QueueBroken {
@@ -118,23 +134,28 @@ fn post_finds(limits: &Limits, q: &Queue, kinds: &[Kind]) -> Result<Option<Reply
     if u64::from(count) + u64::from(need) > u64::from(limits.depth) {
         return Err(Refusal::QueueFull { count, need });
     }
-    Ok(Some(Reply::Done))
+    Ok(())
 }
 
-/// Checks a call that posts: its rank, its queue, what it asks for, and the queue's room.
-pub fn asked_finds<const N: usize>(
+/// Looks at a call that posts: its rank, its queue, what it asks for, and the queue's room. It finds the entries to append,
+/// or its refusal.
+pub fn posting_finds(
     limits: &Limits,
+    me: RankId,
     posts: &Posts,
-    rank: u64,
-    queue: u64,
-    asked: Result<[Kind; N], Refusal>,
-) -> Result<Option<Reply>, Refusal>
-    requires { N ≤ 256 }
-    ensures { result ≡ asked_finds limits.now posts.now rank queue asked.entry }
+    to: Posting,
+    call: &Call,
+) -> Result<Kinds, Refusal>
+    ensures { Accepts result (call_asks limits.now me posts.now call.now) (asked_finds limits.now posts.now to.rank to.queue (call_asks limits.now me posts.now call.now)) }
 {
-    if rank >= u64::from(limits.ranks) {
+    if to.rank >= u64::from(limits.ranks) {
         return Err(Refusal::BadRank);
     }
-    let q = posts.queues.get(queue as usize).ok_or(Refusal::BadQueue)?;
-    post_finds(limits, q, &asked?)
+    let q = posts
+        .queues
+        .get(to.queue as usize)
+        .ok_or(Refusal::BadQueue)?;
+    let kinds = call_asks(limits, me, posts, call)?;
+    check_room(limits, q, kinds.as_slice())?;
+    Ok(kinds)
 }

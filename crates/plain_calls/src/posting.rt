@@ -7,8 +7,8 @@ ghost use Rattle.gaspi_types.specs.declared.entries.Queue.{Queue};
 ghost use Rattle.plain_calls.specs.Room.{IsRoom};
 
 use crate::lanes::posted_entries;
-use gaspi_model::{Posts};
-use gaspi_types::{Entry, Kind, NoMemory, Refusal, Rows, Queue};
+use gaspi_model::Posts;
+use gaspi_types::{Entry, Kind, NoMemory, Queue, Rows};
 use std::alloc::Global;
 
 /// Adds entries to a lane of a queue. Without memory nothing changes.
@@ -29,15 +29,14 @@ fn append_entries(q: &mut Queue, target: u64, entries: Rows<Entry>) -> Result<()
 
 /// Makes a post that is accepted. Without memory nothing changes.
 #[tactic(auto, using(crate::proofs::Items::posts_lemmas))]
-fn post(
+pub fn post(
     alloc: Global,
     posts: &mut Posts,
     queue: u64,
     target: u64,
     kinds: &[Kind],
 ) -> Result<(), NoMemory>
-    requires numbers { posts.old.next + length kinds.now < 2 ^ 32 }
-    requires counts { (q : Queue) → slice_get posts.old.queues queue ≡ Some q → q.open_count + length kinds.now < 2 ^ 32 }
+    requires { IsRoom posts.old (length kinds.now) queue }
     ensures ok { OnOk result (posts.new ≡ with_post posts.old queue target (Ok kinds.now)) }
     ensures err { OnErr result (posts.new ≡ posts.old) }
 {
@@ -48,22 +47,4 @@ fn post(
     }
     posts.next += kinds.len() as u32;
     Ok(())
-}
-
-/// Makes a post of the entries that a call asks for, where it has them. Without memory nothing changes.
-pub fn post_asked<const N: usize>(
-    alloc: Global,
-    posts: &mut Posts,
-    queue: u64,
-    target: u64,
-    asked: Result<[Kind; N], Refusal>,
-) -> Result<(), NoMemory>
-    requires { IsRoom posts.old N queue }
-    ensures ok { OnOk result (posts.new ≡ with_post posts.old queue target asked.entry) }
-    ensures err { OnErr result (posts.new ≡ posts.old) }
-{
-    match asked {
-        Ok(kinds) => post(alloc, posts, queue, target, &kinds),
-        Err(_) => Ok(()),
-    }
 }

@@ -7,5 +7,6 @@ pub mod Parted
 pub mod Ranges
 pub mod Renamed
 pub mod Running
+pub mod Recorded
 pub mod Reached
 pub mod Walked

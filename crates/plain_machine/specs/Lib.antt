@@ -1,4 +1,5 @@
 pub mod Entries
+pub mod Looking
 pub mod Machine
 pub mod Reaching
 pub mod Standing

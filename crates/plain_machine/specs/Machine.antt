@@ -11,10 +11,15 @@ use Rattle.gaspi_model.specs.declared.states.Posts.{Posts}
 use Rattle.gaspi_model.specs.declared.states.Memory.{Memory}
 use Rattle.gaspi_model.specs.declared.states.State.{State}
 use Rattle.plain_machine.specs.Standing.{standing_lanes}
+use Rattle.plain_machine.specs.declared.ranks.Ranks.{Ranks}
 use Rattle.plain_machine.specs.declared.standing.LaneId.{LaneId}
 
 abbrev pub state_of : Limits → List Posts → List Memory → State
 state_of limits posts memories = record { limits = limits; posts = posts; memories = memories }
+
+-- the state of the ranks and their memories
+abbrev pub state_in : Ranks → List Memory → State
+state_in ranks memories = state_of ranks.limits ranks.posts memories
 
 -- the room that a rank has taken: what it has recorded, and what it owes
 abbrev pub taken_of : Posts → ℕ
@@ -26,6 +31,13 @@ pub record IsFitting (s : State) : Type 0 where
   pub memories : length s.memories ≡ length s.posts
   pub queues : (rank : ℕ) (posts : Posts) → slice_get s.posts rank ≡ Some posts → length posts.queues ≤ 8
 
+-- what holds of the ranks and their memories between steps
+pub record AreWhole (ranks : Ranks) (memories : List Memory) : Type 0 where
+  pub sound : IsSound (state_in ranks memories)
+  pub fitting : IsFitting (state_in ranks memories)
+  pub taken : ranks.taken ≡ map taken_of ranks.posts
+
+-- and with the lanes that have an entry
 pub record IsMachine (s : State) (rooms : List ℕ) (standing : List LaneId) : Type 0 where
   pub sound : IsSound s
   pub fitting : IsFitting s

@@ -2,8 +2,10 @@
 #![tactic(auto)]
 
 mod listing;
+mod looking;
 mod machine;
 mod opening;
+mod ranks;
 mod reaching;
 mod standing;
 mod steps;

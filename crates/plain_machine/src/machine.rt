@@ -5,19 +5,24 @@ ghost use Rattle.gaspi_types.specs.CallRows.{need_of};
 ghost use Rattle.gaspi_model.specs.State.{opening};
 ghost use Rattle.gaspi_model.specs.Step.{step, Steps, answer_in, is_declared, is_active, room_taken, transfer_event};
 ghost use Rattle.gaspi_model.specs.Transfers.{transfers};
-ghost use Rattle.plain_calls.specs.Memory.{is_load, takes_memory};
+ghost use Rattle.gaspi_types.specs.declared.events.Event.TheVariants.{Called};
+ghost use Rattle.gaspi_model.specs.Calls.{recorded_reply};
+ghost use Rattle.plain_calls.specs.Looks.{made_of};
+ghost use Rattle.plain_calls.specs.Memory.{is_load, keeps_memory, takes_memory};
+ghost use Rattle.plain_machine.specs.Looking.{IsLookIn};
 
 use crate::listing::{transfer_at, transfer_count, transfers};
+use crate::looking::{has_section, look_in, record_named};
 use crate::opening::{all_memories, all_posts, all_taken};
-use crate::reaching::{call_reach, no_memory, worked_memory};
+use crate::ranks::Ranks;
 use crate::standing::LaneId;
-use crate::steps::step_named;
+use crate::steps::step;
 use crate::transfers::{find_entry, put_outcome};
-use gaspi_model::{Memory, Posts, StepFault, Why, soundness};
+use gaspi_model::{Memory, StepFault, Why, soundness};
 use gaspi_types::{
-    Call, CallerId, Event, Limits, NoMemory, Outcome, RankId, Ready, Rows, Shape, Transfer,
+    Call, CallerId, Event, NoMemory, Outcome, RankId, Ready, Reply, Rows, Shape, Transfer,
 };
-use plain_calls::{answer, is_running, is_there, thread_at};
+use plain_calls::{Look, is_running, thread_at};
 use std::alloc::Global;
 use std::marker::Model;
 
@@ -27,11 +32,8 @@ pub type Transfers = Rows<Transfer>;
 /// The machine. Contracts see it as its state.
 #[derive(Debug, Drop)]
 pub struct Machine {
-    limits: Limits,
-    posts: Rows<Posts>,
+    ranks: Ranks,
     memories: Rows<Memory>,
-    /// The room that each rank has taken.
-    taken: Rows<u32>,
     /// The lanes that have an entry, by origin, queue and target.
     standing: Vec<LaneId>,
 }
@@ -41,11 +43,11 @@ impl Model for Machine {
 
     ghost Value = { State };
 
-    ghost use Rattle.plain_machine.specs.Machine.{IsMachine, state_of};
+    ghost use Rattle.plain_machine.specs.Machine.{IsMachine, state_in};
 
-    ghost view = { λ m. state_of m.limits m.posts m.memories };
+    ghost view = { λ m. state_in m.ranks m.memories };
 
-    ghost invariant = { λ m. IsMachine (state_of m.limits m.posts m.memories) m.taken m.standing.items };
+    ghost invariant = { λ m. IsMachine (state_in m.ranks m.memories) m.ranks.taken m.standing.items };
 }
 
 impl Machine {
@@ -58,10 +60,12 @@ impl Machine {
         soundness();
         let limits = shape.limits();
         Ok(Machine {
-            limits,
-            posts: all_posts(alloc, shape)?,
+            ranks: Ranks {
+                limits,
+                posts: all_posts(alloc, shape)?,
+                taken: all_taken(alloc, shape)?,
+            },
             memories: all_memories(alloc, shape)?,
-            taken: all_taken(alloc, shape)?,
             standing: Vec::new(alloc),
         })
     }
@@ -73,14 +77,51 @@ impl Machine {
         ensures ample { takes_memory event.now ≡ false → result ≢ Err StepFault.NoMemory }
     {
         soundness();
-        step_named(
-            alloc,
-            &self.limits,
-            &mut self.posts,
+        step(
+            &mut self.ranks,
             &mut self.memories,
-            &mut self.taken,
             &mut self.standing,
+            alloc,
             event,
+        )
+    }
+
+    /// Looks at a call of a caller: its refusal or its reply, or that it is not ready, and what it asks to be appended. Only
+    /// a load takes memory, for the bytes that it reads.
+    pub fn look(&self, alloc: Global, caller: CallerId, call: &Call) -> Result<Look, NoMemory>
+        requires { is_declared self.now caller.rank caller.thread ≡ true }
+        ensures look { IfOk result (λ look. IsLookIn look self.now caller call.now) }
+        ensures answer { IfOk result (λ look. answer_in self.now caller.rank caller.thread call.now ≡ Some look.ready) }
+        ensures ample { is_load call.now ≡ false → IsOk result }
+    {
+        look_in(&self.ranks, &self.memories, alloc, &caller, call)
+    }
+
+    /// Records a look at a call: the step by the call with what the look found. It gives the reply with which the call was
+    /// recorded. The look is one of this very call in this very state, so that nothing is looked for again, and an event
+    /// that is no step is one for which the rank has no room. Posts and segments that are made alone may want memory.
+    pub fn record(
+        &mut self,
+        alloc: Global,
+        caller: CallerId,
+        call: &Call,
+        look: Look,
+    ) -> Result<Reply, StepFault>
+        requires declared { is_declared self.old caller.rank caller.thread ≡ true }
+        requires look { IsLookIn look self.old caller call.now }
+        ensures reply { IfOk result (λ reply. reply ≡ recorded_reply look.ready) }
+        ensures step { Steps (made_of result) self.old self.new (step self.old (Called caller call.now (recorded_reply look.ready))) }
+        ensures ample { keeps_memory call.now ≡ false → result ≢ Err StepFault.NoMemory }
+    {
+        soundness();
+        record_named(
+            &mut self.ranks,
+            &mut self.memories,
+            &mut self.standing,
+            alloc,
+            caller,
+            call,
+            look,
         )
     }
 
@@ -91,38 +132,29 @@ impl Machine {
         ensures answer { IfOk result (λ ready. answer_in self.now caller.rank caller.thread call.now ≡ Some ready) }
         ensures ample { is_load call.now ≡ false → IsOk result }
     {
-        let none = no_memory(alloc);
-        let reach = call_reach(&self.limits, caller.rank, call);
-        answer(
-            alloc,
-            &self.limits,
-            caller.rank,
-            self.posts.at(caller.rank.index()),
-            worked_memory(&self.memories, &none, caller.rank, reach),
-            caller.thread,
-            call,
-        )
+        let look = look_in(&self.ranks, &self.memories, alloc, &caller, call)?;
+        Ok(look.ready)
     }
 
     /// The transfers that may come next, by origin, queue, target and number.
     pub fn transfers(&self, alloc: Global) -> Result<Transfers, NoMemory>
         ensures { IfOk result (λ found. found ≡ transfers self.now.limits self.now.posts) }
     {
-        transfers(alloc, &self.limits, &self.posts, &self.standing)
+        transfers(alloc, &self.ranks.limits, &self.ranks.posts, &self.standing)
     }
 
     /// How many transfers may come next. It takes no memory.
     pub fn transfer_count(&self) -> usize
         ensures { result ≡ length (transfers self.now.limits self.now.posts) }
     {
-        transfer_count(&self.limits, &self.posts, &self.standing)
+        transfer_count(&self.ranks.limits, &self.ranks.posts, &self.standing)
     }
 
     /// The transfer at a place of those that may come next, by origin, queue, target and number. It takes no memory.
     pub fn transfer_at(&self, place: usize) -> Option<Transfer>
         ensures { result ≡ slice_get (transfers self.now.limits self.now.posts) place }
     {
-        transfer_at(&self.limits, &self.posts, &self.standing, place)
+        transfer_at(&self.ranks.limits, &self.ranks.posts, &self.standing, place)
     }
 
     /// The outcome of a transfer that may come next.
@@ -132,19 +164,18 @@ impl Machine {
         if !transfer.put {
             return Outcome::Applied;
         }
-        let Some(posts) = self.posts.get(transfer.origin.index()) else {
+        let Some(posts) = self.ranks.posts.get(transfer.origin.index()) else {
             return Outcome::Failed;
         };
         let Some(memory) = self.memories.get(transfer.target.index()) else {
             return Outcome::Failed;
         };
-        match find_entry(
-            posts,
-            transfer.queue,
-            transfer.target,
-            transfer.number,
-            Why::Put,
-        ) {
+        let id = LaneId {
+            origin: transfer.origin,
+            queue: transfer.queue,
+            target: transfer.target,
+        };
+        match find_entry(posts, &id, transfer.number, Why::Put) {
             Ok(at) => put_outcome(memory, &at.entry.kind),
             Err(_) => Outcome::Failed,
         }
@@ -155,14 +186,14 @@ impl Machine {
         requires { rank < length self.now.posts }
         ensures { result + room_taken self.now rank ≡ self.now.limits.events }
     {
-        u64::from(self.limits.events) - u64::from(*self.taken.at(rank.index()))
+        u64::from(self.ranks.limits.events) - u64::from(*self.ranks.taken.at(rank.index()))
     }
 
     /// Whether a rank is there.
     pub fn has_rank(&self, rank: RankId) -> bool
         ensures { IsTrue result ↔ (rank < length self.now.posts) }
     {
-        rank.index() < self.posts.len()
+        rank.index() < self.ranks.posts.len()
     }
 
     /// How much room a call of a caller needs in its rank's count of events.
@@ -177,17 +208,14 @@ impl Machine {
     pub fn is_declared(&self, caller: CallerId) -> bool
         ensures { result ≡ is_declared self.now caller.rank caller.thread }
     {
-        match self.posts.get(caller.rank.index()) {
-            Some(posts) => is_there(thread_at(posts, caller.thread)),
-            None => false,
-        }
+        has_section(&self.ranks, &caller)
     }
 
     /// Whether a caller has a section and has not ended.
     pub fn is_active(&self, caller: CallerId) -> bool
         ensures { result ≡ is_active self.now caller.rank caller.thread }
     {
-        match self.posts.get(caller.rank.index()) {
+        match self.ranks.posts.get(caller.rank.index()) {
             Some(posts) => is_running(thread_at(posts, caller.thread)),
             None => false,
         }

@@ -5,9 +5,10 @@ ghost use Rattle.gaspi_types.specs.Touches.{take_touch, put_touch};
 ghost use Rattle.gaspi_model.specs.Parts.{no_memory, memory_or_none};
 ghost use Rattle.plain_machine.specs.Reaching.{call_reach, entry_reach, memory_at};
 
+use crate::standing::LaneId;
 use crate::transfers::find_entry;
 use gaspi_model::{Memory, Posts, Why};
-use gaspi_types::{Call, Limits, QueueId, RankId, Reach, Rows, Touch};
+use gaspi_types::{Call, Limits, RankId, Reach, Rows, Touch};
 use std::alloc::Global;
 
 /// What a call of a rank reaches.
@@ -19,38 +20,28 @@ pub fn call_reach(limits: &Limits, me: RankId, call: &Call) -> Reach
 }
 
 /// What a take of a rank reaches, by the entry with its number.
-pub fn take_reach(
-    limits: &Limits,
-    posts: &Posts,
-    origin: RankId,
-    queue: QueueId,
-    target: RankId,
-    number: u32,
-) -> Reach
+pub fn take_reach(limits: &Limits, posts: &Posts, id: &LaneId, number: u32) -> Reach
     requires { limits.now.ranks ≤ 16 }
-    ensures { result ≡ entry_reach limits.now origin take_touch posts.now queue target number }
+    ensures { result ≡ entry_reach limits.now id.now.origin take_touch posts.now id.now.queue id.now.target number }
 {
-    match find_entry(posts, queue, target, number, Why::Put) {
-        Ok(at) => at.entry.kind.take_touch().reach(limits.ranks, origin),
-        Err(_) => Touch::Nothing.reach(limits.ranks, origin),
+    match find_entry(posts, id, number, Why::Put) {
+        Ok(at) => at.entry.kind.take_touch().reach(limits.ranks, id.origin),
+        Err(_) => Touch::Nothing.reach(limits.ranks, id.origin),
     }
 }
 
 /// What a put of a rank reaches, by the entry with its number.
-pub fn put_reach(
-    limits: &Limits,
-    posts: &Posts,
-    origin: RankId,
-    queue: QueueId,
-    target: RankId,
-    number: u32,
-) -> Reach
+pub fn put_reach(limits: &Limits, posts: &Posts, id: &LaneId, number: u32) -> Reach
     requires { limits.now.ranks ≤ 16 }
-    ensures { result ≡ entry_reach limits.now origin (put_touch target) posts.now queue target number }
+    ensures { result ≡ entry_reach limits.now id.now.origin (put_touch id.now.target) posts.now id.now.queue id.now.target number }
 {
-    match find_entry(posts, queue, target, number, Why::Put) {
-        Ok(at) => at.entry.kind.put_touch(target).reach(limits.ranks, origin),
-        Err(_) => Touch::Nothing.reach(limits.ranks, origin),
+    match find_entry(posts, id, number, Why::Put) {
+        Ok(at) => at
+            .entry
+            .kind
+            .put_touch(id.target)
+            .reach(limits.ranks, id.origin),
+        Err(_) => Touch::Nothing.reach(limits.ranks, id.origin),
     }
 }
 

@@ -3,11 +3,12 @@
 ghost use Rattle.std.specs.Prelude.{◌≡◌, ◌≢◌, ◌<◌, ◌≤◌, [], length, true, false, vec_len, vec_capacity};
 ghost use Rattle.std.specs.List.{insert, remove, prefix_len};
 ghost use Rattle.std.specs.Option.{option_copied};
-ghost use Rattle.plain_machine.specs.Standing.{is_before, lane_queue, queue_entries, lane_entries, open_entries, post_lane, call_lane, event_lane, is_put};
+ghost use Rattle.plain_machine.specs.Standing.{is_before, lane_queue, queue_entries, lane_entries, open_entries, post_lane};
+ghost use Rattle.plain_machine.specs.Looking.{look_lane};
 
 use gaspi_model::Posts;
-use gaspi_types::{Call, Entry, Event, Queue, QueueId, RankId, Rows};
-use plain_calls::is_idle;
+use gaspi_types::{Call, Entry, Queue, QueueId, RankId, Rows};
+use plain_calls::Look;
 
 /// The name of a lane: its origin, its queue and its target.
 #[derive(Clone, Copy, Debug, PartialEq, Eq)]
@@ -96,42 +97,17 @@ fn post_lane(rank: RankId, target: u64, queue: u64) -> Option<LaneId>
     })
 }
 
-/// The lane to which a call of a rank posts.
-fn call_lane(rank: RankId, call: &Call) -> Option<LaneId>
-    ensures { result ≡ call_lane rank call.now }
+/// The lane to which a call of a rank posts whose look is recorded.
+pub fn look_lane(rank: RankId, call: &Call, look: &Look) -> Option<LaneId>
+    ensures { result ≡ look_lane rank call.now look.now }
 {
+    if look.is_idle() {
+        return None;
+    }
     match call.row().posting {
         Some(posting) => post_lane(rank, posting.rank, posting.queue),
         None => None,
     }
-}
-
-/// The lane to which an event may add entries, or from which it may take one.
-pub fn event_lane(event: &Event) -> Option<LaneId>
-    ensures { result ≡ event_lane event.now }
-{
-    match event {
-        Event::Called(caller, call, reply) => {
-            if is_idle(reply) {
-                None
-            } else {
-                call_lane(caller.rank, call)
-            }
-        }
-        Event::Take(..) => None,
-        Event::Put(origin, queue, target, _, _) => Some(LaneId {
-            origin: *origin,
-            queue: *queue,
-            target: *target,
-        }),
-    }
-}
-
-/// Whether an event is a put.
-pub fn is_put(event: &Event) -> bool
-    ensures { result ≡ is_put event.now }
-{
-    matches!(event, Event::Put(..))
 }
 
 /// Names a lane at its place. There is room for it.

@@ -5,9 +5,10 @@ ghost use Rattle.gaspi_model.specs.Transfers.{same_outcome, find_entry, take, pu
 ghost use Rattle.gaspi_model.specs.Step.{Steps};
 ghost use Rattle.plain_machine.specs.Entries.{Finds, lane_phase, queue_phase, posts_phase, queue_failed, posts_failed_at, queue_without, posts_without};
 
+use crate::standing::LaneId;
 use gaspi_model::{Memory, Posts, StepFault, Why};
 use gaspi_types::{
-    Bytes, Entry, Kind, Limits, NoMemory, Outcome, Phase, Queue, QueueId, RankId, Rows,
+    Bytes, Entry, Kind, Limits, NoMemory, Outcome, Phase, Queue, RankId, Rows,
 };
 use plain_calls::{bytes_of, may_put, may_take, place_of, segment_at, set_slot};
 use segment_tables::{is_generation, range_of, store_bytes};
@@ -23,17 +24,16 @@ pub struct FoundEntry<'a> {
 }
 
 /// Finds an entry by its number. Where it is not there, that is why.
-pub fn find_entry(
-    posts: &Posts,
-    queue: QueueId,
-    target: RankId,
+pub fn find_entry<'a>(
+    posts: &'a Posts,
+    id: &LaneId,
     number: u32,
     why: Why,
-) -> Result<FoundEntry<'_>, Why>
-    ensures { Finds result (find_entry posts.now queue target number why) }
+) -> Result<FoundEntry<'a>, Why>
+    ensures { Finds result (find_entry posts.now id.now.queue id.now.target number why) }
 {
-    let queue = posts.queues.get(queue.index()).ok_or(why)?;
-    let lane = queue.lanes.get(target.index()).ok_or(why)?;
+    let queue = posts.queues.get(id.queue.index()).ok_or(why)?;
+    let lane = queue.lanes.get(id.target.index()).ok_or(why)?;
     let place = place_of(lane, number).ok_or(why)?;
     let entry = lane.get(place).ok_or(why)?;
     Ok(FoundEntry {
@@ -90,12 +90,12 @@ fn set_queue_phase(q: &mut Queue, target: RankId, place: usize, phase: Phase)
 }
 
 /// Gives an entry a phase.
-fn set_phase(posts: &mut Posts, queue: QueueId, target: RankId, place: usize, phase: Phase)
-    ensures { posts.new ≡ posts_phase posts.old queue target place phase }
+fn set_phase(posts: &mut Posts, id: &LaneId, place: usize, phase: Phase)
+    ensures { posts.new ≡ posts_phase posts.old id.now.queue id.now.target place phase }
 {
-    let q = queue.index();
+    let q = id.queue.index();
     if q < posts.queues.len() {
-        set_queue_phase(posts.queues.at_mut(q), target, place, phase);
+        set_queue_phase(posts.queues.at_mut(q), id.target, place, phase);
     }
 }
 
@@ -108,14 +108,14 @@ fn fail_queue_entry(q: &mut Queue, target: RankId, place: usize)
 }
 
 /// An entry that failed also marks its target as corrupt. (GASPI: state vector)
-fn fail_entry(posts: &mut Posts, queue: QueueId, target: RankId, place: usize)
-    ensures { posts.new ≡ posts_failed_at posts.old queue target place }
+fn fail_entry(posts: &mut Posts, id: &LaneId, place: usize)
+    ensures { posts.new ≡ posts_failed_at posts.old id.now.queue id.now.target place }
 {
-    let q = queue.index();
+    let q = id.queue.index();
     if q < posts.queues.len() {
-        fail_queue_entry(posts.queues.at_mut(q), target, place);
+        fail_queue_entry(posts.queues.at_mut(q), id.target, place);
     }
-    let rank = target.index();
+    let rank = id.target.index();
     if rank < posts.corrupt.len() {
         *posts.corrupt.at_mut(rank) = true;
     }
@@ -135,12 +135,12 @@ fn remove_queue_entry(q: &mut Queue, target: RankId, place: usize)
 }
 
 /// Takes an entry out of its lane.
-fn remove_entry(posts: &mut Posts, queue: QueueId, target: RankId, place: usize)
-    ensures { posts.new ≡ posts_without posts.old queue target place }
+fn remove_entry(posts: &mut Posts, id: &LaneId, place: usize)
+    ensures { posts.new ≡ posts_without posts.old id.now.queue id.now.target place }
 {
-    let q = queue.index();
+    let q = id.queue.index();
     if q < posts.queues.len() {
-        remove_queue_entry(posts.queues.at_mut(q), target, place);
+        remove_queue_entry(posts.queues.at_mut(q), id.target, place);
     }
 }
 
@@ -151,15 +151,14 @@ pub fn take(
     limits: &Limits,
     posts: &mut Posts,
     memory: &Memory,
-    queue: QueueId,
-    target: RankId,
+    id: &LaneId,
     number: u32,
     outcome: Outcome,
 ) -> Result<(), StepFault>
     requires { posts.old.events + 1 < 2 ^ 32 }
-    ensures { Steps result posts.old posts.new (take limits.now posts.old memory.now queue target number outcome) }
+    ensures { Steps result posts.old posts.new (take limits.now posts.old memory.now id.now.queue id.now.target number outcome) }
 {
-    let at = match find_entry(posts, queue, target, number, Why::Take) {
+    let at = match find_entry(posts, id, number, Why::Take) {
         Ok(at) => at,
         Err(why) => return Err(StepFault::Illegal(why)),
     };
@@ -174,7 +173,7 @@ pub fn take(
         Err(NoMemory) => return Err(StepFault::NoMemory),
     };
     let place = at.place;
-    set_phase(posts, queue, target, place, Phase::Carried(bytes));
+    set_phase(posts, id, place, Phase::Carried(bytes));
     posts.events += 1;
     Ok(())
 }
@@ -239,16 +238,15 @@ fn memory_put(memory: &mut Memory, entry: &Entry)
 pub fn put(
     posts: &mut Posts,
     memory: &mut Memory,
-    queue: QueueId,
-    target: RankId,
+    id: &LaneId,
     number: u32,
     outcome: Outcome,
 ) -> Result<(), StepFault>
     requires { posts.old.events + 1 < 2 ^ 32 }
-    ensures step { Steps {S = Worked} result (record { posts = posts.old; memory = memory.old }) (record { posts = posts.new; memory = memory.new }) (put posts.old memory.old queue target number outcome) }
+    ensures step { Steps {S = Worked} result (record { posts = posts.old; memory = memory.old }) (record { posts = posts.new; memory = memory.new }) (put posts.old memory.old id.now.queue id.now.target number outcome) }
     ensures ample { result ≢ Err StepFault.NoMemory }
 {
-    let at = match find_entry(posts, queue, target, number, Why::Put) {
+    let at = match find_entry(posts, id, number, Why::Put) {
         Ok(at) => at,
         Err(why) => return Err(StepFault::Illegal(why)),
     };
@@ -262,12 +260,12 @@ pub fn put(
     match outcome {
         Outcome::Applied => {
             memory_put(memory, at.entry);
-            remove_entry(posts, queue, target, place);
+            remove_entry(posts, id, place);
             posts.events += 1;
             Ok(())
         }
         Outcome::Failed => {
-            fail_entry(posts, queue, target, place);
+            fail_entry(posts, id, place);
             posts.events += 1;
             Ok(())
         }

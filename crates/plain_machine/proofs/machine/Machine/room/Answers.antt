@@ -8,7 +8,7 @@ overflow_sub-result c = rw (c.from-2.ensures, c.from.ensures) (taken_at _ _ _ _ 
 
 pub returns : goal.returns
 returns c =
-    let taken : IsTaken (state_of c.self.inside.limits c.self.inside.posts c.self.inside.memories) c.index.result c.at.result.now =
+    let taken : IsTaken (state_of c.self.inside.ranks.limits c.self.inside.ranks.posts c.self.inside.memories) c.index.result c.at.result.now =
     taken_at _ _ _ _ _ c.self.invariant c.at.ensures in
     let within = taken.within in
     let value = taken.value in

@@ -4,5 +4,5 @@ use Rattle.plain_machine.proofs.machine.Machine.transfer_at.Goals as goal
 pub returns : goal.returns
 returns c =
     rw (← c.self.view_is)
-    (rw (transfers-standing c.self.inside.limits c.self.inside.posts)
+    (rw (transfers-standing c.self.inside.ranks.limits c.self.inside.ranks.posts)
     (rw (c.deref.ensures.value, c.self.invariant.named) at c.transfer_at.ensures))

@@ -4,10 +4,10 @@ use Rattle.plain_machine.proofs.machine.Machine.transfer_count.Goals as goal
 pub transfer_count-requires : goal.transfer_count-requires
 transfer_count-requires c =
     rw (c.deref.ensures.value, c.self.invariant.named)
-    (few_transfers c.self.inside.limits c.self.inside.posts c.self.invariant.sound.limits c.self.invariant.fitting.ranks c.self.invariant.sound.posts)
+    (few_transfers c.self.inside.ranks.limits c.self.inside.ranks.posts c.self.invariant.sound.limits c.self.invariant.fitting.ranks c.self.invariant.sound.posts)
 
 pub returns : goal.returns
 returns c =
     rw (← c.self.view_is)
-    (rw (transfers-standing c.self.inside.limits c.self.inside.posts)
+    (rw (transfers-standing c.self.inside.ranks.limits c.self.inside.ranks.posts)
     (rw (c.deref.ensures.value, c.self.invariant.named) at c.transfer_count.ensures))

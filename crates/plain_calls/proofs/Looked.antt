@@ -1,0 +1,105 @@
+-- What a look found, recorded: the step by the call with that reply.
+use Rattle.std.proofs.Common.{◌≡◌, ℕ, ◌+◌, Bool, true, false, nat_le, List, [], Option, None, Some, Result, Ok, Err, length, refl, sym, ap, subst, ◌∙◌}
+use Rattle.gaspi_types.specs.CallRows.{row_of}
+use Rattle.gaspi_types.specs.Replies.{is_idle, same_reply}
+use Rattle.gaspi_types.specs.World.{are_limits}
+use Rattle.gaspi_types.specs.declared.call_rows.Posting.{Posting}
+use Rattle.gaspi_types.specs.declared.calls.Call.{Call}
+use Rattle.gaspi_types.specs.declared.calls.Call.TheVariants.{Write, Notify, WriteNotify}
+use Rattle.gaspi_types.specs.declared.entries.Kind.{Kind}
+use Rattle.gaspi_types.specs.declared.shapes.Limits.{Limits}
+use Rattle.gaspi_types.specs.declared.replies.Ready.{Ready}
+use Rattle.gaspi_model.specs.State.{thread_at, owed}
+use Rattle.gaspi_model.specs.Calls.{call_asks, answer, recorded_reply, posts_done, posts_after, memory_done, memory_after, charge}
+use Rattle.gaspi_model.specs.Posting.{with_post, counted}
+use Rattle.gaspi_model.specs.Sound.{IsSoundPosts}
+use Rattle.gaspi_model.specs.Step.{called, Steps, is_there}
+use Rattle.gaspi_model.specs.declared.states.Posts.{Posts}
+use Rattle.gaspi_model.specs.declared.states.Memory.{Memory}
+use Rattle.gaspi_model.specs.declared.states.StepFault.{StepFault}
+use Rattle.gaspi_model.specs.declared.states.ThreadState.{ThreadState}
+use Rattle.gaspi_model.specs.declared.states.Why.{Why}
+use Rattle.gaspi_model.specs.declared.states.Why.TheVariants as whys
+use Rattle.gaspi_model.proofs.EnabledEvents.{same_reply-refl}
+use Rattle.plain_calls.specs.Looks.{IsLook, kinds_of, found_done, found_after, made_of}
+use Rattle.plain_calls.specs.Room.{HasCallRoom}
+use Rattle.plain_calls.specs.declared.looks.Look.{Look}
+use Rattle.plain_calls.proofs.CallRoom.{found_by, room_by, taken_by}
+
+-- a call that posts nothing asks for nothing
+pub plain_asks : (limits : Limits) (me : ℕ) (posts : Posts) (call : Call) → (row_of call).posting ≡ None → call_asks limits me posts call ≡ Ok []
+plain_asks limits me posts (Write call) is = absurd (let no : ⊥ = cc in no)
+plain_asks limits me posts (Notify call) is = absurd (let no : ⊥ = cc in no)
+plain_asks limits me posts (WriteNotify call) is = absurd (let no : ⊥ = cc in no)
+plain_asks limits me posts call is = refl
+
+-- a call that posts changes no memory
+pub posting_memory : (limits : Limits) (posts : Posts) (memory : Memory) (call : Call) (to : Posting) → (row_of call).posting ≡ Some to → memory_done limits posts memory call ≡ memory
+posting_memory limits posts memory (Write call) to is = refl
+posting_memory limits posts memory (Notify call) to is = refl
+posting_memory limits posts memory (WriteNotify call) to is = refl
+posting_memory limits posts memory call to is = absurd (let no : ⊥ = cc in no)
+
+-- what was found is what the call asks for
+found_done-same : (limits : Limits) (me : ℕ) (posts : Posts) (thread : ℕ) (call : Call) (kinds : List Kind)
+    → call_asks limits me posts call ≡ Ok kinds → found_done posts thread call kinds ≡ posts_done limits me posts thread call
+found_done-same limits me posts thread call kinds asks = by_posting (row_of call).posting refl
+  where
+    by_posting : (posting : Option Posting) → (row_of call).posting ≡ posting → found_done posts thread call kinds ≡ posts_done limits me posts thread call
+    by_posting None is = rw is refl
+    by_posting (Some to) is = rw is (ap (with_post posts to.queue to.rank) (sym asks))
+
+pub found_after-same : (look : Look) (limits : Limits) (me : ℕ) (posts : Posts) (memory : Memory) (thread : ℕ) (call : Call)
+    → IsLook look limits me posts memory thread call → found_after posts thread call look ≡ posts_after limits me posts thread call (recorded_reply look.ready)
+found_after-same look limits me posts memory thread call l = by_idle (is_idle (recorded_reply look.ready)) refl
+  where
+    by_idle : (idle : Bool) → is_idle (recorded_reply look.ready) ≡ idle → found_after posts thread call look ≡ posts_after limits me posts thread call (recorded_reply look.ready)
+    by_idle true idle = rw idle refl
+    by_idle false busy = rw busy (ap counted (found_done-same limits me posts thread call (kinds_of look.kinds) (l.kinds busy)))
+
+-- the reply is the one that may be recorded
+pub look_same : (look : Look) (limits : Limits) (me : ℕ) (posts : Posts) (memory : Memory) (thread : ℕ) (call : Call)
+    → IsLook look limits me posts memory thread call → same_reply (recorded_reply look.ready) (recorded_reply (answer limits me posts memory thread call)) ≡ true
+look_same look limits me posts memory thread call l =
+    ap (λ (r : Ready). same_reply (recorded_reply look.ready) (recorded_reply r)) (sym l.ready) ∙ same_reply-refl (recorded_reply look.ready)
+
+pub look_room : (look : Look) (limits : Limits) (me : ℕ) (posts : Posts) (memory : Memory) (thread : ℕ) (call : Call)
+    → are_limits limits ≡ true → IsSoundPosts limits posts → IsLook look limits me posts memory thread call
+    → is_idle (recorded_reply look.ready) ≡ false → HasCallRoom posts call (length (kinds_of look.kinds))
+look_room look limits me posts memory thread call limited sound l busy =
+    room_by limits me posts memory thread call (recorded_reply look.ready) (kinds_of look.kinds) (l.kinds busy) limited sound
+    (found_by limits me posts memory thread call (recorded_reply look.ready) (look_same look limits me posts memory thread call l) busy)
+
+-- the step, where the rank has room and where it has none
+pub look_steps : (look : Look) (limits : Limits) (me : ℕ) (posts : Posts) (memory : Memory) (thread : ℕ) (call : Call)
+    → IsLook look limits me posts memory thread call → is_there (thread_at posts thread) ≡ true
+    → nat_le (posts.events + owed posts + charge (thread_at posts thread) call (recorded_reply look.ready)) limits.events ≡ true
+    → called limits me posts memory thread call (recorded_reply look.ready)
+    ≡ Ok (record { posts = found_after posts thread call look; memory = memory_after limits posts memory call (recorded_reply look.ready) })
+look_steps look limits me posts memory thread call l there room =
+    rw (there, look_same look limits me posts memory thread call l, room)
+    (ap (λ (p : Posts). Ok (record { posts = p; memory = memory_after limits posts memory call (recorded_reply look.ready) })) (sym (found_after-same look limits me posts memory thread call l)))
+
+pub look_limit : (look : Look) (limits : Limits) (me : ℕ) (posts : Posts) (memory : Memory) (thread : ℕ) (call : Call)
+    → IsLook look limits me posts memory thread call → is_there (thread_at posts thread) ≡ true
+    → nat_le (posts.events + owed posts + charge (thread_at posts thread) call (recorded_reply look.ready)) limits.events ≡ false
+    → called limits me posts memory thread call (recorded_reply look.ready) ≡ Err whys.Limit
+look_limit look limits me posts memory thread call l there full = rw (there, look_same look limits me posts memory thread call l, full) refl
+
+-- what the rank has taken grows by the charge
+pub look_taken : (look : Look) (limits : Limits) (me : ℕ) (posts : Posts) (memory : Memory) (thread : ℕ) (call : Call)
+    → IsSoundPosts limits posts → IsLook look limits me posts memory thread call
+    → (found_after posts thread call look).events + owed (found_after posts thread call look)
+    ≡ posts.events + owed posts + charge (thread_at posts thread) call (recorded_reply look.ready)
+look_taken look limits me posts memory thread call sound l =
+    ap (λ (p : Posts). p.events + owed p) (found_after-same look limits me posts memory thread call l)
+    ∙ taken_by limits me posts memory thread call (recorded_reply look.ready) sound (look_same look limits me posts memory thread call l)
+
+pub charged : (t t' : ThreadState) (call : Call) (ready : Ready) (n : ℕ) → t ≡ t' → n ≡ charge t call (recorded_reply ready) → n ≡ charge t' call (recorded_reply ready)
+charged t t' call ready n state is = is ∙ ap (λ (t : ThreadState). charge t call (recorded_reply ready)) state
+
+-- a step that gives something, as one that does not
+pub steps_as : {A S : Type 0} (result : Result A StepFault) (made : Result (Unit {0}) StepFault) (old new : S) (outcome outcome' : Result S Why)
+    → made_of result ≡ made → outcome ≡ outcome' → Steps (made_of result) old new outcome → Steps made old new outcome'
+steps_as {A} {S} result made old new outcome outcome' is same steps =
+    subst (λ (m : Result (Unit {0}) StepFault). Steps m old new outcome') is (subst (λ (o : Result S Why). Steps (made_of result) old new o) same steps)

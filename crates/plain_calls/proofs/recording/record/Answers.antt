@@ -1,0 +1,26 @@
+use Rattle.std.proofs.Common.{refl, sym, arith}
+use Rattle.std.proofs.lemmas.Bool.Decides.{nat_tests}
+use Rattle.plain_calls.proofs.Looked.{look_room, look_limit, look_steps, look_taken, charged}
+use Rattle.plain_calls.proofs.recording.record.Goals as goal
+
+pub returns-then-room-limits-clause-step : goal.returns-then-room-limits-clause-step
+returns-then-room-limits-clause-step c =
+    let charge = charged _ _ c.args.call.now c.args.look.ready _ c.thread_at.ensures c.charge.ensures.value in
+    (look_limit c.args.look c.args.limits.now c.args.me c.args.posts.now c.args.memory.now c.args.thread c.args.call.now c.requires.look c.requires.there (grind (arith, nat_tests, charge)), refl)
+
+pub record_found-requires-clause-room : goal.record_found-requires-clause-room
+record_found-requires-clause-room c =
+    look_room c.args.look c.args.limits.now c.args.me c.args.posts.now c.args.memory.now c.args.thread c.args.call.now c.requires.limits c.requires.sound c.requires.look
+
+pub returns-in-Ok-clause-step : goal.returns-in-Ok-clause-step
+returns-in-Ok-clause-step c =
+    let charge = charged _ _ c.args.call.now c.args.look.ready _ c.thread_at.ensures c.charge.ensures.value in
+    rw (c.in-Ok.ensures.posts, c.in-Ok.ensures.memory)
+    (look_steps c.args.look c.args.limits.now c.args.me c.args.posts.now c.args.memory.now c.args.thread c.args.call.now c.requires.look c.requires.there (grind (arith, nat_tests, charge)))
+
+pub returns-in-Ok-clause-taken : goal.returns-in-Ok-clause-taken
+returns-in-Ok-clause-taken c =
+    let charge = charged _ _ c.args.call.now c.args.look.ready _ c.thread_at.ensures c.charge.ensures.value in
+    let taken = look_taken c.args.look c.args.limits.now c.args.me c.args.posts.now c.args.memory.now c.args.thread c.args.call.now c.requires.sound c.requires.look in
+    rw c.in-Ok.ensures.posts
+    rw (c.requires.taken, charge) (sym taken)

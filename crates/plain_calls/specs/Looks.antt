@@ -1,0 +1,69 @@
+-- What a look at a call finds, and what recording it leaves.
+use Rattle.std.specs.Prelude.{◌≡◌, ℕ, List, [], Option, None, Some, Result, Ok, Err, if◌then◌else◌, false}
+use Rattle.gaspi_types.specs.CallRows.{row_of}
+use Rattle.gaspi_types.specs.Replies.{is_idle}
+use Rattle.gaspi_types.specs.declared.call_rows.Posting.{Posting}
+use Rattle.gaspi_types.specs.declared.calls.Call.{Call}
+use Rattle.gaspi_types.specs.declared.entries.Kind.{Kind}
+use Rattle.gaspi_types.specs.declared.replies.Refusal.{Refusal}
+use Rattle.gaspi_types.specs.declared.replies.Reply.{Reply}
+use Rattle.gaspi_types.specs.declared.replies.Reply.TheVariants as replies
+use Rattle.gaspi_types.specs.declared.shapes.Limits.{Limits}
+use Rattle.gaspi_model.specs.Calls.{call_asks, answer, ready_of, recorded_reply, plain_done}
+use Rattle.gaspi_model.specs.Posting.{with_post, counted}
+use Rattle.gaspi_model.specs.declared.states.Posts.{Posts}
+use Rattle.gaspi_model.specs.declared.states.Memory.{Memory}
+use Rattle.gaspi_model.specs.declared.states.StepFault.{StepFault}
+use Rattle.plain_calls.specs.declared.looks.Kinds.{Kinds}
+use Rattle.plain_calls.specs.declared.looks.Kinds.TheVariants.{Nothing, One, Two}
+use Rattle.plain_calls.specs.declared.looks.Look.{Look}
+
+-- the kinds of the entries, in order
+abbrev pub kinds_of : Kinds → List Kind
+kinds_of Nothing = []
+kinds_of (One kinds) = kinds
+kinds_of (Two kinds) = kinds
+
+-- what a call asks to be appended is that, or its refusal
+abbrev pub Asks : Result Kinds Refusal → Result (List Kind) Refusal → Type 0
+Asks (Ok kinds) asked = asked ≡ Ok (kinds_of kinds)
+Asks (Err refusal) asked = asked ≡ Err refusal
+
+-- a check that a call finds itself done by, or its refusal
+abbrev pub Grants : Result (Unit {0}) Refusal → Result (Option Reply) Refusal → Type 0
+Grants (Ok granted) finds = finds ≡ Ok (Some replies.Done)
+Grants (Err refusal) finds = finds ≡ Err refusal
+
+-- a call that posts finds itself done with what it asks for, or its refusal
+abbrev pub Accepts : Result Kinds Refusal → Result (List Kind) Refusal → Result (Option Reply) Refusal → Type 0
+Accepts (Ok kinds) asked finds = (asked ≡ Ok (kinds_of kinds)) × (finds ≡ Ok (Some replies.Done))
+Accepts (Err refusal) asked finds = finds ≡ Err refusal
+
+-- the look at a call that posts: what it answers, and what it asks for where it is no refusal
+pub record IsPostLook (look : Look) (asked : Result (List Kind) Refusal) (finds : Result (Option Reply) Refusal) : Type 0 where
+  pub ready : look.ready ≡ ready_of finds
+  pub kinds : is_idle (recorded_reply look.ready) ≡ false → asked ≡ Ok (kinds_of look.kinds)
+
+-- This is what a look at this call of this caller finds on these posts and this memory: what it answers, and, where it is
+-- recorded neither as a refusal nor as a timeout, what it asks to be appended.
+pub record IsLook (look : Look) (limits : Limits) (me : ℕ) (posts : Posts) (memory : Memory) (thread : ℕ) (call : Call) : Type 0 where
+  pub ready : look.ready ≡ answer limits me posts memory thread call
+  pub kinds : is_idle (recorded_reply look.ready) ≡ false → call_asks limits me posts call ≡ Ok (kinds_of look.kinds)
+
+-- What a call that found these kinds leaves in the posts of its rank: an accepted post appends them.
+abbrev pub found_done : Posts → ℕ → Call → List Kind → Posts
+found_done posts thread call kinds = done_by (row_of call).posting
+  where
+    done_by : Option Posting → Posts
+    done_by None = plain_done posts thread call
+    done_by (Some to) = with_post posts to.queue to.rank (Ok kinds)
+
+-- a refusal or a timeout changes nothing but the count of events
+abbrev pub found_after : Posts → ℕ → Call → Look → Posts
+found_after posts thread call look =
+    counted (if is_idle (recorded_reply look.ready) then posts else found_done posts thread call (kinds_of look.kinds))
+
+-- whether a step that gives something was made, or why not
+abbrev pub made_of : {A : Type 0} → Result A StepFault → Result (Unit {0}) StepFault
+made_of (Ok given) = Ok tt
+made_of (Err fault) = Err fault

@@ -1,0 +1,92 @@
+-- A look that is recorded in the whole state.
+use Rattle.std.proofs.Common.{◌≡◌, ℕ, ◌<◌, true, false, List, Option, None, Some, Result, Err, length, slice_get, refl, sym, ap, subst, ◌∙◌}
+use Rattle.std.proofs.lemmas.Option.{slice_get_within}
+use Rattle.gaspi_types.specs.Replies.{same_reply}
+use Rattle.gaspi_types.specs.Touches.{put_touch}
+use Rattle.gaspi_types.specs.declared.calls.Call.{Call}
+use Rattle.gaspi_types.specs.declared.events.Event.TheVariants.{Called, Put}
+use Rattle.gaspi_types.specs.declared.events.Outcome.{Outcome}
+use Rattle.gaspi_types.specs.declared.replies.Reply.{Reply}
+use Rattle.gaspi_types.specs.declared.replies.Ready.{Ready}
+use Rattle.gaspi_types.specs.declared.shapes.CallerId.{CallerId}
+use Rattle.gaspi_types.specs.declared.shapes.Limits.{Limits}
+use Rattle.gaspi_types.specs.declared.touches.Reach.{Reach}
+use Rattle.gaspi_model.specs.Calls.{answer, recorded_reply}
+use Rattle.gaspi_model.specs.State.{thread_at}
+use Rattle.gaspi_model.specs.Step.{step, Steps, called, is_declared, is_there}
+use Rattle.gaspi_model.specs.declared.states.Posts.{Posts}
+use Rattle.gaspi_model.specs.declared.states.Memory.{Memory}
+use Rattle.gaspi_model.specs.declared.states.State.{State}
+use Rattle.gaspi_model.specs.declared.states.StepFault.{StepFault}
+use Rattle.gaspi_model.specs.declared.states.Why.{Why}
+use Rattle.gaspi_model.specs.declared.states.Why.TheVariants as whys
+use Rattle.plain_calls.specs.declared.looks.Look.{Look}
+use Rattle.plain_machine.specs.Looking.{IsLookIn}
+use Rattle.plain_machine.specs.Machine.{state_of, state_in}
+use Rattle.plain_machine.specs.Reaching.{call_reach, entry_reach, memory_at, with_memory_at, with_peer_at, Lent, call_lent, put_lent}
+use Rattle.plain_machine.specs.declared.ranks.Ranks.{Ranks}
+use Rattle.plain_machine.proofs.Lifted.{called_steps, put_steps}
+use Rattle.plain_machine.proofs.Reached.{called_as, memory_as}
+
+-- a caller that has a section is of a rank that is there
+pub record IsThere (s : State) (rank thread : ℕ) : Type 0 where
+  pub posts : Posts
+  pub item : slice_get s.posts rank ≡ Some posts
+  pub there : is_there (thread_at posts thread) ≡ true
+  pub within : rank < length s.posts
+
+pub declared_there : (s : State) (rank thread : ℕ) → is_declared s rank thread ≡ true → IsThere s rank thread
+declared_there s rank thread declared = by_item (slice_get s.posts rank) refl
+  where
+    by_item : (o : Option Posts) → slice_get s.posts rank ≡ o → IsThere s rank thread
+    by_item None is = absurd (let none = rw is at declared in let no : ⊥ = cc in no)
+    by_item (Some posts) is = record { posts = posts; item = is; there = rw is at declared; within = slice_get_within s.posts rank posts is }
+
+-- a call that is no step on its rank's posts is none
+refused : (s : State) (c : CallerId) (call : Call) (reply : Reply) (p : Posts) (why : Why) → slice_get s.posts c.rank ≡ Some p
+    → called s.limits c.rank p (memory_at s.memories c.rank (call_reach s.limits c.rank call)) c.thread call reply ≡ Err why → step s (Called c call reply) ≡ Err why
+refused s c call reply p why there is = called_as s c call reply p (call_reach s.limits c.rank call) there refl ∙ (rw there rw is refl)
+
+pub undeclared : (s : State) (c : CallerId) (call : Call) (reply : Reply) → is_declared s c.rank c.thread ≡ false → step s (Called c call reply) ≡ Err whys.Caller
+undeclared s c call reply declared = by_item (slice_get s.posts c.rank) refl
+  where
+    by_item : (o : Option Posts) → slice_get s.posts c.rank ≡ o → step s (Called c call reply) ≡ Err whys.Caller
+    by_item None is = rw is refl
+    by_item (Some p) is =
+        let gone : is_there (thread_at p c.thread) ≡ false = rw is at declared in
+        refused s c call reply p whys.Caller is (rw gone refl)
+
+-- one with another reply than what the look found
+pub unanswered : (s : State) (c : CallerId) (call : Call) (reply : Reply) (look : Look) → is_declared s c.rank c.thread ≡ true → IsLookIn look s c call
+    → same_reply reply (recorded_reply look.ready) ≡ false → step s (Called c call reply) ≡ Err whys.Reply
+unanswered s c call reply look declared finds other =
+    let d = declared_there s c.rank c.thread declared in
+    let ready : look.ready ≡ answer s.limits c.rank d.posts (memory_at s.memories c.rank (call_reach s.limits c.rank call)) c.thread call =
+    (finds d.posts d.item).ready ∙ ap (λ (m : Memory). answer s.limits c.rank d.posts m c.thread call) (memory_as s c.rank d.posts (call_reach s.limits c.rank call)) in
+    let differs : same_reply reply (recorded_reply (answer s.limits c.rank d.posts (memory_at s.memories c.rank (call_reach s.limits c.rank call)) c.thread call)) ≡ false =
+    subst (λ (r : Ready). same_reply reply (recorded_reply r) ≡ false) ready other in
+    refused s c call reply d.posts whys.Reply d.item (rw (d.there, differs) refl)
+
+-- a new state of ranks whose limits are the same
+pub limits_as : (l l' : Limits) (posts : List Posts) (memories : List Memory) (result : Result (Unit {0}) StepFault) (s : State) (outcome : Result State Why) → l' ≡ l
+    → Steps result s (state_of l posts memories) outcome → Steps result s (state_of l' posts memories) outcome
+limits_as l l' posts memories result s outcome same steps = subst (λ (x : Limits). Steps result s (state_of x posts memories) outcome) (sym same) steps
+
+-- a call, and a put, on the memory that it works on, among the ranks
+pub called_ranks : (ranks ranks' : Ranks) (memories : List Memory) (c : CallerId) (call : Call) (reply : Reply) (reach : Reach) (result : Result (Unit {0}) StepFault) (m m' : Memory)
+    → is_declared (state_in ranks memories) c.rank c.thread ≡ true → call_reach ranks.limits c.rank call ≡ reach → memory_at memories c.rank reach ≡ m → with_memory_at memories c.rank reach m ≡ memories
+    → ((change : Posts → Posts) (all : List Posts) → with_peer_at reach change all ≡ all) → ranks'.limits ≡ ranks.limits
+    → Steps {S = Lent} result (record { posts = ranks.posts; memory = m }) (record { posts = ranks'.posts; memory = m' }) (call_lent ranks.limits ranks.posts m c call reply)
+    → Steps result (state_in ranks memories) (state_in ranks' (with_memory_at memories c.rank reach m')) (step (state_in ranks memories) (Called c call reply))
+called_ranks ranks ranks' memories c call reply reach result m m' declared is memory kept silent limits steps =
+    limits_as ranks.limits ranks'.limits ranks'.posts (with_memory_at memories c.rank reach m') result (state_in ranks memories) _ limits
+    (called_steps (state_in ranks memories) c call reply reach result m ranks'.posts m' (declared_there (state_in ranks memories) c.rank c.thread declared).within is memory kept silent steps)
+
+pub put_ranks : (ranks ranks' : Ranks) (memories : List Memory) (origin queue target number : ℕ) (outcome : Outcome) (p : Posts) (reach : Reach) (result : Result (Unit {0}) StepFault) (m m' : Memory)
+    → slice_get ranks.posts origin ≡ Some p → entry_reach ranks.limits origin (put_touch target) p queue target number ≡ reach
+    → memory_at memories origin reach ≡ m → with_memory_at memories origin reach m ≡ memories → ranks'.limits ≡ ranks.limits
+    → Steps {S = Lent} result (record { posts = ranks.posts; memory = m }) (record { posts = ranks'.posts; memory = m' }) (put_lent ranks.posts m origin queue target number outcome)
+    → Steps result (state_in ranks memories) (state_in ranks' (with_memory_at memories origin reach m')) (step (state_in ranks memories) (Put origin queue target number outcome))
+put_ranks ranks ranks' memories origin queue target number outcome p reach result m m' there is memory kept limits steps =
+    limits_as ranks.limits ranks'.limits ranks'.posts (with_memory_at memories origin reach m') result (state_in ranks memories) _ limits
+    (put_steps (state_in ranks memories) origin queue target number outcome p reach result m ranks'.posts m' there is memory kept steps)

@@ -1,0 +1,231 @@
+//! A look at a call in the whole state, and its record: the step by the call with what the look found.
+
+ghost use Rattle.std.specs.Prelude.{◌≡◌, ◌≢◌, ◌<◌, ◌||◌, List, length, map, slice_get, IfOk, IsOk, Err, true, false, Some};
+ghost use Rattle.gaspi_types.specs.declared.events.Event.TheVariants.{Called};
+ghost use Rattle.gaspi_types.specs.declared.touches.Reach.TheVariants.{PeerPosts};
+ghost use Rattle.gaspi_model.specs.Calls.{recorded_reply};
+ghost use Rattle.gaspi_model.specs.Step.{step, Steps, is_declared};
+ghost use Rattle.gaspi_model.specs.declared.states.Memory.{Memory};
+ghost use Rattle.gaspi_model.specs.declared.states.Posts.{Posts};
+ghost use Rattle.plain_calls.specs.Looks.{made_of};
+ghost use Rattle.plain_calls.specs.Memory.{is_load, keeps_memory};
+ghost use Rattle.plain_machine.specs.Looking.{IsLookIn, IsLookOn};
+ghost use Rattle.plain_machine.specs.Machine.{AreWhole, IsMachine, state_in, taken_of};
+ghost use Rattle.plain_machine.specs.Reaching.{call_reach, Lent, call_lent, AreRanks};
+ghost use Rattle.plain_machine.specs.Standing.{standing_lanes};
+
+use crate::ranks::Ranks;
+use crate::reaching::{call_reach, no_memory, worked_memory};
+use crate::standing::{LaneId, has_entry, look_lane, name_lane};
+use gaspi_model::{Memory, StepFault, Why};
+use gaspi_types::{Call, CallerId, NoMemory, RankId, Reach, Reply, Rows};
+use plain_calls::{Look, is_there, look, news, record, tell, thread_at};
+use std::alloc::Global;
+
+/// Whether a caller has a section.
+pub fn has_section(ranks: &Ranks, caller: &CallerId) -> bool
+    ensures { (memories : List Memory) → result ≡ is_declared (state_in ranks.now memories) caller.now.rank caller.now.thread }
+{
+    match ranks.posts.get(caller.rank.index()) {
+        Some(posts) => is_there(thread_at(posts, caller.thread)),
+        None => false,
+    }
+}
+
+/// Looks at a call of a caller. Only a load takes memory.
+pub fn look_in(
+    ranks: &Ranks,
+    memories: &Rows<Memory>,
+    alloc: Global,
+    caller: &CallerId,
+    call: &Call,
+) -> Result<Look, NoMemory>
+    requires whole { AreWhole ranks.now memories.now }
+    requires there { caller.now.rank < length ranks.now.posts }
+    ensures look { IfOk result (λ look. IsLookIn look (state_in ranks.now memories.now) caller.now call.now) }
+    ensures ample { is_load call.now ≡ false → IsOk result }
+{
+    let none = no_memory(alloc);
+    let reach = call_reach(&ranks.limits, caller.rank, call);
+    look(
+        alloc,
+        &ranks.limits,
+        caller.rank,
+        ranks.posts.at(caller.rank.index()),
+        worked_memory(memories, &none, caller.rank, reach),
+        caller.thread,
+        call,
+    )
+}
+
+/// Records a look at a call, on the posts of its rank and the memory that it works on.
+fn record_on(
+    ranks: &mut Ranks,
+    memory: &mut Memory,
+    alloc: Global,
+    caller: CallerId,
+    call: &Call,
+    look: Look,
+) -> Result<Reply, StepFault>
+    requires ranks { AreRanks ranks.old.limits ranks.old.posts }
+    requires taken { ranks.old.taken ≡ map taken_of ranks.old.posts }
+    requires there { caller.rank < length ranks.old.posts }
+    requires look { (posts : Posts) → slice_get ranks.old.posts caller.rank ≡ Some posts → IsLookOn look ranks.old.limits posts memory.old caller call.now }
+    ensures reply { IfOk result (λ reply. reply ≡ recorded_reply look.ready) }
+    ensures step { Steps {S = Lent} (made_of result) (record { posts = ranks.old.posts; memory = memory.old }) (record { posts = ranks.new.posts; memory = memory.new }) (call_lent ranks.old.limits ranks.old.posts memory.old caller call.now (recorded_reply look.ready)) }
+    ensures ranks { length ranks.new.posts ≡ length ranks.old.posts }
+    ensures limits { ranks.new.limits ≡ ranks.old.limits }
+    ensures taken { ranks.new.taken ≡ map taken_of ranks.new.posts }
+    ensures ample { keeps_memory call.now ≡ false → result ≢ Err StepFault.NoMemory }
+{
+    let rank = caller.rank.index();
+    record(
+        alloc,
+        &ranks.limits,
+        caller.rank,
+        ranks.posts.at_mut(rank),
+        memory,
+        ranks.taken.at_mut(rank),
+        caller.thread,
+        call,
+        look,
+    )
+}
+
+/// Records a look at a call that tells a peer.
+fn record_telling(
+    ranks: &mut Ranks,
+    memories: &Rows<Memory>,
+    alloc: Global,
+    caller: CallerId,
+    call: &Call,
+    look: Look,
+    peer: RankId,
+) -> Result<Reply, StepFault>
+    requires whole { AreWhole ranks.old memories.now }
+    requires declared { is_declared (state_in ranks.old memories.now) caller.rank caller.thread ≡ true }
+    requires look { IsLookIn look (state_in ranks.old memories.now) caller call.now }
+    requires reach { call_reach ranks.old.limits caller.rank call.now ≡ PeerPosts peer }
+    ensures reply { IfOk result (λ reply. reply ≡ recorded_reply look.ready) }
+    ensures step { Steps (made_of result) (state_in ranks.old memories.now) (state_in ranks.new memories.now) (step (state_in ranks.old memories.now) (Called caller call.now (recorded_reply look.ready))) }
+    ensures taken { ranks.new.taken ≡ map taken_of ranks.new.posts }
+    ensures ample { keeps_memory call.now ≡ false → result ≢ Err StepFault.NoMemory }
+{
+    let _memories = memories;
+    let news = news(
+        caller.rank,
+        ranks.posts.at(caller.rank.index()),
+        call,
+        &look,
+    );
+    let mut none = no_memory(alloc);
+    match record_on(ranks, &mut none, alloc, caller, call, look) {
+        Ok(reply) => {
+            tell(ranks.posts.at_mut(peer.index()), news);
+            Ok(reply)
+        }
+        Err(fault) => Err(fault),
+    }
+}
+
+/// Records a look at a call.
+fn record_in(
+    ranks: &mut Ranks,
+    memories: &mut Rows<Memory>,
+    alloc: Global,
+    caller: CallerId,
+    call: &Call,
+    look: Look,
+) -> Result<Reply, StepFault>
+    requires whole { AreWhole ranks.old memories.old }
+    requires declared { is_declared (state_in ranks.old memories.old) caller.rank caller.thread ≡ true }
+    requires look { IsLookIn look (state_in ranks.old memories.old) caller call.now }
+    ensures reply { IfOk result (λ reply. reply ≡ recorded_reply look.ready) }
+    ensures step { Steps (made_of result) (state_in ranks.old memories.old) (state_in ranks.new memories.new) (step (state_in ranks.old memories.old) (Called caller call.now (recorded_reply look.ready))) }
+    ensures taken { ranks.new.taken ≡ map taken_of ranks.new.posts }
+    ensures ample { keeps_memory call.now ≡ false → result ≢ Err StepFault.NoMemory }
+{
+    match call_reach(&ranks.limits, caller.rank, call) {
+        Reach::Alone => {
+            let mut none = no_memory(alloc);
+            record_on(ranks, &mut none, alloc, caller, call, look)
+        }
+        Reach::OwnMemory => {
+            let memory = memories.at_mut(caller.rank.index());
+            record_on(ranks, memory, alloc, caller, call, look)
+        }
+        Reach::PeerMemory(peer) => {
+            let memory = memories.at_mut(peer.index());
+            record_on(ranks, memory, alloc, caller, call, look)
+        }
+        Reach::PeerPosts(peer) => record_telling(ranks, memories, alloc, caller, call, look, peer),
+    }
+}
+
+/// Records a look at a call, and names the lane to which it posts. It gives the reply with which the call was recorded.
+/// The look is one of this very call in this very state, so nothing is looked for again: what is left to check is that the
+/// rank has room.
+pub fn record_named(
+    ranks: &mut Ranks,
+    memories: &mut Rows<Memory>,
+    standing: &mut Vec<LaneId>,
+    alloc: Global,
+    caller: CallerId,
+    call: &Call,
+    look: Look,
+) -> Result<Reply, StepFault>
+    requires machine { IsMachine (state_in ranks.old memories.old) ranks.old.taken standing.old.items }
+    requires declared { is_declared (state_in ranks.old memories.old) caller.rank caller.thread ≡ true }
+    requires look { IsLookIn look (state_in ranks.old memories.old) caller call.now }
+    ensures reply { IfOk result (λ reply. reply ≡ recorded_reply look.ready) }
+    ensures step { Steps (made_of result) (state_in ranks.old memories.old) (state_in ranks.new memories.new) (step (state_in ranks.old memories.old) (Called caller call.now (recorded_reply look.ready))) }
+    ensures taken { ranks.new.taken ≡ map taken_of ranks.new.posts }
+    ensures named { standing.new.items ≡ standing_lanes ranks.new.posts }
+    ensures ample { keeps_memory call.now ≡ false → result ≢ Err StepFault.NoMemory }
+{
+    let Some(id) = look_lane(caller.rank, call, &look) else {
+        return record_in(ranks, memories, alloc, caller, call, look);
+    };
+    if has_entry(&ranks.posts, &id) {
+        return record_in(ranks, memories, alloc, caller, call, look);
+    }
+    if standing.reserve(1).is_err() {
+        return Err(StepFault::NoMemory);
+    }
+    let reply = record_in(ranks, memories, alloc, caller, call, look)?;
+    name_lane(standing, id);
+    Ok(reply)
+}
+
+/// Steps by a call with its reply: its caller has a section, the reply is the one that may be recorded, and its rank has
+/// room.
+pub fn step_called(
+    ranks: &mut Ranks,
+    memories: &mut Rows<Memory>,
+    standing: &mut Vec<LaneId>,
+    alloc: Global,
+    caller: CallerId,
+    call: &Call,
+    reply: &Reply,
+) -> Result<(), StepFault>
+    requires { IsMachine (state_in ranks.old memories.old) ranks.old.taken standing.old.items }
+    ensures step { Steps result (state_in ranks.old memories.old) (state_in ranks.new memories.new) (step (state_in ranks.old memories.old) (Called caller call.now reply.now)) }
+    ensures taken { ranks.new.taken ≡ map taken_of ranks.new.posts }
+    ensures named { standing.new.items ≡ standing_lanes ranks.new.posts }
+    ensures ample { (is_load call.now || keeps_memory call.now) ≡ false → result ≢ Err StepFault.NoMemory }
+{
+    if !has_section(ranks, &caller) {
+        return Err(StepFault::Illegal(Why::Caller));
+    }
+    let look = match look_in(ranks, memories, alloc, &caller, call) {
+        Ok(look) => look,
+        Err(NoMemory) => return Err(StepFault::NoMemory),
+    };
+    if !look.is_recorded_with(reply) {
+        return Err(StepFault::Illegal(Why::Reply));
+    }
+    match record_named(ranks, memories, standing, alloc, caller, call, look) {
+        Ok(_) => Ok(()),
+        Err(fault) => Err(fault),
+    }
+}
