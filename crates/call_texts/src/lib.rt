@@ -10,6 +10,7 @@ mod field_words;
 mod fields;
 mod hexes;
 mod numbers;
+mod ranges;
 mod text_laws;
 mod words_written;
 
@@ -19,6 +20,7 @@ pub use call_words::CallWord;
 pub use call_writing::write_call;
 pub use hexes::{read_bytes, write_bytes};
 pub use numbers::{read_number, read_value, write_number};
+pub use ranges::{bytes_are_in_range, call_is_in_range};
 pub use text_laws::{
     bytes_read_back, calls_read_back, numbers_read_back, read_words_are_in_range,
     timeouts_are_those_of_rows, words_read_back, words_spell_no_end, written_words_are_plain,

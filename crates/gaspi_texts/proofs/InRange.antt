@@ -32,7 +32,8 @@ use Rattle.call_texts.specs.Hex.{bytes_of}
 use Rattle.call_texts.specs.Numbers.{number_of, value_of}
 use Rattle.gaspi_texts.specs.CollectiveText.{type_of, op_of, stage_of, one_field, allreduce_of, create_of, barrier_of, coll_of}
 use Rattle.gaspi_texts.specs.RefusalText.{RefusalForm, Bare, OneNumber, TwoNumbers, OneStage, OneCollective, Held, numbers_of_held, held_of, RefusalRow, refusal_rows, row_in, refusal_of}
-use Rattle.gaspi_texts.specs.ReplyText.{is_in_type, signed_of, element_of, elements_of, plain_reply, value_reply, bytes_reply, list_reply, refused_reply, reply_word_of, reply_with, reply_of, IsInRange}
+use Rattle.gaspi_types.specs.NumberTypes.{is_in_type}
+use Rattle.gaspi_texts.specs.ReplyText.{signed_of, element_of, elements_of, plain_reply, value_reply, bytes_reply, list_reply, refused_reply, reply_word_of, reply_with, reply_of, IsInRange}
 
 -- Steps that may find nothing.
 
@@ -83,6 +84,16 @@ row_in-fair : (number : ℕ) (rows : List (ℕ × RefusalRow)) → AllByRecursio
 row_in-fair number [] h = tt
 row_in-fair number (row ∷ rows) h = either IsFair (number == row.0) (Some row.1) (row_in number rows) h.0 (row_in-fair number rows h.1)
 
+-- Elements.
+
+pub elements_of-range : (t : NumType) (words : List (List ℕ)) → IfSome (elements_of t words) (λ items. AllByRecursion (λ z. is_in_type t z ≡ true) items)
+unfolding element_of
+elements_of-range t [] = tt
+elements_of-range t (word ∷ words) =
+    bound (λ z. is_in_type t z ≡ true) (λ items. AllByRecursion (λ z. is_in_type t z ≡ true) items) (element_of t word) (λ z. elements_of t words >>= λ rest. Some (z ∷ rest))
+    (bound (λ z. Unit {0}) (λ z. is_in_type t z ≡ true) (signed_of word) (λ z. if is_in_type t z then Some z else None) (anything (signed_of word)) (λ z h. guarded_int (λ y. is_in_type t y ≡ true) (is_in_type t z) z (λ e. e)))
+    (λ z h. bound (λ items. AllByRecursion (λ y. is_in_type t y ≡ true) items) (λ items. AllByRecursion (λ y. is_in_type t y ≡ true) items) (elements_of t words) (λ rest. Some (z ∷ rest)) (elements_of-range t words) (λ rest more. (h, more)))
+
 module _ (laws : CallLaws) where
   -- Numbers, bytes and calls.
 
@@ -95,14 +106,6 @@ module _ (laws : CallLaws) where
   one_field-range [] = tt
   one_field-range (word ∷ []) = value_range word
   one_field-range (word ∷ next ∷ words) = tt
-
-  elements_of-range : (t : NumType) (words : List (List ℕ)) → IfSome (elements_of t words) (λ items. AllByRecursion (λ z. is_in_type t z ≡ true) items)
-  unfolding element_of
-  elements_of-range t [] = tt
-  elements_of-range t (word ∷ words) =
-      bound (λ z. is_in_type t z ≡ true) (λ items. AllByRecursion (λ z. is_in_type t z ≡ true) items) (element_of t word) (λ z. elements_of t words >>= λ rest. Some (z ∷ rest))
-      (bound (λ z. Unit {0}) (λ z. is_in_type t z ≡ true) (signed_of word) (λ z. if is_in_type t z then Some z else None) (anything (signed_of word)) (λ z h. guarded_int (λ y. is_in_type t y ≡ true) (is_in_type t z) z (λ e. e)))
-      (λ z h. bound (λ items. AllByRecursion (λ y. is_in_type t y ≡ true) items) (λ items. AllByRecursion (λ y. is_in_type t y ≡ true) items) (elements_of t words) (λ rest. Some (z ∷ rest)) (elements_of-range t words) (λ rest more. (h, more)))
 
   type_small : (t : NumType) → type_number t < 2 ^ 32
   type_small Int = omega arith

@@ -21,7 +21,8 @@ use Rattle.gaspi_types.specs.declared.replies.Reply.TheVariants as replies
 use Rattle.call_texts.specs.Numbers.{number_of}
 use Rattle.gaspi_texts.specs.CollectiveText.{type_word, op_word, stage_word, type_of, op_of, stage_of, coll_words, coll_of}
 use Rattle.gaspi_texts.specs.RefusalText.{RefusalForm, Bare, OneNumber, TwoNumbers, OneStage, OneCollective, Held, numbers_of_held, words_of_held, held_of, RefusalRow, refusal_rows, row_in, refusal_of, Holding, Holds, holding_of, field_words}
-use Rattle.gaspi_texts.specs.ReplyText.{is_in_type, signed_of, element_of, elements_of, reply_word_of, words_of_reply, reply_text, reply_of, IsInRange}
+use Rattle.gaspi_types.specs.NumberTypes.{is_in_type}
+use Rattle.gaspi_texts.specs.ReplyText.{signed_of, element_of, elements_of, reply_word_of, words_of_reply, reply_text, reply_of, IsInRange}
 use Rattle.call_texts.specs.Words.{words_of}
 use Rattle.gaspi_texts.specs.CallLaws.{CallLaws}
 use Rattle.gaspi_texts.proofs.GraphicWords.{number_word, small_word, fixed_word, hex_word, signed_word, are_digits, IsWide}

@@ -1,5 +1,5 @@
 -- The texts of replies: the one form that is written, and what is read. (own choice)
-use Rattle.std.specs.Prelude.{◌≡◌, ◌^◌, ◌<◌, ℕ, ℤ, pos, negsuc, neg_ℤ, int_le, Bool, true, false, ◌&&◌, ◌==◌, List, [], ◌∷◌, map, Option, Some, None, find, if◌then◌else◌, codes}
+use Rattle.std.specs.Prelude.{◌^◌, ◌<◌, ℕ, ℤ, pos, neg_ℤ, Bool, true, false, ◌==◌, List, [], ◌∷◌, map, Option, Some, None, find, if◌then◌else◌, codes}
 use Rattle.std.specs.Fmt.{decimal, signed_decimal}
 use Rattle.std.specs.List.{join_with_byte, AllByRecursion}
 use Rattle.std.specs.Option.{option_map, option_map_or}
@@ -8,9 +8,9 @@ use Rattle.hex.specs.Hex.{IsBytes}
 use Rattle.call_texts.specs.Fields.{◌>>=◌}
 use Rattle.call_texts.specs.Hex.{bytes_of, hex_text}
 use Rattle.call_texts.specs.Numbers.{number_of}
+use Rattle.gaspi_types.specs.NumberTypes.{is_in_type, AreInType}
 use Rattle.gaspi_types.specs.Replies.{refusal_number, refusal_fields}
 use Rattle.gaspi_types.specs.declared.collectives.NumType.{NumType}
-use Rattle.gaspi_types.specs.declared.collectives.NumType.TheVariants.{Int, Uint, Long, Ulong, Float, Double}
 use Rattle.gaspi_types.specs.declared.replies.Reply.{Reply}
 use Rattle.gaspi_types.specs.declared.replies.Reply.TheVariants as replies
 use Rattle.gaspi_texts.specs.CollectiveText.{type_word, type_of, one_field}
@@ -19,26 +19,6 @@ use Rattle.gaspi_texts.specs.declared.reply_words.ReplyWord.{ReplyWord}
 use Rattle.gaspi_texts.specs.declared.reply_words.ReplyWord.TheVariants as words
 
 -- Elements: the numbers of a list.
-
--- the range of a type; numbers of FLOAT and DOUBLE are those of LONG
-abbrev pub lowest : NumType → ℤ
-lowest Int = negsuc 2147483647
-lowest Uint = pos 0
-lowest Long = negsuc 9223372036854775807
-lowest Ulong = pos 0
-lowest Float = negsuc 9223372036854775807
-lowest Double = negsuc 9223372036854775807
-
-abbrev pub highest : NumType → ℤ
-highest Int = pos 2147483647
-highest Uint = pos 4294967295
-highest Long = pos 9223372036854775807
-highest Ulong = pos 18446744073709551615
-highest Float = pos 9223372036854775807
-highest Double = pos 9223372036854775807
-
-abbrev pub is_in_type : NumType → ℤ → Bool
-is_in_type t z = int_le (lowest t) z && int_le z (highest t)
 
 -- a number with an optional `-` before it
 unfoldable pub signed_of : List ℕ → Option ℤ
@@ -83,7 +63,7 @@ IsInRange (replies.Value n) = n < 2 ^ 64
 IsInRange (replies.Id n) = n < 2 ^ 32
 IsInRange (replies.Bytes bytes) = IsBytes bytes
 IsInRange (replies.Mask mask) = mask < 2 ^ 32
-IsInRange (replies.List numbers) = AllByRecursion (λ z. is_in_type numbers.num_type z ≡ true) numbers.items
+IsInRange (replies.List numbers) = AreInType numbers.num_type numbers.items
 IsInRange replies.Timeout = Unit {0}
 IsInRange (replies.Refused refusal) = AllByRecursion (λ n. n < 2 ^ 32) (refusal_fields refusal)
 

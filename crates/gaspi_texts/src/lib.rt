@@ -3,6 +3,7 @@
 
 mod event_reading;
 mod event_texts;
+mod ranges;
 mod reply_elements;
 mod reply_reading;
 mod reply_texts;
@@ -15,6 +16,7 @@ pub use call_texts::{
     write_number,
 };
 pub use event_texts::{read_event, read_event_with, write_event};
+pub use ranges::{event_is_in_range, reply_is_in_range};
 pub use reply_texts::{read_reply, read_reply_words, write_reply};
 pub use text_laws::{
     events_differ_in_text, events_have_no_line_feed, read_replies_are_in_range,

@@ -2,42 +2,12 @@
 
 ghost use Rattle.std.specs.Prelude.{◌≡◌, ◌++◌, ◌∷◌, map, flat_map, take, length, IfOk, OnOk, OnErr};
 ghost use Rattle.std.specs.Fmt.{signed_decimal};
-ghost use Rattle.gaspi_texts.specs.ReplyText.{lowest, highest, is_in_type, signed_of, element_of, elements_of};
+ghost use Rattle.gaspi_texts.specs.ReplyText.{signed_of, element_of, elements_of};
 
 use call_texts::{append_word, read_number};
-use gaspi_types::{Bytes, NoMemory, NumType, Rows};
+use gaspi_types::{Bytes, NoMemory, NumType, Rows, is_in_type};
 use itoa::Buffer;
 use std::alloc::Global;
-
-/// The least number of a type.
-fn lowest(num_type: NumType) -> i128
-    ensures { result ≡ lowest num_type }
-{
-    match num_type {
-        NumType::Int => -2147483648,
-        NumType::Uint | NumType::Ulong => 0,
-        NumType::Long | NumType::Float | NumType::Double => -9223372036854775808,
-    }
-}
-
-/// The greatest number of a type.
-fn highest(num_type: NumType) -> i128
-    ensures { result ≡ highest num_type }
-{
-    match num_type {
-        NumType::Int => 2147483647,
-        NumType::Uint => 4294967295,
-        NumType::Long | NumType::Float | NumType::Double => 9223372036854775807,
-        NumType::Ulong => 18446744073709551615,
-    }
-}
-
-/// Whether a number is in the range of a type.
-fn is_in_type(num_type: NumType, number: i128) -> bool
-    ensures { result ≡ is_in_type num_type number }
-{
-    lowest(num_type) <= number && number <= highest(num_type)
-}
 
 /// The number that a word spells, with an optional `-` before it.
 #[tactic(auto, unfolding(crate::specs::ReplyText::signed_of))]

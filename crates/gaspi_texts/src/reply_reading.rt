@@ -189,7 +189,7 @@ fn read_list_reply(alloc: Global, arguments: &[&[u8]]) -> Result<Option<Reply>, 
     let Some(items) = read_elements(alloc, num_type, elements)? else {
         return Ok(None);
     };
-    Ok(Some(Reply::List(Numbers { num_type, items })))
+    Ok(Some(Reply::List(Numbers::new(num_type, items))))
 }
 
 fn read_refused_reply(arguments: &[&[u8]]) -> Option<Reply>

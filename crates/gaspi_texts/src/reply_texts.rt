@@ -81,8 +81,8 @@ fn append_reply(text: &mut Bytes, reply: &Reply) -> Result<(), NoMemory>
         Reply::Mask(mask) => append_line(text, b"mask", &[u64::from(*mask)]),
         Reply::List(numbers) => {
             text.append(b"list")?;
-            append_word(text, type_word(numbers.num_type))?;
-            append_elements(text, numbers.items.as_slice())
+            append_word(text, type_word(numbers.num_type()))?;
+            append_elements(text, numbers.items())
         }
         Reply::Timeout => text.append(b"timeout"),
         Reply::Refused(refusal) => {

@@ -3,7 +3,7 @@ ghost use Rattle.std.specs.Prelude.{◌<◌};
 use super::*;
 use gaspi_types::{
     Bytes, Call, CallerId, Coll, Event, NoMemory, NumType, Numbers, Op, Outcome, QueueId, RankId,
-    Refusal, Reply, Rows, Stage, ThreadId, Wait,
+    Refusal, Reply, Rows, Stage, ThreadId, Wait, are_in_type,
 };
 use std::alloc::Global;
 use std::test::Fail;
@@ -23,10 +23,10 @@ fn list_is(
     items: &[i128],
     text: &[u8],
 ) -> Result<bool, NoMemory> {
-    let numbers = Numbers {
-        num_type,
-        items: Rows::copied_from(alloc, items)?,
-    };
+    if !are_in_type(num_type, items) {
+        return Ok(false);
+    }
+    let numbers = Numbers::new(num_type, Rows::copied_from(alloc, items)?);
     reply_is(alloc, Reply::List(numbers), text)
 }
 

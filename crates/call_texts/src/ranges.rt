@@ -1,0 +1,100 @@
+//! Values in the ranges of their types. What is said here holds of every value of the type: the functions only read it.
+
+ghost use Rattle.hex.specs.Hex.{IsBytes};
+ghost use Rattle.call_texts.specs.CallText.{IsWritable};
+ghost use Rattle.gaspi_types.specs.declared.calls.Call.TheVariants as calls;
+
+use gaspi_types::{
+    Alloc, Call, CompareSwap, Delete, FetchAdd, Load, Notify, Register, Reset, Store, Wait,
+    Waitsome, Write, WriteNotify,
+};
+
+/// Bytes are below 256.
+pub fn bytes_are_in_range(bytes: &[u8])
+    ensures { IsBytes bytes.now }
+{}
+
+/// The numbers of a write with a notification are those of their types.
+fn write_notify_is_in_range(_call: WriteNotify)
+    ensures { IsWritable (calls.WriteNotify _call) }
+{}
+
+/// The numbers and the bytes of a call are those of their types, so its text reads back as that call.
+pub fn call_is_in_range(call: &Call)
+    ensures { IsWritable call.now }
+{
+    match call {
+        Call::Alloc(Alloc { seg, size }) => {
+            let _read = (*seg, *size);
+        }
+        Call::Register(Register { seg, rank }) => {
+            let _read = (*seg, *rank);
+        }
+        Call::Delete(Delete { seg }) => {
+            let _read = *seg;
+        }
+        Call::Store(Store { seg, offset, bytes }) => {
+            let _read = (*seg, *offset);
+            bytes_are_in_range(bytes.as_slice());
+        }
+        Call::Load(Load { seg, offset, size }) => {
+            let _read = (*seg, *offset, *size);
+        }
+        Call::Write(
+            Write {
+                seg,
+                offset,
+                rank,
+                rseg,
+                roffset,
+                size,
+                queue,
+            },
+        ) => {
+            let _read = (*seg, *offset, *rank, *rseg, *roffset, *size, *queue);
+        }
+        Call::Notify(
+            Notify {
+                rseg,
+                rank,
+                note,
+                value,
+                queue,
+            },
+        ) => {
+            let _read = (*rseg, *rank, *note, *value, *queue);
+        }
+        Call::WriteNotify(call) => write_notify_is_in_range(*call),
+        Call::Wait(Wait { queue }) => {
+            let _read = *queue;
+        }
+        Call::Waitsome(Waitsome { seg, begin, num }) => {
+            let _read = (*seg, *begin, *num);
+        }
+        Call::Reset(Reset { seg, note }) => {
+            let _read = (*seg, *note);
+        }
+        Call::FetchAdd(
+            FetchAdd {
+                seg,
+                offset,
+                rank,
+                value,
+            },
+        ) => {
+            let _read = (*seg, *offset, *rank, *value);
+        }
+        Call::CompareSwap(
+            CompareSwap {
+                seg,
+                offset,
+                rank,
+                comparator,
+                new,
+            },
+        ) => {
+            let _read = (*seg, *offset, *rank, *comparator, *new);
+        }
+        Call::End => {}
+    }
+}

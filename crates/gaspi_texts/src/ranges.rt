@@ -1,0 +1,64 @@
+//! Values in the ranges of their types. What is said here holds of every value of the type: the functions only read it.
+
+ghost use Rattle.std.specs.Prelude.{◌^◌, ◌<◌};
+ghost use Rattle.std.specs.List.{AllByRecursion};
+ghost use Rattle.gaspi_types.specs.Replies.{coll_fields, refusal_fields};
+ghost use Rattle.gaspi_texts.specs.EventText.{IsInEventRange};
+ghost use Rattle.gaspi_texts.specs.ReplyText.{IsInRange};
+
+use call_texts::{bytes_are_in_range, call_is_in_range};
+use gaspi_types::{Coll, Event, Refusal, Reply};
+
+/// The numbers of a collective are those of their types.
+fn coll_is_in_range(_coll: Coll)
+    ensures { AllByRecursion (λ n. n < 2 ^ 32) (coll_fields _coll) }
+{}
+
+/// The numbers of a refusal are those of their types.
+fn refusal_is_in_range(refusal: Refusal)
+    ensures { AllByRecursion (λ n. n < 2 ^ 32) (refusal_fields refusal) }
+{
+    match refusal {
+        Refusal::ResumeOther { kept } | Refusal::CollectiveMismatch { kept } => {
+            coll_is_in_range(kept);
+        }
+        _ => {}
+    }
+}
+
+/// The numbers of a reply are those of its types, so its text reads back as that reply.
+pub fn reply_is_in_range(reply: &Reply)
+    ensures { IsInRange reply.now }
+{
+    match reply {
+        Reply::Done | Reply::Timeout => {}
+        Reply::Value(n) => {
+            let _read = *n;
+        }
+        Reply::Id(n) | Reply::Mask(n) => {
+            let _read = *n;
+        }
+        Reply::Bytes(bytes) => bytes_are_in_range(bytes.as_slice()),
+        Reply::List(numbers) => {
+            let _read = numbers.items();
+        }
+        Reply::Refused(refusal) => refusal_is_in_range(*refusal),
+    }
+}
+
+/// The numbers of an event are those of its types, so its text reads back as that event.
+pub fn event_is_in_range(event: &Event)
+    ensures { IsInEventRange event.now }
+{
+    match event {
+        Event::Called(caller, call, reply) => {
+            let _read = (caller.rank.number(), caller.thread.number());
+            call_is_in_range(call);
+            reply_is_in_range(reply);
+        }
+        Event::Take(origin, queue, target, number, _)
+        | Event::Put(origin, queue, target, number, _) => {
+            let _read = (origin.number(), queue.number(), target.number(), *number);
+        }
+    }
+}
