@@ -1,16 +1,21 @@
 //! What a turn does: the present call of a caller, its end, or a transfer.
 
 ghost use Rattle.std.specs.Prelude.{◌≡◌, ℕ, ◌+◌, ◌<◌, ◌≤◌, ◌++◌, ◌∷◌, [], OnOk, Ok, Some, true, false, length, slice_get};
+ghost use Rattle.gaspi_types.specs.declared.replies.Ready.TheVariants.{NotReady};
+ghost use Rattle.gaspi_model.specs.Calls.{recorded_reply};
 ghost use Rattle.gaspi_model.specs.Step.{transfer_event};
 ghost use Rattle.gaspi_model.specs.Transfers.{transfers};
 ghost use Rattle.gaspi_run.specs.Generator.{drawn};
 ghost use Rattle.gaspi_run.specs.Schedule.{made, looks_of, recorded, looked, going_turn, ending_turn, caller_turn, candidate_turn, candidates, turn, AreDeclared};
+ghost use Rattle.plain_machine.specs.Looking.{IsLookIn};
+ghost use Rattle.rank_script.specs.Runs.{advanced};
 ghost use Rattle.rank_script.specs.declared.scripts.ScriptLine.{ScriptLine};
 ghost use Rattle.gaspi_run.specs.declared.turns.Waiting.{Waiting};
 
-use crate::turns::{Finished, Turns};
+use crate::turns::{Finished, Turns, Waiting};
 use gaspi_model::StepFault;
 use gaspi_types::{Call, Event, NoMemory, Ready, Reply, Timeout, Transfer, need};
+use plain_calls::Look;
 use rank_script::{Halted, RunOutcome};
 use std::alloc::Global;
 
@@ -45,23 +50,42 @@ fn make(turns: &mut Turns, alloc: Global, event: Event) -> Result<(), NoMemory>
     }
 }
 
-/// Records the present call of a waiting caller with its reply.
+/// Brings the run of a waiting caller on by what a look at its present call found.
+fn bring_on(waiting: &mut Waiting<'_>, ready: &Ready)
+    ensures { waiting.new ≡ record { caller = waiting.old.caller; cursor = advanced waiting.old.cursor (recorded_reply ready.now); looks = 0 } }
+{
+    match ready {
+        Ready::Reply(reply) => waiting.cursor.advance(reply),
+        Ready::NotReady => waiting.cursor.advance(&Reply::Timeout),
+    }
+    waiting.looks = 0;
+}
+
+/// Records a look at the present call of a waiting caller.
 fn record_call(
     turns: &mut Turns,
     alloc: Global,
     place: usize,
     call: &Call,
-    reply: Reply,
+    look: Look,
 ) -> Result<(), NoMemory>
-    requires { place < length turns.old.waiting }
-    ensures { (w : Waiting) → slice_get turns.old.waiting place ≡ Some w → OnOk result (turns.new ≡ recorded turns.old place w call.now reply) }
+    requires place { place < length turns.old.waiting }
+    requires declared { AreDeclared turns.old }
+    requires look { (w : Waiting) → slice_get turns.old.waiting place ≡ Some w → IsLookIn look turns.old.state w.caller call.now }
+    ensures { (w : Waiting) → slice_get turns.old.waiting place ≡ Some w → OnOk result (turns.new ≡ recorded turns.old place w call.now (recorded_reply look.ready)) }
 {
     let call = call.copy(alloc)?;
-    let waiting = turns.waiting.at_mut(place);
-    waiting.cursor.advance(&reply);
-    waiting.looks = 0;
-    let caller = waiting.caller;
-    make(turns, alloc, Event::Called(caller, call, reply))
+    let caller = turns.waiting.at(place).caller;
+    bring_on(turns.waiting.at_mut(place), &look.ready);
+    match turns.state.record(alloc, caller, &call, look) {
+        Ok(reply) => {
+            let caller = turns.waiting.at(place).caller;
+            turns.journal.push(Event::Called(caller, call, reply))?;
+            Ok(())
+        }
+        Err(StepFault::Illegal(_)) => Ok(()),
+        Err(StepFault::NoMemory) => Err(NoMemory),
+    }
 }
 
 /// The end of a waiting caller whose run is over.
@@ -82,22 +106,26 @@ fn end_caller(
 }
 
 /// A look at the present call of a waiting caller that is not ready: at the last one a timeout is recorded.
-fn look(
+fn look_again(
     turns: &mut Turns,
     alloc: Global,
     limit: u32,
     place: usize,
     call: &Call,
     timeout: Timeout,
+    look: Look,
 ) -> Result<(), NoMemory>
-    requires { place < length turns.old.waiting }
+    requires place { place < length turns.old.waiting }
+    requires declared { AreDeclared turns.old }
+    requires look { (w : Waiting) → slice_get turns.old.waiting place ≡ Some w → IsLookIn look turns.old.state w.caller call.now }
+    requires not_ready { look.ready ≡ NotReady }
     ensures { (w : Waiting) (line : ScriptLine) → slice_get turns.old.waiting place ≡ Some w → line.call ≡ call.now → line.timeout ≡ timeout
         → OnOk result (turns.new ≡ looked limit turns.old place w line) }
 {
     let looks = turns.waiting.at(place).looks;
     let most = looks_of(limit, timeout);
     if u64::from(most) <= u64::from(looks) + 1 {
-        return record_call(turns, alloc, place, call, Reply::Timeout);
+        return record_call(turns, alloc, place, call, look);
     }
     turns.waiting.at_mut(place).looks = looks + 1;
     Ok(())
@@ -124,10 +152,11 @@ fn go_on(
         waiting.looks = 0;
         return Ok(());
     }
-    match turns.state.answer(alloc, caller, call)? {
-        Ready::Reply(reply) => record_call(turns, alloc, place, call, reply),
-        Ready::NotReady => look(turns, alloc, limit, place, call, timeout),
+    let look = turns.state.look(alloc, caller, call)?;
+    if matches!(look.ready, Ready::NotReady) {
+        return look_again(turns, alloc, limit, place, call, timeout, look);
     }
+    record_call(turns, alloc, place, call, look)
 }
 
 /// The turn of a waiting caller.
