@@ -1,5 +1,6 @@
 pub mod FedLines
 pub mod JournalLines
+pub mod RangesSoFar
 pub mod ReadJournals
 pub mod ReadLines
 pub mod Replays

@@ -3,18 +3,24 @@
 
 mod laws;
 mod lines;
+mod ranges;
 mod reading;
 mod verdicts;
 mod writing;
 
-use gaspi_types::{Event, Rows};
+use gaspi_types::{Buffer, Event, Rows};
 pub use laws::journals_differ_in_text;
+pub use ranges::journal_is_in_range;
 pub use reading::{JournalFault, read};
 pub use verdicts::{Verdict, check};
 pub use writing::write;
 
 /// The events of a world in the order in which they happened: the place of an event is its index, from 0.
 pub type Journal = Rows<Event>;
+
+/// A part of a journal with room for so many events: it takes its memory when it is made, and adding an event below its
+/// room cannot fail. `into_rows` makes a journal of it, without taking memory.
+pub type JournalPart = Buffer<Event>;
 
 #[cfg(test)]
 mod tests;

@@ -1,10 +1,13 @@
 //! Journals written.
 
-ghost use Rattle.std.specs.Prelude.{◌≡◌, ◌++◌, OnOk, OnErr};
+ghost use Rattle.std.specs.Prelude.{◌≡◌, ◌++◌, List, OnOk, OnErr};
+ghost use Rattle.gaspi_types.specs.declared.events.Event.{Event};
 ghost use Rattle.call_journal.specs.Additions.{KeepsFront};
-ghost use Rattle.call_journal.specs.JournalText.{event_line, end_line, journal_text};
+ghost use Rattle.call_journal.specs.JournalText.{event_line, end_line, journal_text, AreInRange};
 
 use crate::Journal;
+use crate::laws::journals_differ_in_text;
+use crate::ranges::journal_is_in_range;
 use gaspi_texts::{write_event, write_number};
 use gaspi_types::{Bytes, Event, NoMemory};
 
@@ -41,11 +44,16 @@ fn append_journal(text: &mut Bytes, journal: &Journal) -> Result<(), NoMemory>
     append_end_line(text, journal.len() as u64)
 }
 
-/// Adds the text of a journal. Without memory nothing changes.
+/// Adds the text of a journal. Without memory nothing changes. What is written is the text of this journal and of no
+/// other, so `read` takes it, and gives this journal.
 pub fn write(text: &mut Bytes, journal: &Journal) -> Result<(), NoMemory>
     ensures ok { OnOk result (text.new ≡ text.old ++ journal_text journal.now) }
     ensures err { OnErr result (text.new ≡ text.old) }
+    ensures ranges { AreInRange journal.now }
+    ensures only { (other : List Event) → AreInRange other → journal_text other ≡ journal_text journal.now → other ≡ journal.now }
 {
+    journals_differ_in_text();
+    journal_is_in_range(journal);
     let count = text.len();
     let written = append_journal(text, journal);
     if written.is_err() {

@@ -67,7 +67,7 @@ run_text false w scripts journal = journal_text journal
 -- What `step` does with its input: the schedule has the seed and the limit of the words. The text that it writes is the
 -- journal, or with `--brief` what the callers were told; its status tells how they ended; and its journal is a legal
 -- history in which each caller's calls are a run of its script, and after which every caller has ended and all that was
--- posted has arrived, broken queues aside.
+-- posted has arrived, broken queues aside. Its numbers are those of its types, so the journal's text is that of no other.
 pub record IsStepped (seed limit : ℕ) (brief : Bool) (input : List ℕ) (journal : List Event) (status : ℕ) (text : List ℕ) : Type 0 where
   pub world : World
   pub scripts : List Script
@@ -77,6 +77,7 @@ pub record IsStepped (seed limit : ℕ) (brief : Bool) (input : List ℕ) (journ
   pub legal : is_legal world journal ≡ true
   pub settled : HasSettled world journal
   pub ended : HaveEnded world scripts journal finished
+  pub ranges : AreInRange journal
   pub status_is : status ≡ run_status finished
   pub text_is : text ≡ run_text brief world scripts journal
 

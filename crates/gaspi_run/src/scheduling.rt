@@ -1,13 +1,14 @@
 //! The schedule of a world's scripts on one thread.
 
 ghost use Rattle.std.specs.Prelude.{◌≡◌, ℕ, ◌<◌, ◌≤◌, ◌++◌, OnOk, IfOk, true};
+ghost use Rattle.call_journal.specs.JournalText.{AreInRange};
 ghost use Rattle.gaspi_model.specs.Step.{is_legal};
 ghost use Rattle.rank_script.specs.WorldText.{AreScriptsOf};
 ghost use Rattle.gaspi_run.specs.Schedule.{starts, rank_starts, thread_starts, started, IsScheduled, HasSettled, HaveEnded};
 
 use crate::moves::turn;
 use crate::turns::{Finished, Turns, Waiting};
-use call_journal::Journal;
+use call_journal::{Journal, journal_is_in_range};
 use gaspi_model::{enabled, endings, settling, soundness};
 use gaspi_types::{CallerId, NoMemory, RankId, Rows, Shape, ThreadId};
 use plain_machine::Machine;
@@ -89,6 +90,7 @@ pub fn schedule(
     ensures legal { IfOk result (λ ran. is_legal shape.now ran.journal ≡ true) }
     ensures settled { IfOk result (λ ran. HasSettled shape.now ran.journal) }
     ensures runs { IfOk result (λ ran. HaveEnded shape.now scripts.now ran.journal ran.outcomes) }
+    ensures ranges { IfOk result (λ ran. AreInRange ran.journal) }
 {
     soundness();
     enabled();
@@ -113,6 +115,7 @@ pub fn schedule(
         finished,
         journal,
     } = turns;
+    journal_is_in_range(&journal);
     Ok(Ran {
         journal,
         outcomes: finished,

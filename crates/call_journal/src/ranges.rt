@@ -1,0 +1,15 @@
+//! Journals in the ranges of their types.
+
+ghost use Rattle.call_journal.specs.JournalText.{AreInRange};
+
+use crate::Journal;
+use gaspi_texts::event_is_in_range;
+
+/// The numbers of all events of a journal are those of their types, so no other journal has its text.
+pub fn journal_is_in_range(journal: &Journal)
+    ensures { AreInRange journal.now }
+{
+    for event in journal.as_slice() {
+        event_is_in_range(event);
+    }
+}
