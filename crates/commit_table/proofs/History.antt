@@ -52,7 +52,7 @@ module _ {S X E : Type 0} (of : S → Machine X E) (laws : (s : S) → Laws (of 
       let w = at_rest (looked v h) in
       let longer : length v.seen ≤ length h = prefix_length v.seen h f.seen in
       let seen : All (λ k. k ≤ length h) (v.looks ++ length h ∷ []) = All-append (λ k. k ≤ length h) v.looks (length h ∷ []) (λ k d lt. let a = f.looks k d lt in omega arith) (all_one (λ k. k ≤ length h) (length h) (omega arith)) in
-      let fits = rest_fits of laws start n h r.holder r.seat id (looked v h) None [] f.begun (prefix_self h) (prefix_none h) seen f.party f.held f.none in (
+      let fits = rest_fits of laws start n h r.holder r.seat id (looked v h) None [] f.begun (prefix_self h) (prefix_none h) seen (λ p e. (f.party p e).2) f.party f.held f.none in (
         w,
         keeps,
         tt,
@@ -128,6 +128,7 @@ module _ {S X E : Type 0} (of : S → Machine X E) (laws : (s : S) → Laws (of 
         seen = prefix_more u.known.seen h (e ∷ []) f.seen;
         heard = prefix_more u.heard h (e ∷ []) f.heard;
         looks = f.looks;
+        own_seen = f.own_seen;
         party = λ q own. let a = f.party q own in (a.0, a.1, apart q a.1 ∙ a.2);
         makes = λ q low high. let a = f.makes q low high in (a.0, a.1, apart q a.1 ∙ a.2, a.3);
         held = f.held;
@@ -175,7 +176,7 @@ module _ {S X E : Type 0} (of : S → Machine X E) (laws : (s : S) → Laws (of 
       let mine : events_by m.party p h' ≡ w'.mine = by_own m.party p h e by ∙ ap (λ z. mine_after (m.party e) z e) own.2 in
       let mine_of : (q : ℕ) → p ≡ q → (q < n) × (r.seat q ≡ Some id) × (events_by m.party q h' ≡ w'.mine) = λ q e. subst (λ z. (z < n) × (r.seat z ≡ Some id) × (events_by m.party z h' ≡ w'.mine)) e (own.0, own.1, mine) in
       let seen : All (λ k. k ≤ length h') v.looks = λ k d lt. let a = f.looks k d lt in let b = prefix_length v.seen h f.seen in omega arith in
-      let fits = rest_fits of laws start n h' r.holder r.seat id w' None [] f.begun (prefix_self h') (prefix_none h') seen
+      let fits = rest_fits of laws start n h' r.holder r.seat id w' None [] f.begun (prefix_self h') (prefix_none h') seen (λ q its. (mine_of q (let a : p ≡ q = cc in a)).2)
       (λ q its. mine_of q (let a : p ≡ q = cc in a))
       (λ j g its. ⊎_elim
       (λ on. let a = holds j on in f.held j a.0 a.1)

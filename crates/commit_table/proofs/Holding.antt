@@ -11,9 +11,10 @@ use Rattle.atomic_table.specs.Table.{State, Me, Act, keeps, takes as carries, gi
 use Rattle.atomic_table.proofs.Lists.{set_here, set_else, exchanged}
 use Rattle.commit_table.specs.declared.views.Known.{Known}
 use Rattle.commit_table.specs.declared.views.View.{View}
-use Rattle.commit_table.specs.Machine.{Machine, Laws, events_by}
+use Rattle.commit_table.specs.Machine.{Machine, Laws, events_by, IsOwn}
 use Rattle.commit_table.specs.Views.{held_at, took, missed, gave_back, at_rest, reaching}
 use Rattle.commit_table.specs.Rule.{Free, Held, IsShard, Fits, Rule}
+use Rattle.commit_table.specs.Calls.{IsSound}
 use Rattle.commit_table.specs.Steps.{Of, Takes, Reaches, takes, parks, reaches, frees}
 use Rattle.commit_table.proofs.Lists.{prefix_self, at_here, one_there, held_here, held_else}
 use Rattle.commit_table.proofs.Moves.{with_view, still, moved, updated, updated_here, updated_else}
@@ -39,16 +40,17 @@ module _ {S X E : Type 0} (of : S → Machine X E) (laws : (s : S) → Laws (of 
   resting v out heard = record { known = v; out = out; heard = heard; gives = 0; ends = 0; gathers = false; gathered = []; closed = false }
 
   pub rest_fits : (h : List E) (holder seat : ℕ → Option ℕ) (id : ℕ) (v : K) (out : Option ℕ) (heard : List E)
-      → ((s : S) → v.start ≡ Some s → s ≡ start) → IsPrefix v.seen h → IsPrefix heard h → All (λ k. k ≤ length v.seen) v.looks
+      → ((s : S) → v.start ≡ Some s → s ≡ start) → IsPrefix v.seen h → IsPrefix heard h → All (λ k. k ≤ length v.seen) v.looks → IsOwn m v.party v.seen v.mine
       → ((p : ℕ) → v.party ≡ Some p → (p < n) × (seat p ≡ Some id) × (events_by m.party p h ≡ v.mine))
       → ((i : ℕ) (g : List E) → held_at v.held i ≡ Some g → (i < m.shards) × (holder i ≡ Some id))
       → (v.party ≡ None → (i : ℕ) → held_at v.held i ≡ None)
       → Fits m start n h holder seat id (resting v out heard)
-  rest_fits h holder seat id v out heard begun seen told looks party held bare = record {
+  rest_fits h holder seat id v out heard begun seen told looks own party held bare = record {
     begun = begun;
     seen = seen;
     heard = told;
     looks = looks;
+    own_seen = own;
     party = party;
     makes = λ p low high. absurd (omega arith);
     held = held;
@@ -61,6 +63,12 @@ module _ {S X E : Type 0} (of : S → Machine X E) (laws : (s : S) → Laws (of 
   -- a fact about the machine of the table's start is one about the machine of the view's
   pub told : (s : St) (r : R s) (id : ℕ) (v : View S E) → get_elem? s.views id ≡ some v → (P : Machine X E → Type 0) → P m → Of of v.known P
   told s r id v at P p st e = subst (λ z. P (of z)) (sym ((r.views id v at).begun st e)) p
+
+  -- what a view has seen is legal, and has its own events
+  pub sound : (s : St) (r : R s) (id : ℕ) (v : View S E) → get_elem? s.views id ≡ some v → IsSound m v.known
+  sound s r id v at =
+      let f = r.views id v at in
+      record { legal = (laws start).beginning v.known.seen f.seen.0 (subst (λ h. m.Legal h) (sym f.seen.1) r.legal); own = f.own_seen }
 
   free_shard : (s : St) (h : List E) (i : ℕ) (o : Option ℕ) → IsShard m start n s h i o → get_or s.words (suc i) 0 ≡ 0 → (o ≡ None) × Free m start n s h i
   free_shard s h i None f z = (refl, f)
@@ -98,6 +106,7 @@ module _ {S X E : Type 0} (of : S → Machine X E) (laws : (s : S) → Laws (of 
       let h = r.history in
       let f = r.views id (at_rest v) at in
       let x : ℕ = get_or s.words (suc i) 0 in
+      let known : Of of v (λ z. IsSound z v) = told s r id (at_rest v) at (λ z. IsSound z v) (sound s r id (at_rest v) at) in
       let then : Mine → Type 0 = takes of (step slots (suc i) 0 1 none) (at_rest v, []) x in
       exchanged x 0 1 (λ y. Goes s (suc i) id (at_rest v, []) then y)
       (λ hit.
@@ -113,7 +122,7 @@ module _ {S X E : Type 0} (of : S → Machine X E) (laws : (s : S) → Laws (of 
         agrees = (laws start).agree_self i h;
         slot = inl refl;
       } in
-      let fits = rest_fits h (updated m start n r.holder i (Some id)) r.seat id (took v i h) (Some i) [] f.begun f.seen f.heard f.looks f.party
+      let fits = rest_fits h (updated m start n r.holder i (Some id)) r.seat id (took v i h) (Some i) [] f.begun f.seen f.heard f.looks f.own_seen f.party
       (λ j g e. dite (ℕ_discrete j i)
       (λ same. (subst (λ z. z < m.shards) (sym same) lt, updated_here m start n r.holder i j (Some id) same))
       (λ ne. let old = f.held j g (sym (held_else v.held i j (Some h) ne) ∙ e) in (old.0, updated_else m start n r.holder i j (Some id) ne ∙ old.1)))
@@ -123,16 +132,16 @@ module _ {S X E : Type 0} (of : S → Machine X E) (laws : (s : S) → Laws (of 
         is.1.slot,
         moved m start n s r id (at_rest v) w at i 1 (set s.homes i none) (Some id) (inl is.0)
             (λ j ne. set_else s.homes i j none ne) (λ j ne. held_else v.held i j (Some h) ne) (λ j ne e. absurd cc) (λ q a. a) here fits,
-        λ j e. same_takes i j x v (w, (i, Some is.1.value) ∷ []) (inl (hit, (is.1.value, h, refl, f.seen, told s r id (at_rest v) at (λ z. z.Stands i is.1.value h) is.1.stands))) e,
+        λ j e. same_takes i j x v (w, (i, Some is.1.value) ∷ []) (known, inl (hit, (is.1.value, h, refl, f.seen, told s r id (at_rest v) at (λ z. z.Stands i is.1.value h) is.1.stands))) e,
       ))
       (λ miss.
       let w = at_rest (missed v i) in
-      let fits = rest_fits h r.holder r.seat id (missed v i) None [] f.begun f.seen f.heard f.looks f.party f.held f.none in (
+      let fits = rest_fits h r.holder r.seat id (missed v i) None [] f.begun f.seen f.heard f.looks f.own_seen f.party f.held f.none in (
         w,
         keeps,
         tt,
         still m start n s r id (at_rest v) w at (suc i) refl refl (λ q a. a) fits,
-        λ j e. same_takes i j x v (w, []) (inr (held_word s h i (r.holder i) (r.shards i lt) miss, refl)) e,
+        λ j e. same_takes i j x v (w, []) (known, inr (held_word s h i (r.holder i) (r.shards i lt) miss, refl)) e,
       ))
 
   park_rest : (slots id i : ℕ) (v : K) (y : Option X) (g : List E) → slots ≡ m.shards → held_at v.held i ≡ Some g
@@ -154,7 +163,7 @@ module _ {S X E : Type 0} (of : S → Machine X E) (laws : (s : S) → Laws (of 
         agrees = own.3;
         slot = inr (y, set_here s.homes i (some y) room);
       } in
-      let fits = rest_fits h (updated m start n r.holder i (Some id)) r.seat id v None [] f.begun f.seen f.heard f.looks f.party
+      let fits = rest_fits h (updated m start n r.holder i (Some id)) r.seat id v None [] f.begun f.seen f.heard f.looks f.own_seen f.party
       (λ j k e. let old = f.held j k e in (old.0, dite (ℕ_discrete j i) (λ same. updated_here m start n r.holder i j (Some id) same) (λ ne. updated_else m start n r.holder i j (Some id) ne ∙ old.1)))
       f.none in (
         w,
@@ -188,7 +197,7 @@ module _ {S X E : Type 0} (of : S → Machine X E) (laws : (s : S) → Laws (of 
         agrees = own.3;
         slot = inl refl;
       } in
-      let fits = rest_fits h (updated m start n r.holder i (Some id)) r.seat id v (Some i) [] f.begun f.seen f.heard f.looks f.party
+      let fits = rest_fits h (updated m start n r.holder i (Some id)) r.seat id v (Some i) [] f.begun f.seen f.heard f.looks f.own_seen f.party
       (λ j k e. let old = f.held j k e in (old.0, dite (ℕ_discrete j i) (λ same. updated_here m start n r.holder i j (Some id) same) (λ ne. updated_else m start n r.holder i j (Some id) ne ∙ old.1)))
       f.none in (
         w,
@@ -213,7 +222,7 @@ module _ {S X E : Type 0} (of : S → Machine X E) (laws : (s : S) → Laws (of 
         slot = set_here s.homes i (some (Some x)) room;
         stands = (laws start).stands i x g h stands own.3;
       } in
-      let fits = rest_fits h (updated m start n r.holder i None) r.seat id (gave_back v i) None [] f.begun f.seen f.heard f.looks f.party
+      let fits = rest_fits h (updated m start n r.holder i None) r.seat id (gave_back v i) None [] f.begun f.seen f.heard f.looks f.own_seen f.party
       (λ j k e. dite (ℕ_discrete j i)
       (λ same. let z : held_at ((i, None) ∷ v.held) j ≡ None = subst (λ q. held_at ((i, None) ∷ v.held) q ≡ None) (sym same) (held_here v.held i None) in absurd cc)
       (λ ne. let old = f.held j k (sym (held_else v.held i j None ne) ∙ e) in (old.0, updated_else m start n r.holder i j None ne ∙ old.1)))

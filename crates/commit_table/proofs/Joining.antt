@@ -70,6 +70,7 @@ module _ {S X E : Type 0} (of : S → Machine X E) (laws : (s : S) → Laws (of 
   bare_fits h holder seat id v out heard begun seen party looks held =
       rest_fits of laws start n h holder seat id v None [] begun seen (prefix_none h)
       (subst (λ ks. All (λ k. k ≤ length v.seen) ks) (sym looks) (All-nil (λ k. k ≤ length v.seen)))
+      (λ p e. absurd cc)
       (λ p e. absurd cc) (λ i g e. let a : held_at v.held i ≡ None = ap (λ z. held_at z i) held in absurd cc) (λ e i. ap (λ z. held_at z i) held)
 
   pub note_splits : (id : ℕ) (v : Known S E) → Splits R id (at_rest v) (at_rest v) (at_rest (noted v))
@@ -90,6 +91,7 @@ module _ {S X E : Type 0} (of : S → Machine X E) (laws : (s : S) → Laws (of 
     seen = seen;
     heard = subst (λ z. IsPrefix z h) (sym heard) (prefix_none h);
     looks = subst (λ ks. All (λ k. k ≤ length v.known.seen) ks) (sym looks) (All-nil (λ k. k ≤ length v.known.seen));
+    own_seen = λ p e. absurd cc;
     party = λ p e. absurd cc;
     makes = λ p low high. absurd (omega arith);
     held = λ i g e. let a : held_at v.known.held i ≡ None = ap (λ z. held_at z i) held in absurd cc;
@@ -120,6 +122,7 @@ module _ {S X E : Type 0} (of : S → Machine X E) (laws : (s : S) → Laws (of 
     seen = f.seen;
     heard = f.heard;
     looks = f.looks;
+    own_seen = f.own_seen;
     party = λ p e. let a = f.party p e in (a.0, same p a.1, a.2);
     makes = λ p low high. let a = f.makes p low high in (a.0, same p a.1, a.2, a.3);
     held = f.held;
@@ -135,6 +138,7 @@ module _ {S X E : Type 0} (of : S → Machine X E) (laws : (s : S) → Laws (of 
     seen = prefix_none h;
     heard = prefix_none h;
     looks = All-nil (λ j. j ≤ 0);
+    own_seen = λ p e. absurd cc;
     party = λ p e. absurd cc;
     makes = λ p low high. let a = rest p low high in (high, a.0, a.1, refl);
     held = λ i g e. absurd cc;
@@ -156,7 +160,7 @@ module _ {S X E : Type 0} (of : S → Machine X E) (laws : (s : S) → Laws (of 
       let seat' = updated M start n r.seat k (Some new) in
       let one = with_view M start n s s.words s.homes id left in
       let mine = f.makes k (omega arith) lt in
-      let own = rest_fits of laws start n h r.holder seat' new (new_pass start (Some k) []) None [] (λ z e. cc) (prefix_none h) (prefix_none h) (All-nil (λ j. j ≤ 0))
+      let own = rest_fits of laws start n h r.holder seat' new (new_pass start (Some k) []) None [] (λ z e. cc) (prefix_none h) (prefix_none h) (All-nil (λ j. j ≤ 0)) (λ p e. refl)
       (λ p e. let q : k ≡ p = cc in subst (λ z. (z < n) × (seat' z ≡ Some new) × (events_by M.party z h ≡ [])) q (lt, updated_here M start n r.seat k k (Some new) refl, mine.2)) (λ i g e. absurd cc) (λ e i. refl) in
       let rest = maker_fits h r.holder seat' id (k + 1) (λ p low high. let a = f.makes p (omega arith) high in (updated_else M start n r.seat k p (Some new) (λ e. absurd (omega arith)) ∙ a.1, a.2)) in
       record {
@@ -183,7 +187,7 @@ module _ {S X E : Type 0} (of : S → Machine X E) (laws : (s : S) → Laws (of 
 
   -- what is left of a seat fits in any place
   spent_fits : (h : List E) (holder seat : ℕ → Option ℕ) (id : ℕ) → Fits M start n h holder seat id spent
-  spent_fits h holder seat id = rest_fits of laws start n h holder seat id (spent.known) None [] (λ z e. absurd cc) (prefix_none h) (prefix_none h) (All-nil (λ j. j ≤ 0)) (λ p e. absurd cc) (λ i g e. absurd cc) (λ e i. refl)
+  spent_fits h holder seat id = rest_fits of laws start n h holder seat id (spent.known) None [] (λ z e. absurd cc) (prefix_none h) (prefix_none h) (All-nil (λ j. j ≤ 0)) (λ p e. absurd cc) (λ p e. absurd cc) (λ i g e. absurd cc) (λ e i. refl)
 
   -- a note is taken in
   pub note_joins : (id other : ℕ) (v w : Known S E) → w.party ≡ None → Joins R id (at_rest v) other (at_rest w) (hearing v w.seen) spent
@@ -195,7 +199,7 @@ module _ {S X E : Type 0} (of : S → Machine X E) (laws : (s : S) → Laws (of 
       let g = r.views other (at_rest w) was in
       let one = with_view M start n s s.words s.homes id both in
       let two = with_view M start n one s.words s.homes other spent in
-      let fits = rest_fits of laws start n h r.holder r.seat id v None w.seen f.begun f.seen g.seen f.looks f.party f.held f.none in
+      let fits = rest_fits of laws start n h r.holder r.seat id v None w.seen f.begun f.seen g.seen f.looks f.own_seen f.party f.held f.none in
       record {
         history = h;
         holder = r.holder;

@@ -5,8 +5,8 @@ use Rattle.atomic_table.specs.Table.{Me}
 use Rattle.commit_table.specs.declared.views.Known.{Known}
 use Rattle.commit_table.specs.declared.views.View.{View}
 use Rattle.commit_table.specs.Machine.{Machine}
-use Rattle.commit_table.specs.Steps.{Looks}
-use Rattle.commit_table.specs.Calls.{Looked}
+use Rattle.commit_table.specs.Steps.{Of, Looks}
+use Rattle.commit_table.specs.Calls.{IsSound, Looked}
 
 module _ {S X E : Type 0} (of : S → Machine X E) where
   abbrev pub Told : S → Known S E → List E → ℕ → Known S E → Type 0
@@ -32,3 +32,6 @@ module _ {S X E : Type 0} (of : S → Machine X E) where
   told_of start v u heard other found after same same_heard begun t =
       let at_u = subst (λ z. Looks of z heard found after) same t in
       told_there start u other found after begun (subst (λ z. Looks of u z found after) same_heard at_u)
+
+  pub sound_of : (start : S) (v u : Known S E) → v ≡ u → u.start ≡ Some start → Of of v (λ m. IsSound m v) → IsSound (of start) u
+  sound_of start v u same begun sound = (subst (λ z. Of of z (λ m. IsSound m z)) same sound) start begun

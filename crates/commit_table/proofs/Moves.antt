@@ -122,6 +122,7 @@ module _ {S X E : Type 0} (m : Machine X E) (start : S) (n : ℕ) where
     seen = f.seen;
     heard = f.heard;
     looks = f.looks;
+    own_seen = f.own_seen;
     party = f.party;
     makes = f.makes;
     held = λ j g e. let old = f.held j g e in (

@@ -48,6 +48,11 @@ module _ {S E : Type 0} where
       × ((party : ℕ) → party < t.passes → (k : ℕ) × (p : PassValue S E) × (slice_get passes k ≡ Some p) × (p.known.party ≡ Some party))
 
 module _ {S X E : Type 0} (m : Machine X E) where
+  -- what was seen is legal, and has of the pass's party just the pass's own events
+  pub record IsSound (v : Known S E) : Type 0 where
+    pub legal : m.Legal v.seen
+    pub own : IsOwn m v.party v.seen v.mine
+
   -- a shard was taken, and its value stands for the history g, which goes on from what was seen
   pub record Taken (v : Known S E) (i : ℕ) (x : X) (g : List E) : Type 0 where
     pub seen : IsPrefix v.seen g

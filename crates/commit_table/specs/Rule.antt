@@ -7,7 +7,7 @@ use lib.ListN.{get_elem?}
 use Rattle.atomic_table.specs.Table.{State}
 use Rattle.commit_table.specs.declared.views.Known.{Known}
 use Rattle.commit_table.specs.declared.views.View.{View}
-use Rattle.commit_table.specs.Machine.{Machine, events_by}
+use Rattle.commit_table.specs.Machine.{Machine, events_by, IsOwn}
 use Rattle.commit_table.specs.Views.{held_at}
 
 module _ {S X E : Type 0} (m : Machine X E) (start : S) (n : ℕ) where
@@ -57,6 +57,8 @@ module _ {S X E : Type 0} (m : Machine X E) (start : S) (n : ℕ) where
     pub seen : IsPrefix v.known.seen h
     pub heard : IsPrefix v.heard h
     pub looks : All (λ k. k ≤ length v.known.seen) v.known.looks
+    -- what it has seen has all its own events, and no other of its party
+    pub own_seen : IsOwn m v.known.party v.known.seen v.known.mine
     -- its party is no other view's, and the party's events are its own
     pub party : (p : ℕ) → v.known.party ≡ Some p → (p < n) × (seat p ≡ Some id) × (events_by m.party p h ≡ v.known.mine)
     -- where it is to make passes, it has no party and its parties have no events

@@ -3,7 +3,7 @@ ghost use Rattle.std.specs.Prelude.{◌≡◌, ℕ, ◌+◌, ◌<◌, Option, So
 ghost use mathlib.Core.List.{IsPrefix};
 ghost use Rattle.commit_table.specs.Views.{held_at, at_rest, reaching, took, missed, gave_back};
 ghost use Rattle.commit_table.specs.Steps.{Of, Commits};
-ghost use Rattle.commit_table.specs.Calls.{IsSized, MayCommit};
+ghost use Rattle.commit_table.specs.Calls.{IsSized, IsSound, MayCommit};
 
 use crate::board::{Board, Place};
 use crate::sharded::Sharded;
@@ -36,6 +36,7 @@ pub fn take<M: Sharded>(board: &Board<M>, seat: &mut Place<M>, shard: u32) -> Op
     requires ready { seat.old.me ≡ (at_rest seat.old.me.0.known, []) }
     requires party { (p : ℕ) × (seat.old.me.0.known.party ≡ Some p) }
     ensures seat { (seat.new.table_id ≡ seat.old.table_id) × (seat.new.id ≡ seat.old.id) }
+    ensures sound { Of M.machine seat.old.me.0.known (λ m. IsSound m seat.old.me.0.known) }
     ensures some { IfSome result (λ x. (g : List M.Event) × (seat.new.me ≡ (at_rest (took seat.old.me.0.known shard g), [])) × IsPrefix seat.old.me.0.known.seen g × Of M.machine seat.old.me.0.known (λ m. m.Stands shard x g)) }
     ensures none { IfNone result (seat.new.me ≡ (at_rest (missed seat.old.me.0.known shard), [])) }
 {

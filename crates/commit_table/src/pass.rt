@@ -1,7 +1,7 @@
 //! What the holder of a pass has, and notes that passes send to one another.
 ghost use Rattle.std.specs.Prelude.{◌≡◌, ℕ, ◌+◌, ◌-◌, ◌^◌, ◌<◌, Option, Some, None, List, [], ◌∷◌, length, min, slice_index, slice_set, vec_len, IfOk, IfSome, IfNone};
 ghost use Rattle.commit_table.specs.Views.{at_rest, held_at, new_pass, noted, took, missed, gave_back};
-ghost use Rattle.commit_table.specs.Calls.{IsSized, Taken, Looked, MayCommit, Committed, misses_in};
+ghost use Rattle.commit_table.specs.Calls.{IsSized, IsSound, Taken, Looked, MayCommit, Committed, misses_in};
 ghost use mathlib.Core.List.{IsPrefix};
 
 use crate::board::{Board, Place};
@@ -106,6 +106,7 @@ impl<M: Sharded> Pass<M> {
         requires table { (self.old.table ≡ board.now.table_id) × (self.old.known.start ≡ Some board.now.key.start) }
         requires size { IsSized board.now.table_id (M.machine board.now.key.start).shards }
         requires shard { shard < (M.machine board.now.key.start).shards }
+        ensures sound { IsSound (M.machine board.now.key.start) self.old.known }
         ensures taken { IfSome result (λ x. (g : List M.Event) × (self.new ≡ record self.old { known = took self.old.known shard g }) × Taken (M.machine board.now.key.start) self.old.known shard x g) }
         ensures missed { IfNone result (self.new ≡ record self.old { known = missed self.old.known shard }) }
     {

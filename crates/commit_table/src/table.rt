@@ -2,7 +2,7 @@
 ghost use Rattle.std.specs.Prelude.{◌≡◌, ℕ, ◌+◌, ◌^◌, ◌<◌, ◌≤◌, Option, Some, None, List, [], ◌∷◌, map, length, slice_get, replicate, vec_len, vec_capacity, IfOk, IfSome, IfNone};
 ghost use mathlib.Core.List.{IsPrefix};
 ghost use Rattle.commit_table.specs.Views.{held_at, at_rest, maker, new_pass, noted, took, missed, gave_back};
-ghost use Rattle.commit_table.specs.Calls.{IsSized, IsOf, Taken, Looked, MayCommit, Committed, AreShards, misses_in};
+ghost use Rattle.commit_table.specs.Calls.{IsSized, IsOf, IsSound, Taken, Looked, MayCommit, Committed, AreShards, misses_in};
 
 use crate::board::{Begin, Board, Place, Whole};
 use crate::pass::{Note, Pass};
@@ -104,6 +104,7 @@ impl<M: Sharded> CommitTable<M> {
         requires pass { IsOf self.now pass.old }
         requires shard { shard < (M.machine self.now.start).shards }
         requires free { held_at pass.old.known.held shard ≡ None }
+        ensures sound { IsSound (M.machine self.now.start) pass.old.known }
         ensures taken { IfSome result (λ x. (g : List M.Event) × (pass.new ≡ record pass.old { known = took pass.old.known shard g }) × Taken (M.machine self.now.start) pass.old.known shard x g) }
         ensures missed { IfNone result (pass.new ≡ record pass.old { known = missed pass.old.known shard }) }
     {
