@@ -1,21 +1,22 @@
 -- A counter that is held may be raised, and its new value then stands for the history.
-use Rattle.std.proofs.Common.{◌≡◌, ◌≢◌, ℕ, zero, suc, ◌+◌, ◌-◌, ◌<◌, true, false, cond, ltb, eq-eqb, ne_eqb, ◌&&◌, ◌||◌, List, [], ◌∷◌, ◌++◌, length, Option, None, Some, refl, ap, sym, subst, ◌∙◌, arith}
+use Rattle.std.proofs.Common.{◌≡◌, ◌≢◌, ℕ, zero, suc, ◌+◌, ◌-◌, ◌<◌, Bool, true, false, cond, ltb, eq-eqb, ne_eqb, ◌&&◌, ◌||◌, List, [], ◌∷◌, ◌++◌, length, Option, None, Some, refl, ap, sym, subst, ◌∙◌, arith}
 use mathlib.Core.Logic.{dite}
 use mathlib.Core.List.{IsPrefix}
 use native.Mathlib.Decide.{ℕ_discrete}
-use Rattle.std.proofs.lemmas.Bool.{lt-ltb}
+use Rattle.std.proofs.lemmas.Bool.{lt-ltb, ltb-true}
 use Rattle.commit_table.specs.declared.views.Known.{Known}
 use Rattle.commit_table.specs.declared.counters.Counters.{Counters}
 use Rattle.commit_table.specs.declared.counters.Deal.{Deal}
 use Rattle.commit_table.specs.declared.counters.Deal.TheVariants.{Raise, Carry}
 use Rattle.commit_table.specs.Machine.{Machine, is_among, IsOwn}
-use Rattle.commit_table.specs.Views.{held_at, looked, committed, gave_back}
+use Rattle.commit_table.specs.Views.{held_at, took, looked, committed, gave_back}
 use Rattle.commit_table.specs.Parts.{part_of, peers_of}
-use Rattle.commit_table.specs.PartLaws.{may_follow, new_own, new_peer, one_peer}
+use Rattle.commit_table.specs.PartLaws.{may_follow, new_own, new_peer, one_peer, last_did, part_there}
 use Rattle.commit_table.specs.Counters.{most, counter_parts, counters}
 use Rattle.commit_table.specs.Calls.{Looked, MayCommit, Committed}
-use Rattle.commit_table.specs.Attempts.{Recorded}
-use Rattle.commit_table.proofs.Lists.{prefix_trans, held_here, held_else, held_among, held_apart}
+use Rattle.commit_table.specs.Attempts.{Recorded, LookedOnly}
+use Rattle.commit_table.specs.Outcomes.{NoneFollows}
+use Rattle.commit_table.proofs.Lists.{prefix_trans, prefix_length, held_here, held_else, held_among, held_apart}
 
 abbrev pub K : Type 0
 K = Known Counters Deal
@@ -68,7 +69,12 @@ recorded {m} v u w z e number place c h k l t is =
       own = subst (λ y. IsOwn m y.party y.seen y.mine) (sym is) (λ p its. ap (λ y. Rattle.commit_table.specs.Machine.events_by m.party p y.seen) s ∙ t.own p (sym (ap (λ y. y.party) s) ∙ its));
       mine = ap (λ y. y.mine) is ∙ (ap (λ y. y.mine) s ∙ ap (λ y. Rattle.commit_table.specs.Views.mine_after (m.party e) y.mine e) b);
       commits = ap (λ y. y.commits) is ∙ (ap (λ y. y.commits) s ∙ (ap (λ y. y.commits ++ length k ∷ []) b ∙ ap (λ n. v.commits ++ n ∷ []) (sym t.place_is)));
-      looks = (length h, ap (λ y. y.looks) is ∙ (ap (λ y. y.looks) s ∙ ap (λ y. y.looks) b));
+      looks = (
+        length h,
+        ap (λ y. y.looks) is ∙ (ap (λ y. y.looks) s ∙ ap (λ y. y.looks) b),
+        prefix_length v.seen h l.seen,
+        let within = prefix_length h k (subst (λ y. IsPrefix y.seen k) b t.seen) in let at = t.place_is in omega arith,
+      );
       missed = ap (λ y. y.missed) is ∙ (ap (λ y. y.missed) s ∙ ap (λ y. y.missed) b);
       party = ap (λ y. y.party) is ∙ (ap (λ y. y.party) s ∙ ap (λ y. y.party) b);
       start = ap (λ y. y.start) is ∙ (ap (λ y. y.start) s ∙ ap (λ y. y.start) b);
@@ -157,3 +163,75 @@ carried_second v u w number place a b h k l t c =
 pub first_later : (v u w z : K) (number place a b : ℕ) (h k : List Deal) → Looked counters v number h u → Both v a b → Committed counters u Carry place k w → z ≡ gave_back w 1 → (g : List Deal) × (held_at z.held 0 ≡ Some g) × counters.Stands 0 (a - 1) g
 first_later v u w z number place a b h k l t c is =
     let f = carried_first v u w number place a b h k l t c in (f.0, ap (λ y. held_at y.held 0) is ∙ (held_else w.held 1 0 None (λ e. absurd (omega arith)) ∙ f.1), f.2)
+
+-- where a counter has no room, no event may follow
+only_where : {A : Type 0} (b : Bool) (x y : A) → cond b (Some x) None ≡ Some y → b ≡ true
+only_where true x y e = refl
+only_where false x y e = absurd cc
+
+both_hold : (a b : Bool) → (a && b) ≡ true → (a ≡ true) × (b ≡ true)
+both_hold true b e = (refl, e)
+both_hold false b e = absurd cc
+
+pub no_raise : (p c x : ℕ) (h : List Deal) → part_of counter_parts c h ≡ Some x → ¬ (x < most) → ¬ counters.Legal (h ++ Raise p c ∷ [])
+no_raise p c x h here full legal =
+    let d = last_did counter_parts h (Raise p c) legal.0 legal.1 in
+    let r = d.2 in
+    let is : r.own ≡ x = (let a = r.own_there in let b = part_there counter_parts h d.0 c d.1 in cc) in
+    let room = ltb-true r.own most (only_where (ltb r.own most) (r.own + 1, []) r.new r.acts) in
+    full (subst (λ z. z < most) is room)
+
+carried_where : (a b : ℕ) (others : List ℕ) (new : ℕ × List ℕ) → others ≡ b ∷ [] → counter_parts.act Carry a others ≡ Some new → (0 < a) × (b < most)
+carried_where a b others new is e =
+    let acts : counter_parts.act Carry a (b ∷ []) ≡ Some new = subst (λ z. counter_parts.act Carry a z ≡ Some new) is e in
+    let both = both_hold (ltb 0 a) (ltb b most) (only_where (ltb 0 a && ltb b most) (a - 1, (b + 1) ∷ []) new acts) in
+    (ltb-true 0 a both.0, ltb-true b most both.1)
+
+pub no_carry : (a b : ℕ) (h : List Deal) → part_of counter_parts 0 h ≡ Some a → part_of counter_parts 1 h ≡ Some b → ¬ ((0 < a) × (b < most)) → ¬ counters.Legal (h ++ Carry ∷ [])
+no_carry a b h here there full legal =
+    let d = last_did counter_parts h Carry legal.0 legal.1 in
+    let r = d.2 in
+    let is : r.own ≡ a = (let x = r.own_there in let y = part_there counter_parts h d.0 0 d.1 in cc) in
+    let others : r.others ≡ b ∷ [] = (let x = r.others_there in let y = one_peer counter_parts h 1 b d.0 there d.1 in cc) in
+    let room = carried_where r.own b r.others r.new others r.acts in
+    full (subst (λ z. 0 < z) is room.0, room.1)
+
+-- nothing was done but a look
+looked_only : (v z : K) (h : List Deal) (held : List (ℕ × Option (List Deal))) → z ≡ record v { seen = h; looks = v.looks ++ length h ∷ []; held = held }
+    → counters.Legal h → IsPrefix v.seen h → IsOwn counters v.party h v.mine → LookedOnly counters v z
+looked_only v z h held is legal longer own = subst (λ y. LookedOnly counters v y) (sym is) (record {
+  goes_on = longer;
+  legal = legal;
+  own = own;
+  looks = refl;
+  mine = refl;
+  commits = refl;
+  missed = refl;
+  party = refl;
+  start = refl;
+})
+
+pub stuck_raise : (v t u z : K) (number c x : ℕ) (h g : List Deal) → t ≡ took v c g → counters.Stands c x g → Looked counters t number h u → z ≡ gave_back u c → ¬ (x < most)
+    → LookedOnly counters v z × NoneFollows (λ e. (p : ℕ) × (e ≡ Raise p c) × (v.party ≡ Some p)) z.seen
+stuck_raise v t u z number c x h g took_is stands looked_there is full =
+    let l : Looked counters (took v c g) number h u = subst (λ y. Looked counters y number h u) took_is looked_there in
+    let whole : z ≡ gave_back (looked (took v c g) h) c = is ∙ ap (λ y. gave_back y c) l.is in
+    let here = seen_value (took v c g) u number c x h g l (held_here v.held c (Some g)) stands in
+    let same : u.seen ≡ z.seen = sym (ap (λ y. y.seen) is) in (
+      looked_only v z h _ whole l.legal l.seen l.own,
+      λ e its legal. no_raise its.0 c x z.seen (subst (λ y. part_of counter_parts c y ≡ Some x) same here) full (subst (λ y. counters.Legal (z.seen ++ y ∷ [])) its.1 legal),
+    )
+
+pub stuck_carry : (v t s u y z : K) (number a b : ℕ) (h g k : List Deal) → t ≡ took v 0 g → counters.Stands 0 a g → s ≡ took t 1 k → counters.Stands 1 b k → Looked counters s number h u → y ≡ gave_back u 1 → z ≡ gave_back y 0
+    → ¬ ((0 < a) × (b < most)) → LookedOnly counters v z × NoneFollows (λ e. e ≡ Carry) z.seen
+stuck_carry v t s u y z number a b h g k first stands second also looked_there is last full =
+    let two : K = took (took v 0 g) 1 k in
+    let both : s ≡ two = second ∙ ap (λ w. took w 1 k) first in
+    let l : Looked counters two number h u = subst (λ w. Looked counters w number h u) both looked_there in
+    let whole : z ≡ gave_back (gave_back (looked two h) 1) 0 = last ∙ (ap (λ w. gave_back w 0) is ∙ ap (λ w. gave_back (gave_back w 1) 0) l.is) in
+    let here = seen_value two u number 0 a h g l refl stands in
+    let there = seen_value two u number 1 b h k l refl also in
+    let same : u.seen ≡ z.seen = sym (ap (λ w. w.seen) last ∙ ap (λ w. w.seen) is) in (
+      looked_only v z h _ whole l.legal l.seen l.own,
+      λ e its legal. no_carry a b z.seen (subst (λ w. part_of counter_parts 0 w ≡ Some a) same here) (subst (λ w. part_of counter_parts 1 w ≡ Some b) same there) full (subst (λ w. counters.Legal (z.seen ++ w ∷ [])) its legal),
+    )

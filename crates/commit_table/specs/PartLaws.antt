@@ -101,7 +101,8 @@ module _ {P X E : Type 0} (a : Parts P X E) where
       let x = chained (λ qs. stepped a (zero + length h) qs e) (parts_of a h) after (sym (run_last zero a.first h e) ∙ s) in
       (x.0, x.1, did (zero + length h) x.0 e after x.2)
 
-  part_there : (h : List E) (ps : List P) (i : ℕ) → parts_of a h ≡ Some ps → part_of a i h ≡ slice_get ps i
+  -- the part of a shard, of all parts
+  pub part_there : (h : List E) (ps : List P) (i : ℕ) → parts_of a h ≡ Some ps → part_of a i h ≡ slice_get ps i
   part_there h ps i e = chain_at (λ (ps : List P). slice_get ps i) (parts_of a h) ps e
 
   frame : (h : List E) (e : E) (i : ℕ) → M.Legal (h ++ e ∷ []) → is_among (M.shards_of h e) i ≡ false → M.Agree i h (h ++ e ∷ [])

@@ -69,9 +69,11 @@ pub fn raise_held(
 pub enum Outcome {
     /// The event stands at this place.
     Done(u64),
-    /// Another pass held a counter. Nothing was done.
+    /// Another pass held one of the attempt's counters, which was missed: of a raise the counter that it raises, of a carry
+    /// either. Nothing else was done, and what was taken before was given back as it was.
     Busy,
-    /// No such event may follow. Nothing was done but a look.
+    /// No such event may follow what was seen: of a raise the counter stands at 1,000,000, of a carry the first at 0 or the
+    /// second at 1,000,000. Nothing was done but a look, while the attempt's counters were held.
     Stuck,
 }
 
@@ -82,7 +84,7 @@ pub fn raise(table: &CommitTable<Counters>, pass: &mut Pass<Counters>, counter: 
     requires free { HoldsNone pass.old.known }
     ensures table { pass.new.table ≡ pass.old.table }
     ensures free { HoldsNone pass.new.known }
-    ensures told { Told 2 (λ e. (p : ℕ) × (e ≡ Raise p counter) × (pass.old.known.party ≡ Some p)) pass.old.known result pass.new.known }
+    ensures told { Told (λ i. i ≡ counter) (λ e. (p : ℕ) × (e ≡ Raise p counter) × (pass.old.known.party ≡ Some p)) pass.old.known result pass.new.known }
 {
     let Some(value) = table.try_take(pass, counter) else {
         return Outcome::Busy;
@@ -124,7 +126,7 @@ pub fn carry(table: &CommitTable<Counters>, pass: &mut Pass<Counters>) -> Outcom
     requires free { HoldsNone pass.old.known }
     ensures table { pass.new.table ≡ pass.old.table }
     ensures free { HoldsNone pass.new.known }
-    ensures told { Told 2 (λ e. e ≡ Carry) pass.old.known result pass.new.known }
+    ensures told { Told (λ i. i < 2) (λ e. e ≡ Carry) pass.old.known result pass.new.known }
 {
     let Some(first) = table.try_take(pass, 0) else {
         return Outcome::Busy;
