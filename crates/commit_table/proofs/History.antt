@@ -2,6 +2,7 @@
 use Rattle.std.proofs.Common.{◌≡◌, ◌≢◌, ℕ, zero, suc, ◌+◌, ◌%◌, ◌^◌, ◌<◌, ◌≤◌, ◌⊎◌, inl, inr, ⊎_elim, Bool, true, false, cond, eq-eqb, ne_eqb, List, [], ◌∷◌, ◌++◌, length, get_or, set, All, Option, None, Some, refl, ap, sym, subst, ◌∙◌, arith, append-nil, length-append}
 use mathlib.Core.Logic.{dite}
 use mathlib.Core.Option.{some, none}
+use mathlib.Core.List.{IsPrefix}
 use native.Mathlib.Decide.{ℕ_discrete}
 use lib.ListN.{get_elem?}
 use Rattle.std.proofs.lemmas.List.{get_or-set_same, get_or-set_other}
@@ -183,6 +184,12 @@ module _ {S X E : Type 0} (of : S → Machine X E) (laws : (s : S) → Laws (of 
       (λ off. f.held j g (sym (held_apart is h' v.held j off) ∙ its))
       (either_way (is_among is j)))
       (λ none. absurd cc) in
+      let held : (j : ℕ) (g : List E) → held_at w'.held j ≡ Some g → IsPrefix g h' × m.Agree j g h' = λ j g its. ⊎_elim
+      (λ on. let there = held_among is h' v.held j on in let whole : h' ≡ g = cc in subst (λ z. IsPrefix z h' × m.Agree j z h') whole (prefix_self h', l.agree_self j h'))
+      (λ off.
+      let own_j = own_shard of laws start n s r id (at_rest v) at j g (sym (held_apart is h' v.held j off) ∙ its) in
+      (prefix_more g h (e ∷ []) own_j.2, l.agree_through j g h h' own_j.3 (l.frame h e j legal (subst (λ z. is_among z j ≡ false) same off))))
+      (either_way (is_among is j)) in
       let rule : Rule m start n (with_view m start n s ws s.homes id w) = record {
         history = h';
         holder = r.holder;
@@ -218,7 +225,7 @@ module _ {S X E : Type 0} (of : S → Machine X E) (laws : (s : S) → Laws (of 
         keeps,
         tt,
         rule,
-        (e, refl, (h, w', refl, told of laws start n s r id (at_rest v) at (λ z. Adds of z v e x h w') (record { is = refl; number = r.word; legal = legal; seen = f.seen; agrees = agree; own = λ q its. (mine_of q (let a : p ≡ q = cc in a)).2 }))),
+        (e, refl, (h, w', refl, told of laws start n s r id (at_rest v) at (λ z. Adds of z v e x h w') (record { is = refl; number = r.word; legal = legal; seen = f.seen; agrees = agree; own = λ q its. (mine_of q (let a : p ≡ q = cc in a)).2; held = held }))),
       )
 
   pub add_allowed : (slots id : ℕ) (me : Me (Option X) (View S E)) (told : List E) (e : E) → me ≡ (at_rest me.0.known, []) → told ≡ e ∷ [] → (p : ℕ) → me.0.known.party ≡ Some p

@@ -76,7 +76,8 @@ module _ {S X E : Type 0} (m : Machine X E) where
     pub held : (i : ℕ) → is_among (m.shards_of v.seen e) i ≡ true → (g : List E) × (held_at v.held i ≡ Some g) × m.Agree i v.seen g
 
   -- the event was committed at a place, behind the history h, which goes on from what was seen and agrees with it on the
-  -- event's shards. The pass has seen all that, and the events of its party there are its own
+  -- event's shards. The pass has seen all that, and the events of its party there are its own. On each shard that it holds,
+  -- of the event or not, what it has seen is as it holds the shard: so it may commit an event of another without a look
   pub record Committed (v : Known S E) (e : E) (place : ℕ) (h : List E) (w : Known S E) : Type 0 where
     pub is : w ≡ committed v h e (m.party e) (m.shards_of v.seen e)
     pub place_is : place ≡ length h
@@ -84,6 +85,7 @@ module _ {S X E : Type 0} (m : Machine X E) where
     pub seen : IsPrefix v.seen h
     pub agrees : (i : ℕ) → is_among (m.shards_of v.seen e) i ≡ true → m.Agree i v.seen h
     pub own : IsOwn m v.party (h ++ e ∷ []) w.mine
+    pub held : (i : ℕ) (g : List E) → held_at w.held i ≡ Some g → IsPrefix g (h ++ e ∷ []) × m.Agree i g (h ++ e ∷ [])
 
   -- the history is whole: it is legal, each pass has seen a beginning of it, the events of a pass's party are the pass's
   -- own, and no other party has any

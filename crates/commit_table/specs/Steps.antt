@@ -47,6 +47,8 @@ module _ {S X E : Type 0} (of : S → Machine X E) where
     pub seen : IsPrefix v.seen h
     pub agrees : (i : ℕ) → is_among (m.shards_of v.seen e) i ≡ true → m.Agree i v.seen h
     pub own : IsOwn m v.party (h ++ e ∷ []) w.mine
+    -- on each shard that is held then, the event's and others, the history is as the seat holds it
+    pub held : (i : ℕ) (g : List E) → held_at w.held i ≡ Some g → IsPrefix g (h ++ e ∷ []) × m.Agree i g (h ++ e ∷ [])
 
   abbrev pub Commits : Known S E → E → ℕ → Me (Option X) (View S E) → Type 0
   Commits v e found after = (h : List E) × (w : Known S E) × (after ≡ (at_rest w, [])) × Of v (λ m. Adds m v e found h w)
