@@ -46,7 +46,7 @@ by_own party p h e f = events_by-append party p h (e ∷ []) ∙ own_party p (pa
 
 module _ {S X E : Type 0} (of : S → Machine X E) (laws : (s : S) → Laws (of s)) (start : S) (n : ℕ) where
   look_rest : (slots id : ℕ) (v : Known S E) (heard : List E)
-      → Allows (Rule (of start) start n) slots id (hearing v heard, []) 0 (λ x. x) (looks of (step slots 0 0 0 none) (hearing v heard, []))
+      → Allows (Rule (of start) start n) slots id (hearing v heard, []) 0 (λ x. x) (looks of n (step slots 0 0 0 none) (hearing v heard, []))
   look_rest slots id v heard s r wide at _ =
       let h = r.history in
       let f = r.views id (hearing v heard) at in
@@ -69,12 +69,14 @@ module _ {S X E : Type 0} (of : S → Machine X E) (laws : (s : S) → Laws (of 
             own = λ p e. (f.party p e).2;
             held = λ i g e. let own = own_shard of laws start n s r id (hearing v heard) at i g e in (own.2, own.3);
           }),
+          λ p e. (f.party p e).0,
         ),
       )
 
-  pub look_allowed : (slots id : ℕ) (me : Me (Option X) (View S E)) → me ≡ (hearing me.0.known me.0.heard, [])
-      → Allows (Rule (of start) start n) slots id me 0 (λ x. x) (looks of (step slots 0 0 0 none) me)
-  look_allowed slots id me ready = subst (λ z. Allows (Rule (of start) start n) slots id z 0 (λ x. x) (looks of (step slots 0 0 0 none) z)) (sym ready) (look_rest slots id me.0.known me.0.heard)
+  pub look_allowed : (slots id k : ℕ) (me : Me (Option X) (View S E)) → me ≡ (hearing me.0.known me.0.heard, []) → k ≡ n
+      → Allows (Rule (of start) start n) slots id me 0 (λ x. x) (looks of k (step slots 0 0 0 none) me)
+  look_allowed slots id k me ready count = subst (λ c. Allows (Rule (of start) start n) slots id me 0 (λ x. x) (looks of c (step slots 0 0 0 none) me)) (sym count)
+      (subst (λ z. Allows (Rule (of start) start n) slots id z 0 (λ x. x) (looks of n (step slots 0 0 0 none) z)) (sym ready) (look_rest slots id me.0.known me.0.heard))
 
   -- a shard apart from the event's, or one of them, after the event
   shard_apart : (s : State (Option X) (View S E)) (h : List E) (e : E) (ws : List ℕ) (id : ℕ) (v w : View S E) (j : ℕ)

@@ -1,5 +1,5 @@
 -- What a look and a commit tell of the machine of the table's start.
-use Rattle.std.proofs.Common.{◌≡◌, ℕ, List, [], ◌∷◌, length, Option, Some, ap, sym, subst}
+use Rattle.std.proofs.Common.{◌≡◌, ℕ, ◌<◌, List, [], ◌∷◌, length, Option, Some, ap, sym, subst}
 use mathlib.Core.List.{IsPrefix}
 use Rattle.atomic_table.specs.Table.{Me}
 use Rattle.commit_table.specs.declared.views.Known.{Known}
@@ -9,11 +9,11 @@ use Rattle.commit_table.specs.Steps.{Of, Looks, Commits}
 use Rattle.commit_table.specs.Calls.{IsSound, Looked, Committed}
 
 module _ {S X E : Type 0} (of : S → Machine X E) where
-  abbrev pub Told : S → Known S E → List E → ℕ → Known S E → Type 0
-  Told start v heard found w = (h : List E) × Looked (of start) v found h w × IsPrefix heard h × (found ≡ length h)
+  abbrev pub Told : S → ℕ → Known S E → List E → ℕ → Known S E → Type 0
+  Told start n v heard found w = (h : List E) × Looked (of start) v found h w × IsPrefix heard h × (found ≡ length h) × ((p : ℕ) → v.party ≡ Some p → p < n)
 
-  told_there : (start : S) (v : Known S E) (heard : List E) (found : ℕ) (after : Me (Option X) (View S E)) → v.start ≡ Some start → Looks of v heard found after → Told start v heard found after.0.known
-  told_there start v heard found after begun t =
+  told_there : (start : S) (n : ℕ) (v : Known S E) (heard : List E) (found : ℕ) (after : Me (Option X) (View S E)) → v.start ≡ Some start → Looks of n v heard found after → Told start n v heard found after.0.known
+  told_there start n v heard found after begun t =
       let s = t.2 start begun in (
         t.0,
         record {
@@ -26,12 +26,13 @@ module _ {S X E : Type 0} (of : S → Machine X E) where
         },
         s.told,
         s.number,
+        t.3,
       )
 
-  pub told_of : (start : S) (v u : Known S E) (heard other : List E) (found : ℕ) (after : Me (Option X) (View S E)) → v ≡ u → heard ≡ other → u.start ≡ Some start → Looks of v heard found after → Told start u other found after.0.known
-  told_of start v u heard other found after same same_heard begun t =
-      let at_u = subst (λ z. Looks of z heard found after) same t in
-      told_there start u other found after begun (subst (λ z. Looks of u z found after) same_heard at_u)
+  pub told_of : (start : S) (n : ℕ) (v u : Known S E) (heard other : List E) (found : ℕ) (after : Me (Option X) (View S E)) → v ≡ u → heard ≡ other → u.start ≡ Some start → Looks of n v heard found after → Told start n u other found after.0.known
+  told_of start n v u heard other found after same same_heard begun t =
+      let at_u = subst (λ z. Looks of n z heard found after) same t in
+      told_there start n u other found after begun (subst (λ z. Looks of n u z found after) same_heard at_u)
 
   pub sound_of : (start : S) (v u : Known S E) → v ≡ u → u.start ≡ Some start → Of of v (λ m. IsSound m v) → IsSound (of start) u
   sound_of start v u same begun sound = (subst (λ z. Of of z (λ m. IsSound m z)) same sound) start begun

@@ -1,5 +1,5 @@
 -- What the calls of a commit table ask and tell.
-use Rattle.std.specs.Prelude.{◌≡◌, ℕ, ◌+◌, ◌-◌, ◌^◌, ◌<◌, true, eqb, List, [], ◌∷◌, ◌++◌, length, min, slice_get, slice_index, count_by, None, Some}
+use Rattle.std.specs.Prelude.{◌≡◌, ℕ, ◌+◌, ◌-◌, ◌^◌, ◌<◌, true, eqb, List, [], ◌∷◌, ◌++◌, length, min, slice_get, slice_index, count_by, Option, None, Some}
 use mathlib.Core.List.{IsPrefix}
 use Rattle.atomic_table.specs.Seated.{TableId}
 use Rattle.commit_table.specs.declared.views.Known.{Known}
@@ -17,8 +17,9 @@ pub record PassValue (S E : Type 0) : Type 0 where
   pub table : TableId
   pub known : Known S E
 
--- what a closed table is known for: the whole history, and what each pass knew, in the order in which they were given
+-- what a closed table is known for: the start that it was told, the whole history, and what each pass knew, in the order in which they were given
 pub record TallyValue (S E : Type 0) : Type 0 where
+  pub start : Option S
   pub journal : List E
   pub passes : List (Known S E)
 

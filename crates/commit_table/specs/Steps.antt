@@ -1,6 +1,6 @@
 -- What each step on the table tells: of the step, the seat before, the number found, and the seat after.
 -- `of` is the machine of a start.
-use Rattle.std.specs.Prelude.{◌≡◌, ℕ, ◌+◌, ◌⊎◌, true, List, [], ◌∷◌, ◌++◌, length, Option, Some}
+use Rattle.std.specs.Prelude.{◌≡◌, ℕ, ◌+◌, ◌<◌, ◌⊎◌, true, List, [], ◌∷◌, ◌++◌, length, Option, Some}
 use mathlib.Core.Option.{some}
 use mathlib.Core.List.{IsPrefix}
 use lib.ListN.{get_elem?}
@@ -36,8 +36,9 @@ module _ {S X E : Type 0} (of : S → Machine X E) where
     -- on each shard that is held, the history is as it was when the shard was taken
     pub held : (i : ℕ) (g : List E) → held_at v.held i ≡ Some g → IsPrefix g h × m.Agree i g h
 
-  abbrev pub Looks : Known S E → List E → ℕ → Me (Option X) (View S E) → Type 0
-  Looks v heard found after = (h : List E) × (after ≡ (at_rest (looked v h), [])) × Of v (λ m. Sees m v heard found h)
+  -- a party is below n, the number of passes
+  abbrev pub Looks : ℕ → Known S E → List E → ℕ → Me (Option X) (View S E) → Type 0
+  Looks n v heard found after = (h : List E) × (after ≡ (at_rest (looked v h), [])) × Of v (λ m. Sees m v heard found h) × ((p : ℕ) → v.party ≡ Some p → p < n)
 
   -- An addition to the journal word: the event stands behind the history so far
   pub record Adds (m : Machine X E) (v : Known S E) (e : E) (found : ℕ) (h : List E) (w : Known S E) : Type 0 where
@@ -73,8 +74,8 @@ module _ {S X E : Type 0} (of : S → Machine X E) where
   abbrev pub frees : Step (Option X) → Me (Option X) (View S E) → ℕ → Me (Option X) (View S E) → Type 0
   frees step me found after = (i : ℕ) → step.word ≡ i + 1 → after ≡ (at_rest (gave_back me.0.known i), [])
 
-  abbrev pub looks : Step (Option X) → Me (Option X) (View S E) → ℕ → Me (Option X) (View S E) → Type 0
-  looks step me found after = Looks me.0.known me.0.heard found after
+  abbrev pub looks : ℕ → Step (Option X) → Me (Option X) (View S E) → ℕ → Me (Option X) (View S E) → Type 0
+  looks n step me found after = Looks n me.0.known me.0.heard found after
 
   abbrev pub adds : List E → Step (Option X) → Me (Option X) (View S E) → ℕ → Me (Option X) (View S E) → Type 0
   adds told step me found after = (e : E) × (told ≡ e ∷ []) × Commits me.0.known e found after

@@ -122,6 +122,7 @@ impl<M: Sharded> Pass<M> {
         requires size { IsSized board.now.table_id (M.machine board.now.key.start).shards }
         ensures table { self.new.table ≡ self.old.table }
         ensures told { (h : List M.Event) × Looked (M.machine board.now.key.start) self.old.known result h self.new.known }
+        ensures party { (p : ℕ) × (self.old.known.party ≡ Some p) × (p < board.now.key.passes) }
     {
         look_word(board, &mut self.seat)
     }

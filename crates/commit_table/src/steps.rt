@@ -6,8 +6,9 @@ ghost use Rattle.commit_table.specs.Steps.{Takes, Reaches, Looks, Commits};
 ghost use Rattle.commit_table.specs.Calls.{IsSized, MayCommit};
 
 use crate::board::{Board, Place};
-use crate::plays::{Commit, Free, Look, Park, Reach, Take, Told};
+use crate::plays::{Commit, Counted, Free, Look, Park, Reach, Take, Told};
 use crate::sharded::Sharded;
+use std::marker::Brand;
 
 const JOURNAL: usize = 0;
 
@@ -63,14 +64,25 @@ pub fn free_word<M: Sharded>(board: &Board<M>, seat: &mut Place<M>, shard: u32)
 }
 
 // Look: a load of the journal word.
+pub fn look_counted<M: Sharded, N: Counted>(board: &Board<M>, seat: &mut Place<M>) -> u64
+    requires table { seat.old.table_id ≡ board.now.table_id }
+    requires size { IsSized board.now.table_id (M.machine board.now.key.start).shards }
+    requires ready { seat.old.me ≡ (hearing seat.old.me.0.known seat.old.me.0.heard, []) }
+    requires count { N.passes ≡ board.now.key.passes }
+    ensures seat { (seat.new.table_id ≡ seat.old.table_id) × (seat.new.id ≡ seat.old.id) }
+    ensures told { Looks M.machine board.now.key.passes seat.old.me.0.known seat.old.me.0.heard result seat.new.me }
+{
+    board.load::<Look<N>>(seat, JOURNAL)
+}
+
 pub fn look_word<M: Sharded>(board: &Board<M>, seat: &mut Place<M>) -> u64
     requires table { seat.old.table_id ≡ board.now.table_id }
     requires size { IsSized board.now.table_id (M.machine board.now.key.start).shards }
     requires ready { seat.old.me ≡ (hearing seat.old.me.0.known seat.old.me.0.heard, []) }
     ensures seat { (seat.new.table_id ≡ seat.old.table_id) × (seat.new.id ≡ seat.old.id) }
-    ensures told { Looks M.machine seat.old.me.0.known seat.old.me.0.heard result seat.new.me }
+    ensures told { Looks M.machine board.now.key.passes seat.old.me.0.known seat.old.me.0.heard result seat.new.me }
 {
-    board.load::<Look>(seat, JOURNAL)
+    look_counted::<M, Brand>(board, seat)
 }
 
 // Commit: an addition of 1 to the journal word.

@@ -91,9 +91,11 @@ impl<M: Sharded> CommitTable<M> {
         Ok((table, passes))
     }
 
-    /// The value that tells the machine's start.
+    /// The value that tells the machine's start. The table has a slot for each shard of that machine, so that `misses` may
+    /// be asked of each.
     pub fn start(&self) -> &M
-        ensures { result.now ≡ self.now.start }
+        ensures start { result.now ≡ self.now.start }
+        ensures slots { self.now.table.slots ≡ (M.machine self.now.start).shards }
     {
         &self.begin.start
     }
@@ -111,11 +113,12 @@ impl<M: Sharded> CommitTable<M> {
         pass.try_take(&self.table.shared, shard)
     }
 
-    /// Sees the history so far, and says its length.
+    /// Sees the history so far, and says its length. The pass's party is one of those for which the table made passes.
     pub fn look(&self, pass: &mut Pass<M>) -> u64
         requires pass { IsOf self.now pass.old }
         ensures table { pass.new.table ≡ pass.old.table }
         ensures told { (h : List M.Event) × Looked (M.machine self.now.start) pass.old.known result h pass.new.known }
+        ensures party { (p : ℕ) × (pass.old.known.party ≡ Some p) × (p < self.now.passes) }
     {
         pass.look(&self.table.shared)
     }
