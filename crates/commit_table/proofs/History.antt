@@ -18,6 +18,7 @@ use Rattle.commit_table.specs.Views.{held_at, mine_after, looked, committed, at_
 use Rattle.commit_table.specs.Rule.{Held, IsShard, Answers, IsParty, Fits, Rule}
 use Rattle.commit_table.specs.Steps.{Sees, Adds, looks, adds}
 use Rattle.commit_table.proofs.Lists.{prefix_self, prefix_none, prefix_more, prefix_length, at_here, one_there, events_by-append, held_among, held_apart}
+use Rattle.commit_table.proofs.Turning.{turned_kept}
 use Rattle.commit_table.proofs.Moves.{with_view, still}
 use Rattle.commit_table.proofs.Holding.{rest_fits, told, own_shard}
 
@@ -57,7 +58,7 @@ module _ {S X E : Type 0} (of : S → Machine X E) (laws : (s : S) → Laws (of 
         w,
         keeps,
         tt,
-        still (of start) start n s r id (hearing v heard) w at 0 refl refl (λ q a. a) fits,
+        still (of start) start n s r id (hearing v heard) w at 0 refl refl (λ q a. a) fits (λ q its. its) (λ q a. a) (r.turned.met id (hearing v heard) at),
         (
           h,
           refl,
@@ -196,6 +197,7 @@ module _ {S X E : Type 0} (of : S → Machine X E) (laws : (s : S) → Laws (of 
         history = h';
         holder = r.holder;
         seat = r.seat;
+        turns = r.turns;
         size = length-set s.words 0 ((x + 1) % 2 ^ 64) ∙ r.size;
         legal = legal;
         word = get_or-set_same s.words 0 ((x + 1) % 2 ^ 64) 0 (omega arith) ∙ counted;
@@ -222,6 +224,7 @@ module _ {S X E : Type 0} (of : S → Machine X E) (laws : (s : S) → Laws (of 
             (λ t. subst (λ (z : ℕ). Fits m start n h' r.holder r.seat z u) (sym t.0) (subst (λ (z : View S E). Fits m start n h' r.holder r.seat id z) t.1 fits))
             (λ t. fits_added h e r.holder r.seat id k p u t.0 own.0 own.1 by (r.views k u t.1))
             (at_set s.views id k w u there);
+        turned = turned_kept m.shards s.views r.turns r.holder r.holder r.seat id (at_rest v) w at (λ j lt. refl) (λ j lt its q a. a) (λ q a. a) (r.turned.met id (at_rest v) at) r.turned;
       } in (
         w,
         keeps,

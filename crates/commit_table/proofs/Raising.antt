@@ -76,6 +76,7 @@ recorded {m} v u w z e number place c h k l t is =
         let within = prefix_length h k (subst (λ y. IsPrefix y.seen k) b t.seen) in let at = t.place_is in omega arith,
       );
       missed = ap (λ y. y.missed) is ∙ (ap (λ y. y.missed) s ∙ ap (λ y. y.missed) b);
+      met = ap (λ y. y.met) is ∙ (ap (λ y. y.met) s ∙ ap (λ y. y.met) b);
       party = ap (λ y. y.party) is ∙ (ap (λ y. y.party) s ∙ ap (λ y. y.party) b);
       start = ap (λ y. y.start) is ∙ (ap (λ y. y.start) s ∙ ap (λ y. y.start) b);
     }
@@ -197,9 +198,9 @@ no_carry a b h here there full legal =
     full (subst (λ z. 0 < z) is room.0, room.1)
 
 -- nothing was done but a look
-looked_only : (v z : K) (h : List Deal) (held : List (ℕ × Option (List Deal))) → z ≡ record v { seen = h; looks = v.looks ++ length h ∷ []; held = held }
+looked_only : (v z : K) (h : List Deal) (held : List (ℕ × Option (List Deal))) (turns : List (ℕ × Bool)) → z ≡ record v { seen = h; looks = v.looks ++ length h ∷ []; held = held; turns = turns }
     → counters.Legal h → IsPrefix v.seen h → IsOwn counters v.party h v.mine → LookedOnly counters v z
-looked_only v z h held is legal longer own = subst (λ y. LookedOnly counters v y) (sym is) (record {
+looked_only v z h held turns is legal longer own = subst (λ y. LookedOnly counters v y) (sym is) (record {
   goes_on = longer;
   legal = legal;
   own = own;
@@ -207,6 +208,7 @@ looked_only v z h held is legal longer own = subst (λ y. LookedOnly counters v 
   mine = refl;
   commits = refl;
   missed = refl;
+  met = refl;
   party = refl;
   start = refl;
 })
@@ -218,7 +220,7 @@ stuck_raise v t u z number c x h g took_is stands looked_there is full =
     let whole : z ≡ gave_back (looked (took v c g) h) c = is ∙ ap (λ y. gave_back y c) l.is in
     let here = seen_value (took v c g) u number c x h g l (held_here v.held c (Some g)) stands in
     let same : u.seen ≡ z.seen = sym (ap (λ y. y.seen) is) in (
-      looked_only v z h _ whole l.legal l.seen l.own,
+      looked_only v z h _ _ whole l.legal l.seen l.own,
       λ e its legal. no_raise its.0 c x z.seen (subst (λ y. part_of counter_parts c y ≡ Some x) same here) full (subst (λ y. counters.Legal (z.seen ++ y ∷ [])) its.1 legal),
     )
 
@@ -232,6 +234,6 @@ stuck_carry v t s u y z number a b h g k first stands second also looked_there i
     let here = seen_value two u number 0 a h g l refl stands in
     let there = seen_value two u number 1 b h k l refl also in
     let same : u.seen ≡ z.seen = sym (ap (λ w. w.seen) last ∙ ap (λ w. w.seen) is) in (
-      looked_only v z h _ whole l.legal l.seen l.own,
+      looked_only v z h _ _ whole l.legal l.seen l.own,
       λ e its legal. no_carry a b z.seen (subst (λ w. part_of counter_parts 0 w ≡ Some a) same here) (subst (λ w. part_of counter_parts 1 w ≡ Some b) same there) full (subst (λ w. counters.Legal (z.seen ++ w ∷ [])) its legal),
     )

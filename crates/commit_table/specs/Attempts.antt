@@ -1,8 +1,9 @@
 -- What an attempt on the counters tells, of all its steps at once.
-use Rattle.std.specs.Prelude.{◌≡◌, ℕ, ◌≤◌, List, [], ◌∷◌, ◌++◌, length}
+use Rattle.std.specs.Prelude.{◌≡◌, ℕ, ◌≤◌, Some, List, [], ◌∷◌, ◌++◌, length}
 use mathlib.Core.List.{IsPrefix}
 use Rattle.commit_table.specs.declared.views.Known.{Known}
 use Rattle.commit_table.specs.Machine.{Machine, IsOwn}
+use Rattle.commit_table.specs.Turns.{holder_in, GoOn}
 use Rattle.commit_table.specs.Views.{mine_after}
 
 module _ {S X E : Type 0} (m : Machine X E) where
@@ -19,6 +20,7 @@ module _ {S X E : Type 0} (m : Machine X E) where
     pub commits : w.commits ≡ v.commits ++ place ∷ []
     pub looks : (n : ℕ) × (w.looks ≡ v.looks ++ n ∷ []) × (length v.seen ≤ n) × (n ≤ place)
     pub missed : w.missed ≡ v.missed
+    pub met : w.met ≡ v.met
     pub party : w.party ≡ v.party
     pub start : w.start ≡ v.start
 
@@ -27,6 +29,11 @@ module _ {S X E : Type 0} (m : Machine X E) where
     pub shard : ℕ
     pub may : May shard
     pub missed : w.missed ≡ v.missed ++ shard ∷ []
+    -- as the turns stood then, another pass held it
+    pub met : GoOn v.met w.met
+    pub other : ℕ
+    pub holds : holder_in w.met shard ≡ Some other
+    pub apart : ¬ (v.party ≡ Some other)
     pub mine : w.mine ≡ v.mine
     pub commits : w.commits ≡ v.commits
     pub looks : w.looks ≡ v.looks
@@ -45,5 +52,6 @@ module _ {S X E : Type 0} (m : Machine X E) where
     pub mine : w.mine ≡ v.mine
     pub commits : w.commits ≡ v.commits
     pub missed : w.missed ≡ v.missed
+    pub met : w.met ≡ v.met
     pub party : w.party ≡ v.party
     pub start : w.start ≡ v.start

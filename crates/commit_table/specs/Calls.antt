@@ -3,6 +3,8 @@ use Rattle.std.specs.Prelude.{◌≡◌, ℕ, ◌+◌, ◌-◌, ◌^◌, ◌<◌
 use mathlib.Core.List.{IsPrefix}
 use Rattle.atomic_table.specs.Seated.{TableId}
 use Rattle.commit_table.specs.declared.views.Known.{Known}
+use Rattle.commit_table.specs.declared.views.Turn.{Turn}
+use Rattle.commit_table.specs.Turns.{holder_in, turns_by, GoOn}
 use Rattle.commit_table.specs.Machine.{Machine, is_among, events_by, IsOwn}
 use Rattle.commit_table.specs.Views.{held_at, looked, committed}
 
@@ -42,6 +44,15 @@ module _ {S E : Type 0} where
 
   abbrev pub HoldsNone : Known S E → Type 0
   HoldsNone v = (i : ℕ) → held_at v.held i ≡ None
+
+  -- a shard was missed: as the turns stood then, which go on from those that an earlier miss told and have all of the pass's
+  -- own, another pass holds it
+  pub record Met (v : Known S E) (i : ℕ) (turns : List Turn) : Type 0 where
+    pub goes_on : GoOn v.met turns
+    pub own : (p : ℕ) → v.party ≡ Some p → turns_by p turns ≡ v.turns
+    pub other : ℕ
+    pub holds : holder_in turns i ≡ Some other
+    pub apart : ¬ (v.party ≡ Some other)
 
   -- these are all the passes of a table, and none holds a shard
   abbrev pub AreWhole : TableValue S → List (PassValue S E) → Type 0

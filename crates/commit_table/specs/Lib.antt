@@ -1,5 +1,6 @@
 pub mod Machine
 pub mod Views
+pub mod Turns
 pub mod Rule
 pub mod Steps
 pub mod Calls

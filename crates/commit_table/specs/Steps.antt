@@ -7,8 +7,9 @@ use lib.ListN.{get_elem?}
 use Rattle.atomic_table.specs.Table.{Me, Step}
 use Rattle.commit_table.specs.declared.views.Known.{Known}
 use Rattle.commit_table.specs.declared.views.View.{View}
+use Rattle.commit_table.specs.declared.views.Turn.{Turn}
 use Rattle.commit_table.specs.Machine.{Machine, is_among, events_by, IsOwn}
-use Rattle.commit_table.specs.Calls.{IsSound}
+use Rattle.commit_table.specs.Calls.{IsSound, Met}
 use Rattle.commit_table.specs.Views.{held_at, took, missed, gave_back, looked, committed, at_rest, reaching, closer}
 
 module _ {S X E : Type 0} (of : S → Machine X E) where
@@ -16,11 +17,12 @@ module _ {S X E : Type 0} (of : S → Machine X E) where
   abbrev pub Of : Known S E → (Machine X E → Type 0) → Type 0
   Of v P = (s : S) → v.start ≡ Some s → P (of s)
 
-  -- A compare-exchange of a shard's word: it was free, and is now held with its value; or it was held, and missed. Either
+  -- A compare-exchange of a shard's word: it was free, and is now held with its value; or another pass
+  -- held it, and it was missed. Either
   -- way what was seen before is legal, and has of the pass's party just the pass's own events
   abbrev pub Takes : ℕ → Known S E → ℕ → Me (Option X) (View S E) → Type 0
   Takes i v found after = Of v (λ m. IsSound m v) × (((found ≡ 0) × ((x : X) × (g : List E) × (after ≡ (reaching (took v i g) i, (i, Some x) ∷ [])) × IsPrefix v.seen g × Of v (λ m. m.Stands i x g)))
-      ⊎ ((found ≡ 1) × (after ≡ (at_rest (missed v i), []))))
+      ⊎ ((found ≡ 1) × ((turns : List Turn) × (after ≡ (at_rest (missed v i turns), [])) × Met v i turns)))
 
   -- the slot of a held shard goes out with the seat
   abbrev pub Reaches : ℕ → Known S E → Me (Option X) (View S E) → Type 0

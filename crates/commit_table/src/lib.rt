@@ -28,7 +28,7 @@ pub use pass::{Note, Pass};
 pub use ranks::{Act, Noted, RankPart, TwoRanks};
 pub use sharded::Sharded;
 pub use table::CommitTable;
-pub use views::{Known, View};
+pub use views::{Known, Turn, View};
 
 #[cfg(test)]
 mod tests;

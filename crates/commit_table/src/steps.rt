@@ -12,13 +12,14 @@ use std::marker::Brand;
 
 const JOURNAL: usize = 0;
 
-// Take, or miss: a compare-exchange from 0 to 1. It found 0 where the shard was free, and 1 where it was missed.
+// Take, or miss: a compare-exchange from 0 to 1. It found 0 where the shard was free, and 1 where another pass held it.
 pub fn take_word<M: Sharded>(board: &Board<M>, seat: &mut Place<M>, shard: u32) -> u64
     requires table { seat.old.table_id ≡ board.now.table_id }
     requires size { IsSized board.now.table_id (M.machine board.now.key.start).shards }
     requires shard { shard < (M.machine board.now.key.start).shards }
     requires ready { seat.old.me ≡ (at_rest seat.old.me.0.known, []) }
     requires party { (p : ℕ) × (seat.old.me.0.known.party ≡ Some p) }
+    requires free { held_at seat.old.me.0.known.held shard ≡ None }
     ensures seat { (seat.new.table_id ≡ seat.old.table_id) × (seat.new.id ≡ seat.old.id) }
     ensures told { Takes M.machine shard seat.old.me.0.known result seat.new.me }
 {

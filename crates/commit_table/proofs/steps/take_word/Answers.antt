@@ -6,7 +6,7 @@ pub compare_exchange-requires : goal.compare_exchange-requires
 compare_exchange-requires g c = let start = c.args.board.now.key.start in (
   search rules,
   omega (arith, c.requires.size.0),
-  take_allowed g.M.Sharded.machine g.M.Sharded.lawful start c.args.board.now.key.passes _ _ c.args.shard c.args.seat.now.me c.requires.ready c.requires.party.0 c.requires.shard c.requires.party.1,
+  take_allowed g.M.Sharded.machine g.M.Sharded.lawful start c.args.board.now.key.passes _ _ c.args.shard c.args.seat.now.me c.requires.ready c.requires.party.0 c.requires.shard c.requires.party.1 c.requires.free,
 )
 
 pub returns-clause-told : goal.returns-clause-told

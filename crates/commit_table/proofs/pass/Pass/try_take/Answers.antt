@@ -9,7 +9,7 @@ use Rattle.commit_table.proofs.pass.Pass.try_take.Goals as goal
 pub invariant_of-self-in_default : goal.invariant_of-self-in_default
 invariant_of-self-in_default g c =
     let e = rw c.in_default.is at c.take.ensures.none in
-    let r = rested c.take.new.seat.me _ e in
+    let r = rested c.take.new.seat.me _ e.1 in
     let slots = ap (λ z. z.slots) c.take.ensures.seat.0 in
     let was = c.self.invariant in
     let new = c.count_miss.ensures in
