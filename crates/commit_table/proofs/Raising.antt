@@ -11,7 +11,7 @@ use Rattle.commit_table.specs.declared.counters.Deal.TheVariants.{Raise, Carry}
 use Rattle.commit_table.specs.Machine.{Machine, is_among, IsOwn}
 use Rattle.commit_table.specs.Views.{held_at, took, looked, committed, gave_back}
 use Rattle.commit_table.specs.Parts.{part_of, peers_of}
-use Rattle.commit_table.specs.PartLaws.{may_follow, new_own, new_peer, one_peer, last_did, part_there}
+use Rattle.commit_table.specs.PartLaws.{may_follow, new_own, new_peers, parts_there, last_did, part_there}
 use Rattle.commit_table.specs.Counters.{most, counter_parts, counters}
 use Rattle.commit_table.specs.Calls.{Looked, MayCommit, Committed}
 use Rattle.commit_table.specs.Attempts.{Recorded, LookedOnly}
@@ -30,8 +30,8 @@ only_one c i e = dite (ℕ_discrete i c) (λ same. same) (λ ne. absurd (let b =
 eq_one : (c : ℕ) → is_among (c ∷ []) c ≡ true
 eq_one c = ap (λ b. b || false) (eq-eqb c c refl)
 
-raise_acts : (p c x : ℕ) → x < most → counter_parts.act (Raise p c) x [] ≡ Some (x + 1, [])
-raise_acts p c x lt = subst (λ b. cond {A = Option (ℕ × List ℕ)} b (Some (x + 1, [])) None ≡ Some (x + 1, [])) (sym (lt-ltb x most lt)) refl
+raise_acts : (n p c x : ℕ) → x < most → counter_parts.act n (Raise p c) x [] ≡ Some (x + 1, [])
+raise_acts n p c x lt = subst (λ b. cond {A = Option (ℕ × List ℕ)} b (Some (x + 1, [])) None ≡ Some (x + 1, [])) (sym (lt-ltb x most lt)) refl
 
 one_shard : (p c x : ℕ) (h : List Deal) → part_of counter_parts c h ≡ Some x → counters.shards_of h (Raise p c) ≡ c ∷ []
 one_shard p c x h e = ap (λ o. c ∷ peers_of counter_parts o (Raise p c)) e
@@ -41,7 +41,7 @@ may_raise v c x p g party legal held agree stands lt =
     let here : part_of counter_parts c v.seen ≡ Some x = sym agree ∙ part_value c x g stands in
     record {
       party = λ q e. party ∙ e;
-      legal = may_follow counter_parts v.seen (Raise p c) x [] (x + 1, []) legal here (λ ps e. refl) (raise_acts p c x lt);
+      legal = may_follow counter_parts v.seen (Raise p c) x [] (x + 1, []) legal here (λ ps e. refl) (raise_acts 0 p c x lt);
       held = λ i among. let is : i ≡ c = only_one c i (subst (λ z. is_among z i ≡ true) (one_shard p c x v.seen here) among) in
           subst (λ z. (g : List Deal) × (held_at v.held z ≡ Some g) × counters.Agree z v.seen g) (sym is) (g, held, sym agree);
     }
@@ -54,7 +54,7 @@ raised_stands v w c x p place h here lt t =
     let there : part_of counter_parts c h ≡ Some x = sym (t.agrees c among) ∙ here in (
       h ++ e ∷ [],
       ap (λ z. held_at z.held c) t.is ∙ held_among (counters.shards_of v.seen e) (h ++ e ∷ []) v.held c among,
-      (x + 1, new_own counter_parts h e x [] (x + 1, []) t.legal there (λ ps z. refl) (raise_acts p c x lt) refl, refl),
+      (x + 1, new_own counter_parts h e x [] (x + 1, []) t.legal there (λ ps z. refl) (raise_acts 0 p c x lt) refl, refl),
     )
 
 pub recorded : {m : Machine ℕ Deal} (v u w z : K) (e : Deal) (number place c : ℕ) (h k : List Deal) → Looked m v number h u → Committed m u e place k w → z ≡ gave_back w c → Recorded m v e place z
@@ -99,8 +99,8 @@ pub given : (w z : K) (c : ℕ) → z ≡ gave_back w c → held_at z.held c ≡
 given w z c is = ap (λ y. held_at y.held c) is ∙ held_here w.held c None
 
 -- the same for what is carried from the first counter to the second
-carry_acts : (a b : ℕ) → 0 < a → b < most → counter_parts.act Carry a (b ∷ []) ≡ Some (a - 1, (b + 1) ∷ [])
-carry_acts a b la lb = subst (λ x. cond {A = Option (ℕ × List ℕ)} (x && ltb b most) (Some (a - 1, (b + 1) ∷ [])) None ≡ Some (a - 1, (b + 1) ∷ [])) (sym (lt-ltb 0 a la))
+carry_acts : (n a b : ℕ) → 0 < a → b < most → counter_parts.act n Carry a (b ∷ []) ≡ Some (a - 1, (b + 1) ∷ [])
+carry_acts n a b la lb = subst (λ x. cond {A = Option (ℕ × List ℕ)} (x && ltb b most) (Some (a - 1, (b + 1) ∷ [])) None ≡ Some (a - 1, (b + 1) ∷ [])) (sym (lt-ltb 0 a la))
     (subst (λ x. cond {A = Option (ℕ × List ℕ)} x (Some (a - 1, (b + 1) ∷ [])) None ≡ Some (a - 1, (b + 1) ∷ [])) (sym (lt-ltb b most lb)) refl)
 
 two_shards : (a : ℕ) (h : List Deal) → part_of counter_parts 0 h ≡ Some a → counters.shards_of h Carry ≡ 0 ∷ 1 ∷ []
@@ -128,7 +128,7 @@ may_carry v u number a b h l t =
     let seen = ap (λ y. y.seen) l.is in
     record {
       party = λ q e. absurd cc;
-      legal = may_follow counter_parts u.seen Carry a (b ∷ []) (a - 1, (b + 1) ∷ []) (subst (λ y. counters.Legal y) (sym seen) l.legal) here (λ ps e. one_peer counter_parts u.seen 1 b ps there e) (carry_acts a b t.room.0 t.room.1);
+      legal = may_follow counter_parts u.seen Carry a (b ∷ []) (a - 1, (b + 1) ∷ []) (subst (λ y. counters.Legal y) (sym seen) l.legal) here (λ ps e. parts_there counter_parts u.seen ps (1 ∷ []) (b ∷ []) e (there, tt)) (carry_acts 0 a b t.room.0 t.room.1);
       held = λ i among. one_of_two i (λ z. (g : List Deal) × (held_at u.held z ≡ Some g) × counters.Agree z u.seen g)
           (t.first, ap (λ y. held_at y.held 0) l.is ∙ t.first_held, here ∙ sym (part_value 0 a t.first t.first_stands))
           (t.second, ap (λ y. held_at y.held 1) l.is ∙ t.second_held, there ∙ sym (part_value 1 b t.second t.second_stands))
@@ -145,7 +145,7 @@ carried_first v u w number place a b h k l t c =
     let peer : part_of counter_parts 1 k ≡ Some b = sym (c.agrees 1 (among 1 refl)) ∙ there in (
       k ++ Carry ∷ [],
       ap (λ z. held_at z.held 0) c.is ∙ held_among (counters.shards_of u.seen Carry) (k ++ Carry ∷ []) u.held 0 (among 0 refl),
-      (a - 1, new_own counter_parts k Carry a (b ∷ []) (a - 1, (b + 1) ∷ []) c.legal own (λ ps e. one_peer counter_parts k 1 b ps peer e) (carry_acts a b t.room.0 t.room.1) refl, refl),
+      (a - 1, new_own counter_parts k Carry a (b ∷ []) (a - 1, (b + 1) ∷ []) c.legal own (λ ps e. parts_there counter_parts k ps (1 ∷ []) (b ∷ []) e (peer, tt)) (carry_acts 0 a b t.room.0 t.room.1) refl, refl),
     )
 
 pub carried_second : (v u w : K) (number place a b : ℕ) (h k : List Deal) → Looked counters v number h u → Both v a b → Committed counters u Carry place k w → (g : List Deal) × (held_at w.held 1 ≡ Some g) × counters.Stands 1 (b + 1) g
@@ -158,7 +158,7 @@ carried_second v u w number place a b h k l t c =
     let peer : part_of counter_parts 1 k ≡ Some b = sym (c.agrees 1 (among 1 refl)) ∙ there in (
       k ++ Carry ∷ [],
       ap (λ z. held_at z.held 1) c.is ∙ held_among (counters.shards_of u.seen Carry) (k ++ Carry ∷ []) u.held 1 (among 1 refl),
-      (b + 1, new_peer counter_parts k Carry a 1 b (b + 1) (a - 1) c.legal own refl peer (carry_acts a b t.room.0 t.room.1) (λ e. absurd (omega arith)), refl),
+      (b + 1, new_peers counter_parts k Carry a (b ∷ []) (a - 1, (b + 1) ∷ []) c.legal own (peer, tt) (carry_acts 0 a b t.room.0 t.room.1) refl (refl, tt) 0 1 (b + 1) refl refl, refl),
     )
 
 pub first_later : (v u w z : K) (number place a b : ℕ) (h k : List Deal) → Looked counters v number h u → Both v a b → Committed counters u Carry place k w → z ≡ gave_back w 1 → (g : List Deal) × (held_at z.held 0 ≡ Some g) × counters.Stands 0 (a - 1) g
@@ -182,9 +182,9 @@ no_raise p c x h here full legal =
     let room = ltb-true r.own most (only_where (ltb r.own most) (r.own + 1, []) r.new r.acts) in
     full (subst (λ z. z < most) is room)
 
-carried_where : (a b : ℕ) (others : List ℕ) (new : ℕ × List ℕ) → others ≡ b ∷ [] → counter_parts.act Carry a others ≡ Some new → (0 < a) × (b < most)
-carried_where a b others new is e =
-    let acts : counter_parts.act Carry a (b ∷ []) ≡ Some new = subst (λ z. counter_parts.act Carry a z ≡ Some new) is e in
+carried_where : (n a b : ℕ) (others : List ℕ) (new : ℕ × List ℕ) → others ≡ b ∷ [] → counter_parts.act n Carry a others ≡ Some new → (0 < a) × (b < most)
+carried_where n a b others new is e =
+    let acts : counter_parts.act n Carry a (b ∷ []) ≡ Some new = subst (λ z. counter_parts.act n Carry a z ≡ Some new) is e in
     let both = both_hold (ltb 0 a) (ltb b most) (only_where (ltb 0 a && ltb b most) (a - 1, (b + 1) ∷ []) new acts) in
     (ltb-true 0 a both.0, ltb-true b most both.1)
 
@@ -193,8 +193,8 @@ no_carry a b h here there full legal =
     let d = last_did counter_parts h Carry legal.0 legal.1 in
     let r = d.2 in
     let is : r.own ≡ a = (let x = r.own_there in let y = part_there counter_parts h d.0 0 d.1 in cc) in
-    let others : r.others ≡ b ∷ [] = (let x = r.others_there in let y = one_peer counter_parts h 1 b d.0 there d.1 in cc) in
-    let room = carried_where r.own b r.others r.new others r.acts in
+    let others : r.others ≡ b ∷ [] = (let x = r.others_there in let y = parts_there counter_parts h d.0 (1 ∷ []) (b ∷ []) d.1 (there, tt) in cc) in
+    let room = carried_where 0 r.own b r.others r.new others r.acts in
     full (subst (λ z. 0 < z) is room.0, room.1)
 
 -- nothing was done but a look

@@ -3,7 +3,7 @@ use Rattle.std.proofs.Common.{◌≡◌, ℕ, zero, suc, ◌+◌, ◌^◌, ◌<�
 use Rattle.std.specs.Prelude.{option_and_then}
 use Rattle.std.proofs.lemmas.Bool.{ltb-true}
 use Rattle.commit_table.specs.Machine.{Laws}
-use Rattle.commit_table.specs.Parts.{stepped, parts_at, parts_of, with_parts}
+use Rattle.commit_table.specs.Parts.{stepped, parts_at, parts_of, with_parts, Lasts}
 use Rattle.commit_table.specs.declared.ranks.Act.{Act}
 use Rattle.commit_table.specs.declared.ranks.Act.TheVariants.{Link, Post}
 use Rattle.commit_table.specs.declared.ranks.RankPart.{RankPart}
@@ -41,22 +41,22 @@ second_grows place e a b new other qs lt le same also is =
 -- what a post of the first rank makes, linked or not; and of the second
 abbrev first_step : ℕ → RankPart → RankPart → Bool → Option (List RankPart)
 first_step place a b linked =
-    option_and_then (λ qs. option_and_then (λ (z : RankPart × List RankPart). Some (with_parts (act_noted place (Post zero) z.0 ∷ b ∷ []) (cond linked (1 ∷ []) []) z.1)) (act_acts (Post zero) a qs)) (parts_at (a ∷ b ∷ []) (cond linked (1 ∷ []) []))
+    option_and_then (λ qs. option_and_then (λ (z : RankPart × List RankPart). Some (with_parts (act_noted place (Post zero) z.0 ∷ b ∷ []) (cond linked (1 ∷ []) []) z.1)) (act_acts place (Post zero) a qs)) (parts_at (a ∷ b ∷ []) (cond linked (1 ∷ []) []))
 
 abbrev second_step : ℕ → RankPart → RankPart → Bool → Option (List RankPart)
 second_step place a b linked =
-    option_and_then (λ qs. option_and_then (λ (z : RankPart × List RankPart). Some (with_parts (a ∷ act_noted place (Post (suc zero)) z.0 ∷ []) (cond linked (0 ∷ []) []) z.1)) (act_acts (Post (suc zero)) b qs)) (parts_at (a ∷ b ∷ []) (cond linked (0 ∷ []) []))
+    option_and_then (λ qs. option_and_then (λ (z : RankPart × List RankPart). Some (with_parts (a ∷ act_noted place (Post (suc zero)) z.0 ∷ []) (cond linked (0 ∷ []) []) z.1)) (act_acts place (Post (suc zero)) b qs)) (parts_at (a ∷ b ∷ []) (cond linked (0 ∷ []) []))
 
 post_first : (place : ℕ) (a b : RankPart) (linked : Bool) (qs : List RankPart) → count b ≤ most_events → first_step place a b linked ≡ Some qs → AreTwo qs × (count a + count b < weight qs)
 post_first place a b true qs le s =
-    let r = roomy a a (record b { messages = b.messages + 1 } ∷ []) (ltb (count a) most_events) (λ z. with_parts (act_noted place (Post zero) z.0 ∷ b ∷ []) (1 ∷ []) z.1) qs refl s in
-    first_grows place (Post zero) a b a (record b { messages = b.messages + 1 }) qs r.1 le refl refl r.0
+    let r = roomy a a (record b { messages = b.messages + 1; latest = place } ∷ []) (ltb (count a) most_events) (λ z. with_parts (act_noted place (Post zero) z.0 ∷ b ∷ []) (1 ∷ []) z.1) qs refl s in
+    first_grows place (Post zero) a b a (record b { messages = b.messages + 1; latest = place }) qs r.1 le refl refl r.0
 post_first place a b false qs le s = absurd cc
 
 post_second : (place : ℕ) (a b : RankPart) (linked : Bool) (qs : List RankPart) → count a ≤ most_events → second_step place a b linked ≡ Some qs → AreTwo qs × (count a + count b < weight qs)
 post_second place a b true qs le s =
-    let r = roomy b b (record a { messages = a.messages + 1 } ∷ []) (ltb (count b) most_events) (λ z. with_parts (a ∷ act_noted place (Post (suc zero)) z.0 ∷ []) (0 ∷ []) z.1) qs refl s in
-    second_grows place (Post (suc zero)) a b b (record a { messages = a.messages + 1 }) qs r.1 le refl refl r.0
+    let r = roomy b b (record a { messages = a.messages + 1; latest = place } ∷ []) (ltb (count b) most_events) (λ z. with_parts (a ∷ act_noted place (Post (suc zero)) z.0 ∷ []) (0 ∷ []) z.1) qs refl s in
+    second_grows place (Post (suc zero)) a b b (record a { messages = a.messages + 1; latest = place }) qs r.1 le refl refl r.0
 post_second place a b false qs le s = absurd cc
 
 grows_at : (place : ℕ) (a b : RankPart) (e : Act) (qs : List RankPart) → count a ≤ most_events → count b ≤ most_events → stepped rank_parts place (a ∷ b ∷ []) e ≡ Some qs → AreTwo qs × (count a + count b < weight qs)
@@ -78,5 +78,17 @@ bounded h ps e =
     let w = weighed rank_parts AreTwo weight grows zero (empty_part ∷ empty_part ∷ []) h ps (empty_part, empty_part, refl, omega arith, omega arith) e in
     let two = w.0 in let le = w.1 in let is : weight ps ≡ count two.0 + count two.1 = ap weight two.2 in let a = two.3 in let b = two.4 in omega arith
 
+-- whether there is room does not hang on the place
+room_lasts : {A : Type 0} (b : Bool) (x y new : A) → cond b (Some x) None ≡ Some new → (made : A) × (cond b (Some y) None ≡ Some made)
+room_lasts true x y new e = (y, refl)
+room_lasts false x y new e = absurd cc
+
+lasts : Lasts rank_parts
+lasts place later (Link rank) own others new le acts = (new, acts)
+lasts place later (Post rank) own [] new le acts = absurd cc
+lasts place later (Post rank) own (other ∷ []) new le acts =
+    room_lasts (ltb (length own.journal) most_events) (own, (record other { messages = other.messages + 1; latest = place }) ∷ []) (own, (record other { messages = other.messages + 1; latest = later }) ∷ []) new acts
+lasts place later (Post rank) own (other ∷ (more ∷ rest)) new le acts = absurd cc
+
 pub ranks_lawful : Laws ranks
-ranks_lawful = part_laws rank_parts bounded
+ranks_lawful = part_laws rank_parts lasts bounded
