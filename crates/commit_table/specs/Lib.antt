@@ -6,6 +6,7 @@ pub mod Steps
 pub mod Calls
 pub mod Parts
 pub mod PartLaws
+pub mod PartJournals
 pub mod Counters
 pub mod CounterLaws
 pub mod Attempts

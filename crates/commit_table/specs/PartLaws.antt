@@ -21,7 +21,7 @@ chain_some None = refl
 chain_some (Some x) = refl
 
 module _ {A : Type 0} where
-  get_set_else : (xs : List A) (i j : ℕ) (a : A) → j ≢ i → slice_get (set xs i a) j ≡ slice_get xs j
+  pub get_set_else : (xs : List A) (i j : ℕ) (a : A) → j ≢ i → slice_get (set xs i a) j ≡ slice_get xs j
   get_set_else [] i j a ne = refl
   get_set_else (x ∷ xs) zero zero a ne = absurd (ne refl)
   get_set_else (x ∷ xs) zero (suc j) a ne = refl
@@ -52,13 +52,13 @@ module _ {P : Type 0} where
       let rest = parts_same ps ks is (λ j e. same j (among_later j i is e)) in
       ap (λ z. option_and_then (λ p. option_and_then (λ qs. Some (p ∷ qs)) (parts_at ps is)) z) here ∙ ap (λ z. option_and_then (λ p. option_and_then (λ qs. Some (p ∷ qs)) z) (slice_get ks i)) rest
 
-among_at : (is : List ℕ) (k j : ℕ) → slice_get is k ≡ Some j → is_among is j ≡ true
+pub among_at : (is : List ℕ) (k j : ℕ) → slice_get is k ≡ Some j → is_among is j ≡ true
 among_at [] k j e = absurd cc
 among_at (i ∷ is) zero j e = let here : i ≡ j = cc in subst (λ z. is_among (i ∷ is) z ≡ true) here (among_first i is)
 among_at (i ∷ is) (suc k) j e = among_later j i is (among_at is k j e)
 
 module _ {P : Type 0} where
-  get_set_here : (ps : List P) (i : ℕ) (p q : P) → slice_get ps i ≡ Some p → slice_get (set ps i q) i ≡ Some q
+  pub get_set_here : (ps : List P) (i : ℕ) (p q : P) → slice_get ps i ≡ Some p → slice_get (set ps i q) i ≡ Some q
   get_set_here [] i p q e = absurd cc
   get_set_here (x ∷ xs) zero p q e = refl
   get_set_here (x ∷ xs) (suc i) p q e = get_set_here xs i p q e

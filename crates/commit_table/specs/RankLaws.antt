@@ -1,14 +1,16 @@
 -- The two ranks are a lawful machine: each event is one more in its owner's part of the journal, and there it has room.
-use Rattle.std.proofs.Common.{◌≡◌, ℕ, zero, suc, ◌+◌, ◌^◌, ◌<◌, ◌≤◌, Bool, true, false, cond, ltb, List, [], ◌∷◌, length, Option, None, Some, refl, ap, sym, subst, arith, length-append}
+use Rattle.std.proofs.Common.{◌≡◌, ℕ, zero, suc, ◌+◌, ◌^◌, ◌<◌, ◌≤◌, Bool, true, false, cond, ltb, ◌||◌, ne_eqb, List, [], ◌∷◌, length, map, slice_get, Option, None, Some, refl, ap, sym, subst, ◌∙◌, arith, length-append}
+use Rattle.std.proofs.lemmas.List.{map-append}
 use Rattle.std.specs.Prelude.{option_and_then}
-use Rattle.std.proofs.lemmas.Bool.{ltb-true}
-use Rattle.commit_table.specs.Machine.{Laws}
+use Rattle.std.proofs.lemmas.Bool.{ltb-true, lt-ltb}
+use Rattle.commit_table.specs.Machine.{Laws, is_among}
 use Rattle.commit_table.specs.Parts.{stepped, parts_at, parts_of, with_parts, Lasts}
 use Rattle.commit_table.specs.declared.ranks.Act.{Act}
 use Rattle.commit_table.specs.declared.ranks.Act.TheVariants.{Link, Post}
 use Rattle.commit_table.specs.declared.ranks.RankPart.{RankPart}
-use Rattle.commit_table.specs.Ranks.{most_events, empty_part, act_acts, act_noted, rank_parts, ranks}
+use Rattle.commit_table.specs.Ranks.{most_events, empty_part, act_owner, other_rank, act_peers, act_acts, act_noted, rank_parts, ranks}
 use Rattle.commit_table.specs.PartLaws.{weighed, part_laws}
+use Rattle.commit_table.specs.PartJournals.{cut, Lists, lists_are_cut}
 
 abbrev count : RankPart → ℕ
 count p = length p.journal
@@ -92,3 +94,64 @@ lasts place later (Post rank) own (other ∷ (more ∷ rest)) new le acts = absu
 
 pub ranks_lawful : Laws ranks
 ranks_lawful = part_laws rank_parts lasts bounded
+
+-- each rank's part of the journal, as pairs of a place and an event
+abbrev pub noted_acts : RankPart → List (ℕ × Act)
+noted_acts p = map (λ n. (n.place, n.act)) p.journal
+
+made_of : {A : Type 0} (b : Bool) (x new : A) → cond b (Some x) None ≡ Some new → x ≡ new
+made_of true x new e = cc
+made_of false x new e = absurd cc
+
+first_empty : (i : ℕ) (p : RankPart) → slice_get (empty_part ∷ empty_part ∷ []) i ≡ Some p → noted_acts p ≡ []
+first_empty zero p e = let is : empty_part ≡ p = cc in ap noted_acts (sym is)
+first_empty (suc zero) p e = let is : empty_part ≡ p = cc in ap noted_acts (sym is)
+first_empty (suc (suc i)) p e = absurd cc
+
+own_noted : (place : ℕ) (e : Act) (own : RankPart) (others : List RankPart) (new : RankPart × List RankPart) → act_acts place e own others ≡ Some new → noted_acts new.0 ≡ noted_acts own
+own_noted place (Link rank) own others new acts = ap (λ (z : RankPart × List RankPart). noted_acts z.0) (sym (made_of (ltb (count own) most_events) (record own { linked = true }, []) new acts))
+own_noted place (Post rank) own [] new acts = absurd cc
+own_noted place (Post rank) own (other ∷ []) new acts =
+    ap (λ (z : RankPart × List RankPart). noted_acts z.0) (sym (made_of (ltb (count own) most_events) (own, (record other { messages = other.messages + 1; latest = place }) ∷ []) new acts))
+own_noted place (Post rank) own (other ∷ (more ∷ rest)) new acts = absurd cc
+
+one_other : (other made : RankPart) (qs : List RankPart) → qs ≡ made ∷ [] → noted_acts made ≡ noted_acts other → (k : ℕ) (q : RankPart) → slice_get qs k ≡ Some q → (p : RankPart) × (slice_get (other ∷ []) k ≡ Some p) × (noted_acts q ≡ noted_acts p)
+one_other other made qs is same zero q at = let new : made ≡ q = (let e = ap (λ z. slice_get z 0) is in cc) in (other, refl, ap noted_acts (sym new) ∙ same)
+one_other other made qs is same (suc k) q at = absurd (let e = ap (λ z. slice_get z (suc k)) is in cc)
+
+others_noted : (place : ℕ) (e : Act) (own : RankPart) (others : List RankPart) (new : RankPart × List RankPart) → act_acts place e own others ≡ Some new
+    → (k : ℕ) (q : RankPart) → slice_get new.1 k ≡ Some q → (p : RankPart) × (slice_get others k ≡ Some p) × (noted_acts q ≡ noted_acts p)
+others_noted place (Link rank) own others new acts k q at =
+    absurd (let e = ap (λ (z : RankPart × List RankPart). slice_get z.1 k) (made_of (ltb (count own) most_events) (record own { linked = true }, []) new acts) in cc)
+others_noted place (Post rank) own [] new acts k q at = absurd cc
+others_noted place (Post rank) own (other ∷ []) new acts k q at =
+    one_other other (record other { messages = other.messages + 1; latest = place }) new.1
+    (ap (λ (z : RankPart × List RankPart). z.1) (sym (made_of (ltb (count own) most_events) (own, (record other { messages = other.messages + 1; latest = place }) ∷ []) new acts))) refl k q at
+others_noted place (Post rank) own (other ∷ (more ∷ rest)) new acts k q at = absurd cc
+
+not_itself : (rank : ℕ) (b : Bool) → b ≡ ltb 0 rank → is_among (cond b (0 ∷ []) (1 ∷ [])) rank ≡ false
+not_itself rank true e = ap (λ z. z || false) (ne_eqb rank 0 (λ is. absurd (let lt = ltb-true 0 rank (sym e) in omega arith)))
+not_itself zero false e = refl
+not_itself (suc rank) false e = absurd (let lt = lt-ltb 0 (suc rank) (omega arith) in cc)
+
+not_other : (linked : Bool) (rank : ℕ) → is_among (cond linked (other_rank rank) []) rank ≡ false
+not_other true rank = not_itself rank (ltb 0 rank) refl
+not_other false rank = refl
+
+rank_apart : (own : RankPart) (e : Act) → is_among (act_peers own e) (act_owner e) ≡ false
+rank_apart own (Link rank) = refl
+rank_apart own (Post rank) = not_other own.linked rank
+
+rank_lists : Lists rank_parts noted_acts
+rank_lists = record {
+  first = first_empty;
+  notes = λ place e p. map-append (λ n. (n.place, n.act)) p.journal (record { place = place; act = e } ∷ []);
+  own = own_noted;
+  others = others_noted;
+  apart = rank_apart;
+}
+
+-- each rank's part of the journal is the history cut by owner
+pub rank_journals : (h : List Act) (ps : List RankPart) → parts_of rank_parts h ≡ Some ps → (i : ℕ) (p : RankPart) → slice_get rank_parts.first i ≡ Some p
+    → (r : RankPart) × (slice_get ps i ≡ Some r) × (noted_acts r ≡ cut act_owner i zero h)
+rank_journals = lists_are_cut rank_parts noted_acts rank_lists
