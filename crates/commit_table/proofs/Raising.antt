@@ -15,7 +15,7 @@ use Rattle.commit_table.specs.PartLaws.{may_follow, new_own, new_peers, parts_th
 use Rattle.commit_table.specs.Counters.{most, counter_parts, counters}
 use Rattle.commit_table.specs.Calls.{Looked, MayCommit, Committed}
 use Rattle.commit_table.specs.Attempts.{Recorded, LookedOnly}
-use Rattle.commit_table.specs.Outcomes.{NoneFollows}
+use Rattle.commit_table.specs.Outcomes.{NoneFollows, RaisedBoth}
 use Rattle.commit_table.proofs.Lists.{prefix_trans, prefix_length, held_here, held_else, held_among, held_apart}
 
 abbrev pub K : Type 0
@@ -237,3 +237,63 @@ stuck_carry v t s u y z number a b h g k first stands second also looked_there i
       looked_only v z h _ _ whole l.legal l.seen l.own,
       λ e its legal. no_carry a b z.seen (subst (λ w. part_of counter_parts 0 w ≡ Some a) same here) (subst (λ w. part_of counter_parts 1 w ≡ Some b) same there) full (subst (λ w. counters.Legal (z.seen ++ w ∷ [])) its legal),
     )
+
+-- the second counter, after the first was raised and given back: it is held as it was, and what was seen agrees with it there
+pub record Next (v z : K) (g : List Deal) : Type 0 where
+  pub held : held_at z.held 1 ≡ Some g
+  pub agrees : counters.Agree 1 g z.seen
+  pub legal : counters.Legal z.seen
+  pub party : z.party ≡ v.party
+
+pub next_there : (v u w z : K) (number place p x : ℕ) (h k g : List Deal) → Looked counters v number h u → part_of counter_parts 0 u.seen ≡ Some x → Committed counters u (Raise p 0) place k w → z ≡ gave_back w 0 → held_at v.held 1 ≡ Some g → Next v z g
+next_there v u w z number place p x h k g l here t is held =
+    let there : held_at z.held 1 ≡ Some g = other_held v u w z number place 0 p 1 h k x l here t is (λ e. absurd (omega arith)) ∙ held in
+    let kept : held_at w.held 1 ≡ Some g = sym (held_else w.held 0 1 None (λ e. absurd (omega arith))) ∙ (sym (ap (λ y. held_at y.held 1) is) ∙ there) in
+    let seen : k ++ Raise p 0 ∷ [] ≡ z.seen = sym (ap (λ y. y.seen) is ∙ ap (λ y. y.seen) t.is) in
+    record {
+      held = there;
+      agrees = subst (λ y. counters.Agree 1 g y) seen (t.held 1 g kept).1;
+      legal = subst (λ y. counters.Legal y) seen t.legal;
+      party = ap (λ y. y.party) is ∙ (ap (λ y. y.party) t.is ∙ ap (λ y. y.party) l.is);
+    }
+
+pub may_next : (v z : K) (p x : ℕ) (g : List Deal) → Next v z g → v.party ≡ Some p → counters.Stands 1 x g → x < most → MayCommit counters z (Raise p 1)
+may_next v z p x g n party stands lt = may_raise z 1 x p g (n.party ∙ party) n.legal n.held n.agrees stands lt
+
+pub next_stands : (v z w : K) (p x place : ℕ) (g k : List Deal) → Next v z g → counters.Stands 1 x g → x < most → Committed counters z (Raise p 1) place k w → (f : List Deal) × (held_at w.held 1 ≡ Some f) × counters.Stands 1 (x + 1) f
+next_stands v z w p x place g k n stands lt t = raised_stands z w 1 x p place k (sym n.agrees ∙ part_value 1 x g stands) lt t
+
+pub raised_both : (v u w z w' z' : K) (number place place' p : ℕ) (h k k' : List Deal) → Looked counters v number h u → Committed counters u (Raise p 0) place k w → z ≡ gave_back w 0 → Committed counters z (Raise p 1) place' k' w' → z' ≡ gave_back w' 1
+    → RaisedBoth v p place' z'
+raised_both v u w z w' z' number place place' p h k k' l t is t' is' =
+    let first = ap (λ y. y.seen) is ∙ ap (λ y. y.seen) t.is in
+    let more : IsPrefix k (k ++ Raise p 0 ∷ []) = (Raise p 0 ∷ [], refl) in
+    let seen : z'.seen ≡ k' ++ Raise p 1 ∷ [] = ap (λ y. y.seen) is' ∙ ap (λ y. y.seen) t'.is in
+    let at_k : IsPrefix v.seen k = prefix_trans v.seen h k l.seen (subst (λ y. IsPrefix y.seen k) l.is t.seen) in
+    let mine : z.mine ≡ v.mine ++ Raise p 0 ∷ [] = ap (λ y. y.mine) is ∙ (ap (λ y. y.mine) t.is ∙ ap (λ y. y.mine ++ Raise p 0 ∷ []) l.is) in
+    record {
+      before = k';
+      seen = seen;
+      legal = subst (λ y. counters.Legal y) (sym seen) t'.legal;
+      goes_on = prefix_trans v.seen (k ++ Raise p 0 ∷ []) k' (prefix_trans v.seen k (k ++ Raise p 0 ∷ []) at_k more) (subst (λ y. IsPrefix y k') first t'.seen);
+      place_is = t'.place_is;
+      mine = ap (λ y. y.mine) is' ∙ (ap (λ y. y.mine) t'.is ∙ ap (λ y. y ++ Raise p 1 ∷ []) mine);
+      looks = (length h, ap (λ y. y.looks) is' ∙ (ap (λ y. y.looks) t'.is ∙ (ap (λ y. y.looks) is ∙ (ap (λ y. y.looks) t.is ∙ ap (λ y. y.looks) l.is))));
+      missed = ap (λ y. y.missed) is' ∙ (ap (λ y. y.missed) t'.is ∙ (ap (λ y. y.missed) is ∙ (ap (λ y. y.missed) t.is ∙ ap (λ y. y.missed) l.is)));
+      party = ap (λ y. y.party) is' ∙ (ap (λ y. y.party) t'.is ∙ (ap (λ y. y.party) is ∙ (ap (λ y. y.party) t.is ∙ ap (λ y. y.party) l.is)));
+      start = ap (λ y. y.start) is' ∙ (ap (λ y. y.start) t'.is ∙ (ap (λ y. y.start) is ∙ (ap (λ y. y.start) t.is ∙ ap (λ y. y.start) l.is)));
+    }
+
+-- what is held of other counters stays where the second is raised and given back
+next_held : (z w' z' : K) (place p x i : ℕ) (k : List Deal) → part_of counter_parts 1 z.seen ≡ Some x → Committed counters z (Raise p 1) place k w' → z' ≡ gave_back w' 1 → i ≢ 1 → held_at z'.held i ≡ held_at z.held i
+next_held z w' z' place p x i k here t is ne =
+    let off : is_among (counters.shards_of z.seen (Raise p 1)) i ≡ false = subst (λ y. is_among y i ≡ false) (sym (one_shard p 1 x z.seen here)) (ap (λ b. b || false) (ne_eqb i 1 ne)) in
+    ap (λ y. held_at y.held i) is ∙ (held_else w'.held 1 i None ne ∙ (ap (λ y. held_at y.held i) t.is ∙ held_apart (counters.shards_of z.seen (Raise p 1)) (k ++ Raise p 1 ∷ []) z.held i off))
+
+pub both_given : (v u w z w' z' : K) (number place place' p a b : ℕ) (h k k' : List Deal) → Looked counters v number h u → part_of counter_parts 0 u.seen ≡ Some a → Committed counters u (Raise p 0) place k w → z ≡ gave_back w 0
+    → part_of counter_parts 1 z.seen ≡ Some b → Committed counters z (Raise p 1) place' k' w' → z' ≡ gave_back w' 1 → ((i : ℕ) → 1 < i → held_at v.held i ≡ None) → (i : ℕ) → held_at z'.held i ≡ None
+both_given v u w z w' z' number place place' p a b h k k' l here t is there t' is' others i = dite (ℕ_discrete i 1)
+    (λ same. subst (λ j. held_at z'.held j ≡ None) (sym same) (given w' z' 1 is'))
+    (λ ne. next_held z w' z' place' p b i k' there t' is' ne ∙ dite (ℕ_discrete i 0)
+    (λ same. subst (λ j. held_at z.held j ≡ None) (sym same) (given w z 0 is))
+    (λ apart. other_held v u w z number place 0 p i h k a l here t is apart ∙ others i (omega arith)))

@@ -6,7 +6,7 @@ ghost use Rattle.commit_table.specs.Views.{held_at};
 ghost use Rattle.commit_table.specs.Counters.{most, counters};
 ghost use Rattle.commit_table.specs.Calls.{IsOf, HoldsNone};
 ghost use Rattle.commit_table.specs.Attempts.{Recorded};
-ghost use Rattle.commit_table.specs.Outcomes.{Told};
+ghost use Rattle.commit_table.specs.Outcomes.{Told, RaisedBoth};
 
 use crate::pass::Pass;
 use crate::sharded::Sharded;
@@ -95,6 +95,32 @@ pub fn raise(table: &CommitTable<Counters>, pass: &mut Pass<Counters>, counter: 
     table.look(pass);
     table.give_back(pass, counter, value);
     Outcome::Stuck
+}
+
+/// Raises both counters, which the pass holds, and gives them back. One look serves both events, since a commit leaves the
+/// other counter as it is held. The place of the second event is answered.
+pub fn raise_both_held(
+    table: &CommitTable<Counters>,
+    pass: &mut Pass<Counters>,
+    first: u64,
+    second: u64,
+) -> u64
+    requires pass { IsOf table.now pass.old }
+    requires first { (g : List Deal) × (held_at pass.old.known.held 0 ≡ Some g) × counters.Stands 0 first g }
+    requires second { (g : List Deal) × (held_at pass.old.known.held 1 ≡ Some g) × counters.Stands 1 second g }
+    requires room { (first < most) × (second < most) }
+    requires others { (i : ℕ) → 1 < i → held_at pass.old.known.held i ≡ None }
+    ensures table { pass.new.table ≡ pass.old.table }
+    ensures told { (p : ℕ) × (pass.old.known.party ≡ Some p) × RaisedBoth pass.old.known p result pass.new.known }
+    ensures free { HoldsNone pass.new.known }
+{
+    table.look(pass);
+    let party = CommitTable::number(pass);
+    let _ = table.commit(pass, &Deal::Raise(party, 0));
+    table.give_back(pass, 0, first + 1);
+    let place = table.commit(pass, &Deal::Raise(party, 1));
+    table.give_back(pass, 1, second + 1);
+    place
 }
 
 /// Carries 1 from the first counter to the second, which the pass holds both, and gives them back.

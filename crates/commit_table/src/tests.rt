@@ -1,7 +1,8 @@
 //! Threads that raise two counters over one table.
 
 use crate::{
-    CommitTable, Game, Outcome, carry, end_game, raise, raise_held, raised_by_two, start_game,
+    CommitTable, Game, Outcome, carry, end_game, raise, raise_both_held, raise_held, raised_by_two,
+    start_game,
 };
 use std::alloc::Global;
 use std::test::Fail;
@@ -70,6 +71,28 @@ fn two_threads_raise_one_counter(rt: HostRuntime) -> Result<(), Fail> {
     let ended = raised_by_two(&rt, rt.alloc(), 1, 1, 10_000)?;
     assert!(rt; ended.tally.events() == 20_000);
     assert!(rt; ended.shards.as_slice() == [0, 20_000].as_slice());
+    Ok(())
+}
+
+#[test]
+fn one_look_serves_two_events(rt: HostRuntime) -> Result<(), Fail> {
+    let alloc: Global = rt.alloc();
+    let Game {
+        table,
+        mut first,
+        second,
+    } = start_game(alloc)?;
+    let Some(one) = table.try_take(&mut first, 0) else {
+        panic!(rt; "the first counter was held")
+    };
+    let Some(two) = table.try_take(&mut first, 1) else {
+        panic!(rt; "the second counter was held")
+    };
+    assert!(rt; one == 0 && two == 0);
+    let place = raise_both_held(&table, &mut first, one, two);
+    let ended = end_game(alloc, table, first, second)?;
+    assert!(rt; place == 1 && ended.tally.events() == 2);
+    assert!(rt; ended.shards.as_slice() == [1, 1].as_slice());
     Ok(())
 }
 
