@@ -6,7 +6,7 @@
 //! seen, its own events, its looks, and the shards that it holds.
 //!
 //! `specs/Machine.antt` says what a machine has to be, `specs/Rule.antt` what holds between any two steps, and
-//! `specs/Calls.antt` what each call tells. Nothing here waits, and nothing but `CommitTable::new` takes memory.
+//! `specs/Calls.antt` what each call tells. No call of the table waits, and `CommitTable::new` alone takes memory.
 #![tactic(auto)]
 
 mod board;
