@@ -2,6 +2,7 @@
 use Rattle.std.proofs.Common.{◌≡◌, ◌≢◌, ℕ, zero, suc, ◌+◌, ◌%◌, ◌^◌, ◌<◌, ◌≤◌, ◌⊎◌, inl, inr, ⊎_elim, Bool, true, false, cond, eq-eqb, ne_eqb, List, [], ◌∷◌, ◌++◌, length, get_or, set, All, Option, None, Some, refl, ap, sym, subst, ◌∙◌, arith, append-nil, length-append}
 use mathlib.Core.Logic.{dite}
 use mathlib.Core.Option.{some, none}
+use mathlib.Core.List.{IsPrefix}
 use native.Mathlib.Decide.{ℕ_discrete}
 use lib.ListN.{get_elem?}
 use Rattle.std.proofs.lemmas.List.{get_or-set_same, get_or-set_other}
@@ -17,6 +18,7 @@ use Rattle.commit_table.specs.Views.{held_at, mine_after, looked, committed, at_
 use Rattle.commit_table.specs.Rule.{Held, IsShard, Answers, IsParty, Fits, Rule}
 use Rattle.commit_table.specs.Steps.{Sees, Adds, looks, adds}
 use Rattle.commit_table.proofs.Lists.{prefix_self, prefix_none, prefix_more, prefix_length, at_here, one_there, events_by-append, held_among, held_apart}
+use Rattle.commit_table.proofs.Turning.{turned_kept}
 use Rattle.commit_table.proofs.Moves.{with_view, still}
 use Rattle.commit_table.proofs.Holding.{rest_fits, told, own_shard}
 
@@ -45,18 +47,18 @@ by_own party p h e f = events_by-append party p h (e ∷ []) ∙ own_party p (pa
 
 module _ {S X E : Type 0} (of : S → Machine X E) (laws : (s : S) → Laws (of s)) (start : S) (n : ℕ) where
   look_rest : (slots id : ℕ) (v : Known S E) (heard : List E)
-      → Allows (Rule (of start) start n) slots id (hearing v heard, []) 0 (λ x. x) (looks of (step slots 0 0 0 none) (hearing v heard, []))
+      → Allows (Rule (of start) start n) slots id (hearing v heard, []) 0 (λ x. x) (looks of n (step slots 0 0 0 none) (hearing v heard, []))
   look_rest slots id v heard s r wide at _ =
       let h = r.history in
       let f = r.views id (hearing v heard) at in
       let w = at_rest (looked v h) in
       let longer : length v.seen ≤ length h = prefix_length v.seen h f.seen in
       let seen : All (λ k. k ≤ length h) (v.looks ++ length h ∷ []) = All-append (λ k. k ≤ length h) v.looks (length h ∷ []) (λ k d lt. let a = f.looks k d lt in omega arith) (all_one (λ k. k ≤ length h) (length h) (omega arith)) in
-      let fits = rest_fits of laws start n h r.holder r.seat id (looked v h) None [] f.begun (prefix_self h) (prefix_none h) seen f.party f.held f.none in (
+      let fits = rest_fits of laws start n h r.holder r.seat id (looked v h) None [] f.begun (prefix_self h) (prefix_none h) seen (λ p e. (f.party p e).2) f.party f.held f.none in (
         w,
         keeps,
         tt,
-        still (of start) start n s r id (hearing v heard) w at 0 refl refl (λ q a. a) fits,
+        still (of start) start n s r id (hearing v heard) w at 0 refl refl (λ q a. a) fits (λ q its. its) (λ q a. a) (r.turned.met id (hearing v heard) at),
         (
           h,
           refl,
@@ -68,12 +70,14 @@ module _ {S X E : Type 0} (of : S → Machine X E) (laws : (s : S) → Laws (of 
             own = λ p e. (f.party p e).2;
             held = λ i g e. let own = own_shard of laws start n s r id (hearing v heard) at i g e in (own.2, own.3);
           }),
+          λ p e. (f.party p e).0,
         ),
       )
 
-  pub look_allowed : (slots id : ℕ) (me : Me (Option X) (View S E)) → me ≡ (hearing me.0.known me.0.heard, [])
-      → Allows (Rule (of start) start n) slots id me 0 (λ x. x) (looks of (step slots 0 0 0 none) me)
-  look_allowed slots id me ready = subst (λ z. Allows (Rule (of start) start n) slots id z 0 (λ x. x) (looks of (step slots 0 0 0 none) z)) (sym ready) (look_rest slots id me.0.known me.0.heard)
+  pub look_allowed : (slots id k : ℕ) (me : Me (Option X) (View S E)) → me ≡ (hearing me.0.known me.0.heard, []) → k ≡ n
+      → Allows (Rule (of start) start n) slots id me 0 (λ x. x) (looks of k (step slots 0 0 0 none) me)
+  look_allowed slots id k me ready count = subst (λ c. Allows (Rule (of start) start n) slots id me 0 (λ x. x) (looks of c (step slots 0 0 0 none) me)) (sym count)
+      (subst (λ z. Allows (Rule (of start) start n) slots id z 0 (λ x. x) (looks of n (step slots 0 0 0 none) z)) (sym ready) (look_rest slots id me.0.known me.0.heard))
 
   -- a shard apart from the event's, or one of them, after the event
   shard_apart : (s : State (Option X) (View S E)) (h : List E) (e : E) (ws : List ℕ) (id : ℕ) (v w : View S E) (j : ℕ)
@@ -128,6 +132,7 @@ module _ {S X E : Type 0} (of : S → Machine X E) (laws : (s : S) → Laws (of 
         seen = prefix_more u.known.seen h (e ∷ []) f.seen;
         heard = prefix_more u.heard h (e ∷ []) f.heard;
         looks = f.looks;
+        own_seen = f.own_seen;
         party = λ q own. let a = f.party q own in (a.0, a.1, apart q a.1 ∙ a.2);
         makes = λ q low high. let a = f.makes q low high in (a.0, a.1, apart q a.1 ∙ a.2, a.3);
         held = f.held;
@@ -175,17 +180,24 @@ module _ {S X E : Type 0} (of : S → Machine X E) (laws : (s : S) → Laws (of 
       let mine : events_by m.party p h' ≡ w'.mine = by_own m.party p h e by ∙ ap (λ z. mine_after (m.party e) z e) own.2 in
       let mine_of : (q : ℕ) → p ≡ q → (q < n) × (r.seat q ≡ Some id) × (events_by m.party q h' ≡ w'.mine) = λ q e. subst (λ z. (z < n) × (r.seat z ≡ Some id) × (events_by m.party z h' ≡ w'.mine)) e (own.0, own.1, mine) in
       let seen : All (λ k. k ≤ length h') v.looks = λ k d lt. let a = f.looks k d lt in let b = prefix_length v.seen h f.seen in omega arith in
-      let fits = rest_fits of laws start n h' r.holder r.seat id w' None [] f.begun (prefix_self h') (prefix_none h') seen
+      let fits = rest_fits of laws start n h' r.holder r.seat id w' None [] f.begun (prefix_self h') (prefix_none h') seen (λ q its. (mine_of q (let a : p ≡ q = cc in a)).2)
       (λ q its. mine_of q (let a : p ≡ q = cc in a))
       (λ j g its. ⊎_elim
       (λ on. let a = holds j on in f.held j a.0 a.1)
       (λ off. f.held j g (sym (held_apart is h' v.held j off) ∙ its))
       (either_way (is_among is j)))
       (λ none. absurd cc) in
+      let held : (j : ℕ) (g : List E) → held_at w'.held j ≡ Some g → IsPrefix g h' × m.Agree j g h' = λ j g its. ⊎_elim
+      (λ on. let there = held_among is h' v.held j on in let whole : h' ≡ g = cc in subst (λ z. IsPrefix z h' × m.Agree j z h') whole (prefix_self h', l.agree_self j h'))
+      (λ off.
+      let own_j = own_shard of laws start n s r id (at_rest v) at j g (sym (held_apart is h' v.held j off) ∙ its) in
+      (prefix_more g h (e ∷ []) own_j.2, l.agree_through j g h h' own_j.3 (l.frame h e j legal (subst (λ z. is_among z j ≡ false) same off))))
+      (either_way (is_among is j)) in
       let rule : Rule m start n (with_view m start n s ws s.homes id w) = record {
         history = h';
         holder = r.holder;
         seat = r.seat;
+        turns = r.turns;
         size = length-set s.words 0 ((x + 1) % 2 ^ 64) ∙ r.size;
         legal = legal;
         word = get_or-set_same s.words 0 ((x + 1) % 2 ^ 64) 0 (omega arith) ∙ counted;
@@ -212,12 +224,13 @@ module _ {S X E : Type 0} (of : S → Machine X E) (laws : (s : S) → Laws (of 
             (λ t. subst (λ (z : ℕ). Fits m start n h' r.holder r.seat z u) (sym t.0) (subst (λ (z : View S E). Fits m start n h' r.holder r.seat id z) t.1 fits))
             (λ t. fits_added h e r.holder r.seat id k p u t.0 own.0 own.1 by (r.views k u t.1))
             (at_set s.views id k w u there);
+        turned = turned_kept m.shards s.views r.turns r.holder r.holder r.seat id (at_rest v) w at (λ j lt. refl) (λ j lt its q a. a) (λ q a. a) (r.turned.met id (at_rest v) at) r.turned;
       } in (
         w,
         keeps,
         tt,
         rule,
-        (e, refl, (h, w', refl, told of laws start n s r id (at_rest v) at (λ z. Adds of z v e x h w') (record { is = refl; number = r.word; legal = legal; seen = f.seen; agrees = agree; own = λ q its. (mine_of q (let a : p ≡ q = cc in a)).2 }))),
+        (e, refl, (h, w', refl, told of laws start n s r id (at_rest v) at (λ z. Adds of z v e x h w') (record { is = refl; number = r.word; legal = legal; seen = f.seen; agrees = agree; own = λ q its. (mine_of q (let a : p ≡ q = cc in a)).2; held = held }))),
       )
 
   pub add_allowed : (slots id : ℕ) (me : Me (Option X) (View S E)) (told : List E) (e : E) → me ≡ (at_rest me.0.known, []) → told ≡ e ∷ [] → (p : ℕ) → me.0.known.party ≡ Some p

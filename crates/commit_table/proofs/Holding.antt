@@ -1,5 +1,5 @@
 -- The steps on a shard's word keep the rule: it is taken or missed, its slot goes home or out, and it is freed.
-use Rattle.std.proofs.Common.{◌≡◌, ◌≢◌, ℕ, suc, ◌+◌, add-one, ◌<◌, ◌≤◌, ◌⊎◌, inl, inr, false, eqb, List, [], ◌∷◌, length, get_or, set, All, Option, None, Some, refl, sym, subst, ◌∙◌, arith}
+use Rattle.std.proofs.Common.{◌≡◌, ◌≢◌, ℕ, suc, ◌+◌, add-one, ◌<◌, ◌≤◌, ◌⊎◌, inl, inr, true, false, eqb, List, [], ◌∷◌, length, get_or, set, All, Option, None, Some, refl, ap, sym, subst, ◌∙◌, arith}
 use mathlib.Core.Logic.{dite}
 use mathlib.Core.Option.{some, none}
 use mathlib.Core.List.{IsPrefix}
@@ -11,11 +11,15 @@ use Rattle.atomic_table.specs.Table.{State, Me, Act, keeps, takes as carries, gi
 use Rattle.atomic_table.proofs.Lists.{set_here, set_else, exchanged}
 use Rattle.commit_table.specs.declared.views.Known.{Known}
 use Rattle.commit_table.specs.declared.views.View.{View}
-use Rattle.commit_table.specs.Machine.{Machine, Laws, events_by}
+use Rattle.commit_table.specs.Machine.{Machine, Laws, events_by, IsOwn}
+use Rattle.commit_table.specs.declared.views.Turn.{Turn}
+use Rattle.commit_table.specs.Turns.{IsTaken}
 use Rattle.commit_table.specs.Views.{held_at, took, missed, gave_back, at_rest, reaching}
 use Rattle.commit_table.specs.Rule.{Free, Held, IsShard, Fits, Rule}
+use Rattle.commit_table.specs.Calls.{IsSound, Met}
 use Rattle.commit_table.specs.Steps.{Of, Takes, Reaches, takes, parks, reaches, frees}
 use Rattle.commit_table.proofs.Lists.{prefix_self, at_here, one_there, held_here, held_else}
+use Rattle.commit_table.proofs.Turning.{none_since, own_turns, turn_made, turned_kept}
 use Rattle.commit_table.proofs.Moves.{with_view, still, moved, updated, updated_here, updated_else}
 
 module _ {S X E : Type 0} (of : S → Machine X E) (laws : (s : S) → Laws (of s)) (start : S) (n : ℕ) where
@@ -39,16 +43,17 @@ module _ {S X E : Type 0} (of : S → Machine X E) (laws : (s : S) → Laws (of 
   resting v out heard = record { known = v; out = out; heard = heard; gives = 0; ends = 0; gathers = false; gathered = []; closed = false }
 
   pub rest_fits : (h : List E) (holder seat : ℕ → Option ℕ) (id : ℕ) (v : K) (out : Option ℕ) (heard : List E)
-      → ((s : S) → v.start ≡ Some s → s ≡ start) → IsPrefix v.seen h → IsPrefix heard h → All (λ k. k ≤ length v.seen) v.looks
+      → ((s : S) → v.start ≡ Some s → s ≡ start) → IsPrefix v.seen h → IsPrefix heard h → All (λ k. k ≤ length v.seen) v.looks → IsOwn m v.party v.seen v.mine
       → ((p : ℕ) → v.party ≡ Some p → (p < n) × (seat p ≡ Some id) × (events_by m.party p h ≡ v.mine))
       → ((i : ℕ) (g : List E) → held_at v.held i ≡ Some g → (i < m.shards) × (holder i ≡ Some id))
       → (v.party ≡ None → (i : ℕ) → held_at v.held i ≡ None)
       → Fits m start n h holder seat id (resting v out heard)
-  rest_fits h holder seat id v out heard begun seen told looks party held bare = record {
+  rest_fits h holder seat id v out heard begun seen told looks own party held bare = record {
     begun = begun;
     seen = seen;
     heard = told;
     looks = looks;
+    own_seen = own;
     party = party;
     makes = λ p low high. absurd (omega arith);
     held = held;
@@ -61,6 +66,12 @@ module _ {S X E : Type 0} (of : S → Machine X E) (laws : (s : S) → Laws (of 
   -- a fact about the machine of the table's start is one about the machine of the view's
   pub told : (s : St) (r : R s) (id : ℕ) (v : View S E) → get_elem? s.views id ≡ some v → (P : Machine X E → Type 0) → P m → Of of v.known P
   told s r id v at P p st e = subst (λ z. P (of z)) (sym ((r.views id v at).begun st e)) p
+
+  -- what a view has seen is legal, and has its own events
+  pub sound : (s : St) (r : R s) (id : ℕ) (v : View S E) → get_elem? s.views id ≡ some v → IsSound m v.known
+  sound s r id v at =
+      let f = r.views id v at in
+      record { legal = (laws start).beginning v.known.seen f.seen.0 (subst (λ h. m.Legal h) (sym f.seen.1) r.legal); own = f.own_seen }
 
   free_shard : (s : St) (h : List E) (i : ℕ) (o : Option ℕ) → IsShard m start n s h i o → get_or s.words (suc i) 0 ≡ 0 → (o ≡ None) × Free m start n s h i
   free_shard s h i None f z = (refl, f)
@@ -86,18 +97,58 @@ module _ {S X E : Type 0} (of : S → Machine X E) (laws : (s : S) → Laws (of 
         subst (λ (z : View S E). (z.out ≡ Some i) ⊎ ((y : Option X) × (get_elem? s.homes i ≡ some (some y)))) (sym same) d.slot,
       )
 
+  -- who holds a shard holds it still
+  held_still : (s : St) (r : R s) (id i : ℕ) → r.holder i ≡ Some id → (j : ℕ) → j < m.shards → updated m start n r.holder i (Some id) j ≡ r.holder j
+  held_still s r id i mine j lt = dite (ℕ_discrete j i)
+      (λ same. updated_here m start n r.holder i j (Some id) same ∙ (sym mine ∙ ap r.holder (sym same)))
+      (λ ne. updated_else m start n r.holder i j (Some id) ne)
+
+  -- the party that holds a shard, for the view that holds it
+  own_taker : (s : St) (r : R s) (id : ℕ) (v : View S E) → get_elem? s.views id ≡ some v → (i : ℕ) → i < m.shards → r.holder i ≡ Some id → (p : ℕ) × (v.known.party ≡ Some p)
+  own_taker s r id v at i lt mine =
+      let t : IsTaken s.views r.turns i (Some id) = subst (λ o. IsTaken s.views r.turns i o) mine (r.turned.takers i lt) in
+      let be : v ≡ t.0 = one_there s.views id v t.0 at t.2 in
+      (t.1, subst (λ (z : View S E). z.known.party ≡ Some t.1) (sym be) t.3)
+
+  -- a shard whose word is not 0 is held by a pass
+  taker_of : (s : St) (turns : List Turn) (h : List E) (i : ℕ) (o : Option ℕ) → IsShard m start n s h i o → IsTaken s.views turns i o → get_or s.words (suc i) 0 ≢ 0 → (k : ℕ) × (o ≡ Some k) × IsTaken s.views turns i (Some k)
+  taker_of s turns h i None f t z = absurd (z f.word)
+  taker_of s turns h i (Some k) f t z = (k, refl, t)
+
+  -- another pass holds a shard that was missed
+  met_other : (s : St) (r : R s) (id i p : ℕ) (v : K) → get_elem? s.views id ≡ some (at_rest v) → i < m.shards → v.party ≡ Some p → held_at v.held i ≡ None → get_or s.words (suc i) 0 ≢ 0 → Met v i r.turns
+  met_other s r id i p v at lt party free miss =
+      let f = r.views id (at_rest v) at in
+      let t = taker_of s r.turns r.history i (r.holder i) (r.shards i lt) (r.turned.takers i lt) miss in
+      let other = t.2 in
+      record {
+        goes_on = r.turned.met id (at_rest v) at;
+        own = λ q its. own_turns s.views r.turns q id (at_rest v) at refl refl (r.seat q) (f.party q its).1 (r.turned.parties q);
+        other = other.1;
+        holds = other.4;
+        apart = λ its.
+            let mine = (f.party other.1 its).1 in
+            let theirs = ((r.views t.0 other.0 other.2).party other.1 other.3).1 in
+            let same : t.0 ≡ id = cc in
+            let d : Held m start n s r.history i id = subst (λ o. IsShard m start n s r.history i o) (t.1 ∙ ap Some same) (r.shards i lt) in
+            let be : at_rest v ≡ d.view = one_there s.views id (at_rest v) d.view at d.there in
+            let held : held_at v.held i ≡ Some d.upto = subst (λ (z : View S E). held_at z.known.held i ≡ Some d.upto) (sym be) d.held in
+            absurd cc;
+      }
+
   abbrev pub Goes : St → ℕ → ℕ → Mine → (Mine → Type 0) → ℕ → Type 0
   Goes s k id me then y = (w : View S E) × (a : Act (Option X)) × Valid s.homes me.1 a × R (stepped s k y id me.1 w a) × then (w, carried_after me.1 a)
 
   same_takes : (i j x : ℕ) (v : K) (after : Mine) → Takes of i v x after → suc i ≡ j + 1 → Takes of j v x after
   same_takes i j x v after t e = subst (λ z. Takes of z v x after) (let q : i ≡ j = omega arith in q) t
 
-  take_rest : (slots id i : ℕ) (v : K) (p : ℕ) → i < m.shards → v.party ≡ Some p
+  take_rest : (slots id i : ℕ) (v : K) (p : ℕ) → i < m.shards → v.party ≡ Some p → held_at v.held i ≡ None
       → Allows R slots id (at_rest v, []) (suc i) (λ x. either (eqb x 0) 1 x) (takes of (step slots (suc i) 0 1 none) (at_rest v, []))
-  take_rest slots id i v p lt party s r wide at _ =
+  take_rest slots id i v p lt party free s r wide at _ =
       let h = r.history in
       let f = r.views id (at_rest v) at in
       let x : ℕ = get_or s.words (suc i) 0 in
+      let known : Of of v (λ z. IsSound z v) = told s r id (at_rest v) at (λ z. IsSound z v) (sound s r id (at_rest v) at) in
       let then : Mine → Type 0 = takes of (step slots (suc i) 0 1 none) (at_rest v, []) x in
       exchanged x 0 1 (λ y. Goes s (suc i) id (at_rest v, []) then y)
       (λ hit.
@@ -113,7 +164,7 @@ module _ {S X E : Type 0} (of : S → Machine X E) (laws : (s : S) → Laws (of 
         agrees = (laws start).agree_self i h;
         slot = inl refl;
       } in
-      let fits = rest_fits h (updated m start n r.holder i (Some id)) r.seat id (took v i h) (Some i) [] f.begun f.seen f.heard f.looks f.party
+      let fits = rest_fits h (updated m start n r.holder i (Some id)) r.seat id (took v i h) (Some i) [] f.begun f.seen f.heard f.looks f.own_seen f.party
       (λ j g e. dite (ℕ_discrete j i)
       (λ same. (subst (λ z. z < m.shards) (sym same) lt, updated_here m start n r.holder i j (Some id) same))
       (λ ne. let old = f.held j g (sym (held_else v.held i j (Some h) ne) ∙ e) in (old.0, updated_else m start n r.holder i j (Some id) ne ∙ old.1)))
@@ -122,17 +173,18 @@ module _ {S X E : Type 0} (of : S → Machine X E) (laws : (s : S) → Laws (of 
         carries i (Some is.1.value),
         is.1.slot,
         moved m start n s r id (at_rest v) w at i 1 (set s.homes i none) (Some id) (inl is.0)
-            (λ j ne. set_else s.homes i j none ne) (λ j ne. held_else v.held i j (Some h) ne) (λ j ne e. absurd cc) (λ q a. a) here fits,
-        λ j e. same_takes i j x v (w, (i, Some is.1.value) ∷ []) (inl (hit, (is.1.value, h, refl, f.seen, told s r id (at_rest v) at (λ z. z.Stands i is.1.value h) is.1.stands))) e,
+            (λ j ne. set_else s.homes i j none ne) (λ j ne. held_else v.held i j (Some h) ne) (λ j ne e. absurd cc) (λ q a. a) here fits
+            (record { shard = i; party = p; taken = true } ∷ r.turns) (turn_made m.shards s.views r.turns r.holder r.seat i p id (at_rest v) w true at party party refl refl refl refl (f.party p party).1 r.turned),
+        λ j e. same_takes i j x v (w, (i, Some is.1.value) ∷ []) (known, inl (hit, (is.1.value, h, refl, f.seen, told s r id (at_rest v) at (λ z. z.Stands i is.1.value h) is.1.stands))) e,
       ))
       (λ miss.
-      let w = at_rest (missed v i) in
-      let fits = rest_fits h r.holder r.seat id (missed v i) None [] f.begun f.seen f.heard f.looks f.party f.held f.none in (
+      let w = at_rest (missed v i r.turns) in
+      let fits = rest_fits h r.holder r.seat id (missed v i r.turns) None [] f.begun f.seen f.heard f.looks f.own_seen f.party f.held f.none in (
         w,
         keeps,
         tt,
-        still m start n s r id (at_rest v) w at (suc i) refl refl (λ q a. a) fits,
-        λ j e. same_takes i j x v (w, []) (inr (held_word s h i (r.holder i) (r.shards i lt) miss, refl)) e,
+        still m start n s r id (at_rest v) w at (suc i) refl refl (λ q a. a) fits (λ q its. its) (λ q a. a) (none_since r.turns),
+        λ j e. same_takes i j x v (w, []) (known, inr (held_word s h i (r.holder i) (r.shards i lt) miss, (r.turns, refl, met_other s r id i p v at lt party free miss))) e,
       ))
 
   park_rest : (slots id i : ℕ) (v : K) (y : Option X) (g : List E) → slots ≡ m.shards → held_at v.held i ≡ Some g
@@ -154,14 +206,15 @@ module _ {S X E : Type 0} (of : S → Machine X E) (laws : (s : S) → Laws (of 
         agrees = own.3;
         slot = inr (y, set_here s.homes i (some y) room);
       } in
-      let fits = rest_fits h (updated m start n r.holder i (Some id)) r.seat id v None [] f.begun f.seen f.heard f.looks f.party
+      let fits = rest_fits h (updated m start n r.holder i (Some id)) r.seat id v None [] f.begun f.seen f.heard f.looks f.own_seen f.party
       (λ j k e. let old = f.held j k e in (old.0, dite (ℕ_discrete j i) (λ same. updated_here m start n r.holder i j (Some id) same) (λ ne. updated_else m start n r.holder i j (Some id) ne ∙ old.1)))
       f.none in (
         w,
         gives,
         tt,
         moved m start n s r id (reaching v i) w at i x (set s.homes i (some y)) (Some id) (inr own.1)
-            (λ j ne. set_else s.homes i j (some y) ne) (λ j ne. refl) (λ j ne e. absurd (ne (cc))) (λ q a. a) here fits,
+            (λ j ne. set_else s.homes i j (some y) ne) (λ j ne. refl) (λ j ne e. absurd (ne (cc))) (λ q a. a) here fits
+            r.turns (turned_kept m.shards s.views r.turns r.holder (updated m start n r.holder i (Some id)) r.seat id (reaching v i) w at (held_still s r id i own.1) (λ j lt e q its. its) (λ q a. a) (r.turned.met id (reaching v i) at) r.turned),
         refl,
       )
 
@@ -188,14 +241,15 @@ module _ {S X E : Type 0} (of : S → Machine X E) (laws : (s : S) → Laws (of 
         agrees = own.3;
         slot = inl refl;
       } in
-      let fits = rest_fits h (updated m start n r.holder i (Some id)) r.seat id v (Some i) [] f.begun f.seen f.heard f.looks f.party
+      let fits = rest_fits h (updated m start n r.holder i (Some id)) r.seat id v (Some i) [] f.begun f.seen f.heard f.looks f.own_seen f.party
       (λ j k e. let old = f.held j k e in (old.0, dite (ℕ_discrete j i) (λ same. updated_here m start n r.holder i j (Some id) same) (λ ne. updated_else m start n r.holder i j (Some id) ne ∙ old.1)))
       f.none in (
         w,
         carries i home.0,
         home.1,
         moved m start n s r id (at_rest v) w at i x (set s.homes i none) (Some id) (inr own.1)
-            (λ j ne. set_else s.homes i j none ne) (λ j ne. refl) (λ j ne e. absurd cc) (λ q a. a) here fits,
+            (λ j ne. set_else s.homes i j none ne) (λ j ne. refl) (λ j ne e. absurd cc) (λ q a. a) here fits
+            r.turns (turned_kept m.shards s.views r.turns r.holder (updated m start n r.holder i (Some id)) r.seat id (at_rest v) w at (held_still s r id i own.1) (λ j lt e q its. its) (λ q a. a) (r.turned.met id (at_rest v) at) r.turned),
         λ j e. subst (λ z. Reaches of z v (w, (i, home.0) ∷ [])) (let q : i ≡ j = omega arith in q) (home.0, refl),
       )
 
@@ -206,6 +260,7 @@ module _ {S X E : Type 0} (of : S → Machine X E) (laws : (s : S) → Laws (of 
       let f = r.views id (reaching v i) at in
       let own = own_shard s r id (reaching v i) at i g held in
       let w = at_rest (gave_back v i) in
+      let taker = own_taker s r id (reaching v i) at i own.0 own.1 in
       let room : i < length s.homes = let lt = own.0 in omega (arith, wide, sized) in
       let here : Free m start n (with_view m start n s (set s.words (suc i) 0) (set s.homes i (some (Some x))) id w) h i = record {
         word = get_or-set_same s.words (suc i) 0 0 (let lt = own.0 in let z = r.size in omega (arith, z));
@@ -213,7 +268,7 @@ module _ {S X E : Type 0} (of : S → Machine X E) (laws : (s : S) → Laws (of 
         slot = set_here s.homes i (some (Some x)) room;
         stands = (laws start).stands i x g h stands own.3;
       } in
-      let fits = rest_fits h (updated m start n r.holder i None) r.seat id (gave_back v i) None [] f.begun f.seen f.heard f.looks f.party
+      let fits = rest_fits h (updated m start n r.holder i None) r.seat id (gave_back v i) None [] f.begun f.seen f.heard f.looks f.own_seen f.party
       (λ j k e. dite (ℕ_discrete j i)
       (λ same. let z : held_at ((i, None) ∷ v.held) j ≡ None = subst (λ q. held_at ((i, None) ∷ v.held) q ≡ None) (sym same) (held_here v.held i None) in absurd cc)
       (λ ne. let old = f.held j k (sym (held_else v.held i j None ne) ∙ e) in (old.0, updated_else m start n r.holder i j None ne ∙ old.1)))
@@ -224,14 +279,15 @@ module _ {S X E : Type 0} (of : S → Machine X E) (laws : (s : S) → Laws (of 
         gives,
         tt,
         moved m start n s r id (reaching v i) w at i 0 (set s.homes i (some (Some x))) None (inr own.1)
-            (λ j ne. set_else s.homes i j (some (Some x)) ne) (λ j ne. held_else v.held i j None ne) (λ j ne e. absurd (ne (cc))) (λ q a. a) here fits,
+            (λ j ne. set_else s.homes i j (some (Some x)) ne) (λ j ne. held_else v.held i j None ne) (λ j ne e. absurd (ne (cc))) (λ q a. a) here fits
+            (record { shard = i; party = taker.0; taken = false } ∷ r.turns) (turn_made m.shards s.views r.turns r.holder r.seat i taker.0 id (reaching v i) w false at taker.1 taker.1 refl refl refl refl (f.party taker.0 taker.1).1 r.turned),
         λ j e. let P : ℕ → Type 0 = λ z. ◌≡◌ {A = Mine} (w, []) (at_rest (gave_back v z), []) in subst P (let q : i ≡ j = omega arith in q) refl,
       )
 
-  pub take_allowed : (slots id i : ℕ) (me : Mine) → me ≡ (at_rest me.0.known, []) → (p : ℕ) → i < m.shards → me.0.known.party ≡ Some p
+  pub take_allowed : (slots id i : ℕ) (me : Mine) → me ≡ (at_rest me.0.known, []) → (p : ℕ) → i < m.shards → me.0.known.party ≡ Some p → held_at me.0.known.held i ≡ None
       → Allows R slots id me (i + 1) (λ x. either (eqb x 0) 1 x) (takes of (step slots (i + 1) 0 1 none) me)
-  take_allowed slots id i me ready p lt party = subst (λ k. Allows R slots id me k (λ x. either (eqb x 0) 1 x) (takes of (step slots k 0 1 none) me)) (sym (add-one i))
-      (subst (λ z. Allows R slots id z (suc i) (λ x. either (eqb x 0) 1 x) (takes of (step slots (suc i) 0 1 none) z)) (sym ready) (take_rest slots id i me.0.known p lt party))
+  take_allowed slots id i me ready p lt party free = subst (λ k. Allows R slots id me k (λ x. either (eqb x 0) 1 x) (takes of (step slots k 0 1 none) me)) (sym (add-one i))
+      (subst (λ z. Allows R slots id z (suc i) (λ x. either (eqb x 0) 1 x) (takes of (step slots (suc i) 0 1 none) z)) (sym ready) (take_rest slots id i me.0.known p lt party free))
 
   pub park_allowed : (slots id i : ℕ) (me : Mine) (y : Option X) → me ≡ (reaching me.0.known i, (i, y) ∷ []) → (g : List E) → slots ≡ m.shards → held_at me.0.known.held i ≡ Some g
       → Allows R slots id me (i + 1) (λ x. x) (parks of (step slots (i + 1) 0 0 none) me)

@@ -21,6 +21,8 @@ use Rattle.commit_table.specs.Rule.{Free, Held, IsShard, Remembers, Answers, IsP
 use Rattle.commit_table.specs.Calls.{AreShards, Closed, PassValue}
 use Rattle.commit_table.specs.Steps.{Ends, opens, ends}
 use Rattle.commit_table.proofs.Lists.{prefix_self, prefix_none, at_here, one_there, at_end, found_there, get_some, some_get}
+use Rattle.commit_table.specs.Turns.{turns_by, GoOn, AreTurns}
+use Rattle.commit_table.proofs.Turning.{none_before, own_turns, unmade_turns, taken_kept, taken_grown, turns_kept, turns_grown, turned_kept, turned_grown}
 use Rattle.commit_table.proofs.Moves.{with_view, shard_kept, party_kept, still, updated, updated_here, updated_else}
 use Rattle.commit_table.proofs.Holding.{rest_fits}
 
@@ -50,11 +52,12 @@ module _ {S X E : Type 0} (of : S → Machine X E) (laws : (s : S) → Laws (of 
   party_grown s h u p (Some k) r = (r.0, at_longer s.views (u ∷ []) k r.0 r.1, r.2)
 
   -- a new view that has no party
-  pub grown : (s : St) (r : R s) (u : V) → Fits M start n r.history r.holder r.seat (length s.views) u → R (with_one s u)
-  grown s r u fits = record {
+  pub grown : (s : St) (r : R s) (u : V) → u.known.met ≡ [] → Fits M start n r.history r.holder r.seat (length s.views) u → R (with_one s u)
+  grown s r u bare fits = record {
     history = r.history;
     holder = r.holder;
     seat = r.seat;
+    turns = r.turns;
     size = r.size;
     legal = r.legal;
     word = r.word;
@@ -63,6 +66,7 @@ module _ {S X E : Type 0} (of : S → Machine X E) (laws : (s : S) → Laws (of 
     views = λ k w there. ⊎_elim (λ t. r.views k w t)
         (λ t. subst (λ (z : ℕ). Fits M start n r.history r.holder r.seat z w) (sym t.0) (subst (λ (z : V). Fits M start n r.history r.holder r.seat (length s.views) z) t.1 fits))
         (at_end s.views u w k there);
+    turned = turned_grown M.shards s.views r.turns r.holder r.seat u bare r.turned;
   }
 
   bare_fits : (h : List E) (holder seat : ℕ → Option ℕ) (id : ℕ) (v : Known S E) (out : Option ℕ) (heard : List E)
@@ -70,6 +74,7 @@ module _ {S X E : Type 0} (of : S → Machine X E) (laws : (s : S) → Laws (of 
   bare_fits h holder seat id v out heard begun seen party looks held =
       rest_fits of laws start n h holder seat id v None [] begun seen (prefix_none h)
       (subst (λ ks. All (λ k. k ≤ length v.seen) ks) (sym looks) (All-nil (λ k. k ≤ length v.seen)))
+      (λ p e. absurd cc)
       (λ p e. absurd cc) (λ i g e. let a : held_at v.held i ≡ None = ap (λ z. held_at z i) held in absurd cc) (λ e i. ap (λ z. held_at z i) held)
 
   pub note_splits : (id : ℕ) (v : Known S E) → Splits R id (at_rest v) (at_rest v) (at_rest (noted v))
@@ -77,7 +82,7 @@ module _ {S X E : Type 0} (of : S → Machine X E) (laws : (s : S) → Laws (of 
       let f = r.views id (at_rest v) at in
       let u = at_rest (noted v) in
       subst (λ (vs : List V). R (record { words = s.words; homes = s.homes; views = vs ++ u ∷ [] })) (sym (set_again s.views id (at_rest v) at))
-      (grown s r u (bare_fits r.history r.holder r.seat (length s.views) (noted v) None [] f.begun f.seen refl refl refl))
+      (grown s r u refl (bare_fits r.history r.holder r.seat (length s.views) (noted v) None [] f.begun f.seen refl refl refl))
 
   -- a view that takes in passes, or remembers what they were
   keeper_fits : (h : List E) (holder seat : ℕ → Option ℕ) (id : ℕ) (v : V) → ((s : S) → v.known.start ≡ Some s → s ≡ start) → IsPrefix v.known.seen h
@@ -90,6 +95,7 @@ module _ {S X E : Type 0} (of : S → Machine X E) (laws : (s : S) → Laws (of 
     seen = seen;
     heard = subst (λ z. IsPrefix z h) (sym heard) (prefix_none h);
     looks = subst (λ ks. All (λ k. k ≤ length v.known.seen) ks) (sym looks) (All-nil (λ k. k ≤ length v.known.seen));
+    own_seen = λ p e. absurd cc;
     party = λ p e. absurd cc;
     makes = λ p low high. absurd (omega arith);
     held = λ i g e. let a : held_at v.known.held i ≡ None = ap (λ z. held_at z i) held in absurd cc;
@@ -105,12 +111,12 @@ module _ {S X E : Type 0} (of : S → Machine X E) (laws : (s : S) → Laws (of 
       let f = r.views id v at in
       let u = tally_of v in
       subst (λ (vs : List V). R (record { words = s.words; homes = s.homes; views = vs ++ u ∷ [] })) (sym (set_again s.views id v at))
-      (grown s r u (keeper_fits r.history r.holder r.seat (length s.views) u f.begun f.seen refl refl refl refl refl (λ e. absurd cc) (λ e. absurd cc)))
+      (grown s r u refl (keeper_fits r.history r.holder r.seat (length s.views) u f.begun f.seen refl refl refl refl refl (λ e. absurd cc) (λ e. absurd cc)))
 
   pub opens_enters : (slots : ℕ) → Enters R slots 0 (λ x w. opens of (step slots 0 0 0 none) (maker start 0 n, []) x (w, []))
   opens_enters slots s r wide _ =
       let u = gatherer start [] in
-      (u, grown s r u (keeper_fits r.history r.holder r.seat (length s.views) u (λ z e. cc) (prefix_none r.history) refl refl refl refl refl (λ e k w there. absurd (some-ne-none w (sym there))) (λ e. absurd cc)), refl)
+      (u, grown s r u refl (keeper_fits r.history r.holder r.seat (length s.views) u (λ z e. cc) (prefix_none r.history) refl refl refl refl refl (λ e k w there. absurd (some-ne-none w (sym there))) (λ e. absurd cc)), refl)
 
   -- other views, where a party changes hands that was not theirs
   fits_seat : (h : List E) (holder seat seat' : ℕ → Option ℕ) (k : ℕ) (u : V) → ((p : ℕ) → seat p ≡ Some k → seat' p ≡ Some k)
@@ -120,6 +126,7 @@ module _ {S X E : Type 0} (of : S → Machine X E) (laws : (s : S) → Laws (of 
     seen = f.seen;
     heard = f.heard;
     looks = f.looks;
+    own_seen = f.own_seen;
     party = λ p e. let a = f.party p e in (a.0, same p a.1, a.2);
     makes = λ p low high. let a = f.makes p low high in (a.0, same p a.1, a.2, a.3);
     held = f.held;
@@ -135,6 +142,7 @@ module _ {S X E : Type 0} (of : S → Machine X E) (laws : (s : S) → Laws (of 
     seen = prefix_none h;
     heard = prefix_none h;
     looks = All-nil (λ j. j ≤ 0);
+    own_seen = λ p e. absurd cc;
     party = λ p e. absurd cc;
     makes = λ p low high. let a = rest p low high in (high, a.0, a.1, refl);
     held = λ i g e. absurd cc;
@@ -156,13 +164,14 @@ module _ {S X E : Type 0} (of : S → Machine X E) (laws : (s : S) → Laws (of 
       let seat' = updated M start n r.seat k (Some new) in
       let one = with_view M start n s s.words s.homes id left in
       let mine = f.makes k (omega arith) lt in
-      let own = rest_fits of laws start n h r.holder seat' new (new_pass start (Some k) []) None [] (λ z e. cc) (prefix_none h) (prefix_none h) (All-nil (λ j. j ≤ 0))
+      let own = rest_fits of laws start n h r.holder seat' new (new_pass start (Some k) []) None [] (λ z e. cc) (prefix_none h) (prefix_none h) (All-nil (λ j. j ≤ 0)) (λ p e. refl)
       (λ p e. let q : k ≡ p = cc in subst (λ z. (z < n) × (seat' z ≡ Some new) × (events_by M.party z h ≡ [])) q (lt, updated_here M start n r.seat k k (Some new) refl, mine.2)) (λ i g e. absurd cc) (λ e i. refl) in
       let rest = maker_fits h r.holder seat' id (k + 1) (λ p low high. let a = f.makes p (omega arith) high in (updated_else M start n r.seat k p (Some new) (λ e. absurd (omega arith)) ∙ a.1, a.2)) in
       record {
         history = h;
         holder = r.holder;
         seat = seat';
+        turns = r.turns;
         size = r.size;
         legal = r.legal;
         word = r.word;
@@ -179,11 +188,24 @@ module _ {S X E : Type 0} (of : S → Machine X E) (laws : (s : S) → Laws (of 
             (at_set s.views id j left u t))
             (λ t. subst (λ (i : ℕ). Fits M start n h r.holder seat' i u) (sym t.0) (subst (λ (i : V). Fits M start n h r.holder seat' new i) t.1 own))
             (at_end (set s.views id left) right u j there);
+        turned = record {
+          takers = λ i below. taken_grown (set s.views id left) r.turns i right (r.holder i) (taken_kept s.views r.turns i id v left at (r.holder i) (λ e p its. absurd cc) (r.turned.takers i below));
+          parties = λ p. dite (ℕ_discrete p k)
+              (λ same. subst (λ o. AreTurns (set s.views id left ++ right ∷ []) r.turns p o) (sym (updated_here M start n r.seat k p (Some new) same))
+              (right, at_last (set s.views id left) right new refl, inl (ap Some (sym same), ap (λ z. turns_by z r.turns) same ∙ unmade_turns s.views r.turns k id v at refl refl (r.seat k) mine.1 (r.turned.parties k))))
+              (λ ne. subst (λ o. AreTurns (set s.views id left ++ right ∷ []) r.turns p o) (sym (updated_else M start n r.seat k p (Some new) ne))
+              (turns_grown (set s.views id left) r.turns p right (r.seat p) (turns_kept s.views r.turns r.turns p id v left at (r.seat p)
+              (λ e a. ⊎_elim (λ x. absurd (let its = x.0 in cc)) (λ x. ⊎_elim (λ y. inr (inl (let z = y.0 in omega arith, y.1, y.2))) (λ y. absurd (let on = y.0 in cc)) x) a) refl (r.turned.parties p))));
+          met = λ j u there. ⊎_elim
+              (λ t. ⊎_elim (λ z. subst (λ (i : V). GoOn i.known.met r.turns) z.1 (none_before r.turns)) (λ z. r.turned.met j u z.1) (at_set s.views id j left u t))
+              (λ t. subst (λ (i : V). GoOn i.known.met r.turns) t.1 (none_before r.turns))
+              (at_end (set s.views id left) right u j there);
+        };
       }
 
   -- what is left of a seat fits in any place
   spent_fits : (h : List E) (holder seat : ℕ → Option ℕ) (id : ℕ) → Fits M start n h holder seat id spent
-  spent_fits h holder seat id = rest_fits of laws start n h holder seat id (spent.known) None [] (λ z e. absurd cc) (prefix_none h) (prefix_none h) (All-nil (λ j. j ≤ 0)) (λ p e. absurd cc) (λ i g e. absurd cc) (λ e i. refl)
+  spent_fits h holder seat id = rest_fits of laws start n h holder seat id (spent.known) None [] (λ z e. absurd cc) (prefix_none h) (prefix_none h) (All-nil (λ j. j ≤ 0)) (λ p e. absurd cc) (λ p e. absurd cc) (λ i g e. absurd cc) (λ e i. refl)
 
   -- a note is taken in
   pub note_joins : (id other : ℕ) (v w : Known S E) → w.party ≡ None → Joins R id (at_rest v) other (at_rest w) (hearing v w.seen) spent
@@ -195,11 +217,12 @@ module _ {S X E : Type 0} (of : S → Machine X E) (laws : (s : S) → Laws (of 
       let g = r.views other (at_rest w) was in
       let one = with_view M start n s s.words s.homes id both in
       let two = with_view M start n one s.words s.homes other spent in
-      let fits = rest_fits of laws start n h r.holder r.seat id v None w.seen f.begun f.seen g.seen f.looks f.party f.held f.none in
+      let fits = rest_fits of laws start n h r.holder r.seat id v None w.seen f.begun f.seen g.seen f.looks f.own_seen f.party f.held f.none in
       record {
         history = h;
         holder = r.holder;
         seat = r.seat;
+        turns = r.turns;
         size = r.size;
         legal = r.legal;
         word = r.word;
@@ -215,7 +238,18 @@ module _ {S X E : Type 0} (of : S → Machine X E) (laws : (s : S) → Laws (of 
             (λ y. r.views k u y.1)
             (at_set s.views id k both u z.1))
             (at_set (set s.views id both) other k spent u t);
+        turned = turned_kept M.shards (set s.views id both) r.turns r.holder r.holder r.seat other (at_rest w) spent there (λ i lt. refl) (λ i lt e p its. absurd cc)
+            (λ p a. absurd (⊎_elim (λ x. let its = x.0 in cc) (λ x. ⊎_elim (λ y. let lt = y.1 in omega arith) (λ y. let on = y.0 in cc) x) a)) (none_before r.turns)
+            (turned_kept M.shards s.views r.turns r.holder r.holder r.seat id (at_rest v) both at (λ i lt. refl) (λ i lt e p its. its) (λ p a. a) (r.turned.met id (at_rest v) at) r.turned);
       }
+
+  -- a view that does not hold a shard is not the one that holds it
+  unheld_by : (s : St) (r : R s) (id : ℕ) (v : V) → get_elem? s.views id ≡ some v → (i : ℕ) → i < M.shards → held_at v.known.held i ≡ None → r.holder i ≡ Some id → ⊥
+  unheld_by s r id v at i lt bare mine =
+      let d : Held M start n s r.history i id = subst (λ o. IsShard M start n s r.history i o) mine (r.shards i lt) in
+      let be : v ≡ d.view = one_there s.views id v d.view at d.there in
+      let held : held_at v.known.held i ≡ Some d.upto = subst (λ (z : V). held_at z.known.held i ≡ Some d.upto) (sym be) d.held in
+      cc
 
   remembers_more : (l : List (Known S E)) (w : Known S E) (p : ℕ) → Remembers M start n l p → Remembers M start n (l ++ w ∷ []) p
   remembers_more l w p a = (a.0, a.1, at_longer l (w ∷ []) a.0 a.1 a.2, a.3)
@@ -252,6 +286,7 @@ module _ {S X E : Type 0} (of : S → Machine X E) (laws : (s : S) → Laws (of 
         history = h;
         holder = r.holder;
         seat = seat';
+        turns = r.turns;
         size = r.size;
         legal = r.legal;
         word = r.word;
@@ -271,6 +306,22 @@ module _ {S X E : Type 0} (of : S → Machine X E) (laws : (s : S) → Laws (of 
             (λ y. fits_seat h r.holder r.seat seat' k u (λ q e. updated_else M start n r.seat p q (Some id) (λ is. z.0 (let a : r.seat p ≡ Some k = ap r.seat (sym is) ∙ e in let b = own.1 in cc)) ∙ e) (r.views k u y.1))
             (at_set s.views id k both u z.1))
             (at_set (set s.views id both) other k spent u t);
+        turned = record {
+          takers = λ i lt. taken_kept (set s.views id both) r.turns i other (at_rest w) spent there (r.holder i) (λ e q its. absurd (unheld_by s r other (at_rest w) was i lt (bare i) e))
+              (taken_kept s.views r.turns i id v both at (r.holder i) (λ e q its. absurd cc) (r.turned.takers i lt));
+          parties = λ q. dite (ℕ_discrete q p)
+              (λ is. subst (λ o. AreTurns two.views r.turns q o) (sym (updated_here M start n r.seat p q (Some id) is))
+              (both, stays, inr (inr (refl, length l, w, at_last l w (length l) refl, party ∙ ap Some (sym is), ap (λ z. turns_by z r.turns) is ∙ own_turns s.views r.turns p other (at_rest w) was refl refl (r.seat p) own.1 (r.turned.parties p)))))
+              (λ ne. subst (λ o. AreTurns two.views r.turns q o) (sym (updated_else M start n r.seat p q (Some id) ne))
+              (turns_kept (set s.views id both) r.turns r.turns q other (at_rest w) spent there (r.seat q)
+              (λ e a. absurd (⊎_elim (λ x. ne (let its = x.0 in cc)) (λ x. ⊎_elim (λ y. let lt = y.1 in omega arith) (λ y. let on = y.0 in cc) x) a)) refl
+              (turns_kept s.views r.turns r.turns q id v both at (r.seat q)
+              (λ e a. ⊎_elim (λ x. absurd (let its = x.0 in cc)) (λ x. ⊎_elim (λ y. absurd (let lt = y.1 in omega arith)) (λ y. inr (inr (refl, y.1, y.2, at_longer l (w ∷ []) y.1 y.2 y.3, y.4, y.5))) x) a) refl (r.turned.parties q))));
+          met = λ k u t. ⊎_elim
+              (λ z. subst (λ (i : V). GoOn i.known.met r.turns) z.1 (none_before r.turns))
+              (λ z. ⊎_elim (λ y. subst (λ (i : V). GoOn i.known.met r.turns) y.1 (none_before r.turns)) (λ y. r.turned.met k u y.1) (at_set s.views id k both u z.1))
+              (at_set (set s.views id both) other k spent u t);
+        };
       }
 
   -- a party that a view answers for is below n
@@ -299,7 +350,7 @@ module _ {S X E : Type 0} (of : S → Machine X E) (laws : (s : S) → Laws (of 
         w,
         keeps,
         tt,
-        still M start n s r id v w at 0 refl refl (λ q a. a) fits,
+        still M start n s r id v w at 0 refl refl (λ q a. a) fits (λ q its. its) (λ q a. a) (r.turned.met id v at),
         λ z e. let is : start ≡ z = cc in subst (λ (y : S). (k : List E) × (◌≡◌ {A = Me (Option X) V} (w, []) (closer y k l, [])) × (get_or s.words 0 0 ≡ length k) × Ends of (of y) l k) is (h, refl, r.word, told),
       )
 
@@ -332,6 +383,14 @@ module _ {S X E : Type 0} (of : S → Machine X E) (laws : (s : S) → Laws (of 
   party_first ws xs p (yes lt) = subst (λ b. IsParty M start n (opening ws xs (maker start 0 n)) [] p (cond b (Some 0) None)) (sym (lt-ltb p n lt)) (maker start 0 n, refl, inr (inl (omega arith, lt)))
   party_first ws xs p (no over) = subst (λ b. IsParty M start n (opening ws xs (maker start 0 n)) [] p (cond b (Some 0) None)) (sym (le-ltb p n (omega arith))) refl
 
+  turns_first : (p : ℕ) → Dec (p < n) → AreTurns {S = S} {E = E} (maker start 0 n ∷ []) [] p (cond (ltb p n) (Some 0) None)
+  turns_first p (yes lt) = subst (λ b. AreTurns {S = S} {E = E} (maker start 0 n ∷ []) [] p (cond b (Some 0) None)) (sym (lt-ltb p n lt)) (maker start 0 n, refl, inr (inl (omega arith, lt, refl)))
+  turns_first p (no over) = subst (λ b. AreTurns {S = S} {E = E} (maker start 0 n ∷ []) [] p (cond b (Some 0) None)) (sym (le-ltb p n (omega arith))) refl
+
+  met_first : (id : ℕ) (v : V) → get_elem? (maker start 0 n ∷ []) id ≡ some v → GoOn v.known.met []
+  met_first zero v there = subst (λ (z : V). GoOn z.known.met []) (some-injective (maker start 0 n) v there) (none_before [])
+  met_first (suc id) v there = absurd (some-ne-none v (sym there))
+
   first_view : (ws : List ℕ) (id : ℕ) (v : V) → get_elem? (maker start 0 n ∷ []) id ≡ some v → Fits M start n [] (λ _. None) (λ p. cond (ltb p n) (Some 0) None) id v
   first_view ws zero v there = let is : maker start 0 n ≡ v = some-injective (maker start 0 n) v there in subst (λ (z : V). Fits M start n [] (λ _. None) (λ p. cond (ltb p n) (Some 0) None) 0 z) is
       (maker_fits [] (λ _. None) (λ p. cond (ltb p n) (Some 0) None) 0 0 (λ p low high. (subst (λ b. cond {A = Option ℕ} b (Some 0) None ≡ Some 0) (sym (lt-ltb p n high)) refl, refl)))
@@ -350,6 +409,12 @@ module _ {S X E : Type 0} (of : S → Machine X E) (laws : (s : S) → Laws (of 
     shards = λ i lt. let a = values i lt in record { word = zeros (suc i); value = a.0; slot = at_map (λ (y : Option X). some y) xs i (Some a.0) a.1; stands = a.2 };
     parties = λ p. party_first ws xs p (dec_lt p n);
     views = λ id v there. first_view ws id v there;
+    turns = [];
+    turned = record {
+      takers = λ i lt. refl;
+      parties = λ p. turns_first p (dec_lt p n);
+      met = λ id v there. met_first id v there;
+    };
   }
 
   pub pass_allowed : (id k : ℕ) (me : Me (Option X) V) → me ≡ (maker start k n, []) → k < n

@@ -1,4 +1,5 @@
 pub mod Lists
+pub mod Turning
 pub mod Moves
 pub mod Holding
 pub mod History

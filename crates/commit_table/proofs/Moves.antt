@@ -10,9 +10,12 @@ use Rattle.atomic_table.specs.Table.{State}
 use Rattle.atomic_table.proofs.Lists.{at_set, set_else}
 use Rattle.commit_table.specs.declared.views.View.{View}
 use Rattle.commit_table.specs.Machine.{Machine}
+use Rattle.commit_table.specs.declared.views.Turn.{Turn}
 use Rattle.commit_table.specs.Views.{held_at}
+use Rattle.commit_table.specs.Turns.{GoOn, Recalls, Turned}
 use Rattle.commit_table.specs.Rule.{IsShard, Answers, IsParty, Fits, Rule}
 use Rattle.commit_table.proofs.Lists.{at_here, one_there}
+use Rattle.commit_table.proofs.Turning.{turned_kept}
 
 module _ {S X E : Type 0} (m : Machine X E) (start : S) (n : ℕ) where
   abbrev pub V : Type 0
@@ -78,11 +81,13 @@ module _ {S X E : Type 0} (m : Machine X E) (start : S) (n : ℕ) where
       → ((p : ℕ) → Answers m start n v p → Answers m start n w p)
       → ((k : ℕ) (u : V) → k ≢ id → Fits m start n r.history r.holder r.seat k u → Fits m start n r.history holder r.seat k u)
       → Fits m start n r.history holder r.seat id w
+      → (turns : List Turn) → Turned m.shards (set s.views id w) turns holder r.seat
       → R (with_view s ws hs id w)
-  rebuild s r id v w at ws hs holder size word shards answers others fits = record {
+  rebuild s r id v w at ws hs holder size word shards answers others fits turns turned = record {
     history = r.history;
     holder = holder;
     seat = r.seat;
+    turns = turns;
     size = size ∙ r.size;
     legal = r.legal;
     word = word ∙ r.word;
@@ -92,18 +97,20 @@ module _ {S X E : Type 0} (m : Machine X E) (start : S) (n : ℕ) where
         (λ t. subst (λ (z : ℕ). Fits m start n r.history holder r.seat z u) (sym t.0) (subst (λ (z : V). Fits m start n r.history holder r.seat id z) t.1 fits))
         (λ t. others k u t.0 (r.views k u t.1))
         (at_set s.views id k w u there);
+    turned = turned;
   }
 
   -- nothing moved: the seat has another view, which holds and answers for the same
   pub still : (s : St) (r : R s) (id : ℕ) (v w : V) → get_elem? s.views id ≡ some v
       → (k : ℕ) → w.known.held ≡ v.known.held → w.out ≡ v.out → ((p : ℕ) → Answers m start n v p → Answers m start n w p)
       → Fits m start n r.history r.holder r.seat id w
+      → ((p : ℕ) → v.known.party ≡ Some p → w.known.party ≡ Some p) → ((p : ℕ) → Recalls r.turns v p → Recalls r.turns w p) → GoOn w.known.met r.turns
       → R (with_view s (set s.words k (get_or s.words k 0)) s.homes id w)
-  still s r id v w at k held out answers fits =
+  still s r id v w at k held out answers fits party recalls met =
       subst (λ (ws : List ℕ). R (with_view s ws s.homes id w)) (sym (set-get_or s.words k 0))
       (rebuild s r id v w at s.words s.homes r.holder refl refl
       (λ j lt. shard_kept s r.history s.words s.homes id v w j at refl refl (λ g e. ap (λ z. held_at z j) held ∙ e) (λ e. out ∙ e) (r.holder j) (r.shards j lt))
-      answers (λ k u ne f. f) fits)
+      answers (λ k u ne f. f) fits r.turns (turned_kept m.shards s.views r.turns r.holder r.holder r.seat id v w at (λ i lt. refl) (λ i lt e. party) recalls met r.turned))
 
   abbrev pub updated : (ℕ → Option ℕ) → ℕ → Option ℕ → ℕ → Option ℕ
   updated f i o j = cond (eqb j i) o (f j)
@@ -122,6 +129,7 @@ module _ {S X E : Type 0} (m : Machine X E) (start : S) (n : ℕ) where
     seen = f.seen;
     heard = f.heard;
     looks = f.looks;
+    own_seen = f.own_seen;
     party = f.party;
     makes = f.makes;
     held = λ j g e. let old = f.held j g e in (
@@ -145,12 +153,13 @@ module _ {S X E : Type 0} (m : Machine X E) (start : S) (n : ℕ) where
       → ((p : ℕ) → Answers m start n v p → Answers m start n w p)
       → IsShard m start n (with_view s (set s.words (suc i) b) hs id w) r.history i o
       → Fits m start n r.history (updated r.holder i o) r.seat id w
+      → (turns : List Turn) → Turned m.shards (set s.views id w) turns (updated r.holder i o) r.seat
       → R (with_view s (set s.words (suc i) b) hs id w)
-  moved s r id v w at i b hs o was homes held out answers here fits =
+  moved s r id v w at i b hs o was homes held out answers here fits turns turned =
       rebuild s r id v w at (set s.words (suc i) b) hs (updated r.holder i o) (length-set s.words (suc i) b) (get_or-set_other s.words (suc i) zero b 0 (λ e. absurd (omega arith)))
       (λ j lt. dite (ℕ_discrete j i)
       (λ same. subst (λ (z : ℕ). IsShard m start n (with_view s (set s.words (suc i) b) hs id w) r.history z (updated r.holder i o z)) (sym same)
       (subst (λ (z : Option ℕ). IsShard m start n (with_view s (set s.words (suc i) b) hs id w) r.history i z) (sym (updated_here r.holder i i o refl)) here))
       (λ ne. subst (λ (z : Option ℕ). IsShard m start n (with_view s (set s.words (suc i) b) hs id w) r.history j z) (sym (updated_else r.holder i j o ne))
       (shard_kept s r.history (set s.words (suc i) b) hs id v w j at (get_or-set_other s.words (suc i) (suc j) b 0 (λ e. ne (omega arith))) (homes j ne) (λ g e. held j ne ∙ e) (out j ne) (r.holder j) (r.shards j lt))))
-      answers (λ k u ne f. fits_other r.history r.holder r.seat i id o k u ne was f) fits
+      answers (λ k u ne f. fits_other r.history r.holder r.seat i id o k u ne was f) fits turns turned

@@ -1,12 +1,14 @@
 -- What an attempt on the counters tells, of all its steps at once.
-use Rattle.std.specs.Prelude.{◌≡◌, ℕ, ◌<◌, List, [], ◌∷◌, ◌++◌, length}
+use Rattle.std.specs.Prelude.{◌≡◌, ℕ, ◌≤◌, Some, List, [], ◌∷◌, ◌++◌, length}
 use mathlib.Core.List.{IsPrefix}
 use Rattle.commit_table.specs.declared.views.Known.{Known}
 use Rattle.commit_table.specs.Machine.{Machine, IsOwn}
+use Rattle.commit_table.specs.Turns.{holder_in, GoOn}
 use Rattle.commit_table.specs.Views.{mine_after}
 
 module _ {S X E : Type 0} (m : Machine X E) where
-  -- the event was committed, once, after one look, behind a history that goes on from what was seen
+  -- the event was committed, once, after one look, behind a history that goes on from what was seen. The look was at no less
+  -- than had been seen, and before the event's place
   pub record Recorded (v : Known S E) (e : E) (place : ℕ) (w : Known S E) : Type 0 where
     pub before : List E
     pub seen : w.seen ≡ before ++ e ∷ []
@@ -16,20 +18,28 @@ module _ {S X E : Type 0} (m : Machine X E) where
     pub own : IsOwn m w.party w.seen w.mine
     pub mine : w.mine ≡ mine_after (m.party e) v.mine e
     pub commits : w.commits ≡ v.commits ++ place ∷ []
-    pub looks : (n : ℕ) × (w.looks ≡ v.looks ++ n ∷ [])
+    pub looks : (n : ℕ) × (w.looks ≡ v.looks ++ n ∷ []) × (length v.seen ≤ n) × (n ≤ place)
     pub missed : w.missed ≡ v.missed
+    pub met : w.met ≡ v.met
     pub party : w.party ≡ v.party
     pub start : w.start ≡ v.start
 
-  -- nothing was committed, and a shard below n was missed
-  pub record Missed (v : Known S E) (n : ℕ) (w : Known S E) : Type 0 where
+  -- nothing was committed, and a shard was missed, of those that the attempt may miss
+  pub record Missed (v : Known S E) (May : ℕ → Type 0) (w : Known S E) : Type 0 where
     pub shard : ℕ
-    pub below : shard < n
+    pub may : May shard
     pub missed : w.missed ≡ v.missed ++ shard ∷ []
+    -- as the turns stood then, another pass held it
+    pub met : GoOn v.met w.met
+    pub other : ℕ
+    pub holds : holder_in w.met shard ≡ Some other
+    pub apart : ¬ (v.party ≡ Some other)
     pub mine : w.mine ≡ v.mine
     pub commits : w.commits ≡ v.commits
     pub looks : w.looks ≡ v.looks
     pub seen : w.seen ≡ v.seen
+    pub legal : m.Legal w.seen
+    pub own : IsOwn m w.party w.seen w.mine
     pub party : w.party ≡ v.party
     pub start : w.start ≡ v.start
 
@@ -37,9 +47,11 @@ module _ {S X E : Type 0} (m : Machine X E) where
   pub record LookedOnly (v : Known S E) (w : Known S E) : Type 0 where
     pub goes_on : IsPrefix v.seen w.seen
     pub legal : m.Legal w.seen
+    pub own : IsOwn m w.party w.seen w.mine
     pub looks : w.looks ≡ v.looks ++ length w.seen ∷ []
     pub mine : w.mine ≡ v.mine
     pub commits : w.commits ≡ v.commits
     pub missed : w.missed ≡ v.missed
+    pub met : w.met ≡ v.met
     pub party : w.party ≡ v.party
     pub start : w.start ≡ v.start

@@ -1,8 +1,10 @@
 -- What the calls of a commit table ask and tell.
-use Rattle.std.specs.Prelude.{◌≡◌, ℕ, ◌+◌, ◌-◌, ◌^◌, ◌<◌, true, eqb, List, [], ◌∷◌, ◌++◌, length, min, slice_get, slice_index, count_by, None, Some}
+use Rattle.std.specs.Prelude.{◌≡◌, ℕ, ◌+◌, ◌-◌, ◌^◌, ◌<◌, true, eqb, List, [], ◌∷◌, ◌++◌, length, min, slice_get, slice_index, count_by, Option, None, Some}
 use mathlib.Core.List.{IsPrefix}
 use Rattle.atomic_table.specs.Seated.{TableId}
 use Rattle.commit_table.specs.declared.views.Known.{Known}
+use Rattle.commit_table.specs.declared.views.Turn.{Turn}
+use Rattle.commit_table.specs.Turns.{holder_in, turns_by, GoOn}
 use Rattle.commit_table.specs.Machine.{Machine, is_among, events_by, IsOwn}
 use Rattle.commit_table.specs.Views.{held_at, looked, committed}
 
@@ -17,8 +19,9 @@ pub record PassValue (S E : Type 0) : Type 0 where
   pub table : TableId
   pub known : Known S E
 
--- what a closed table is known for: the whole history, and what each pass knew, in the order in which they were given
+-- what a closed table is known for: the start that it was told, the whole history, and what each pass knew, in the order in which they were given
 pub record TallyValue (S E : Type 0) : Type 0 where
+  pub start : Option S
   pub journal : List E
   pub passes : List (Known S E)
 
@@ -42,12 +45,26 @@ module _ {S E : Type 0} where
   abbrev pub HoldsNone : Known S E → Type 0
   HoldsNone v = (i : ℕ) → held_at v.held i ≡ None
 
+  -- a shard was missed: as the turns stood then, which go on from those that an earlier miss told and have all of the pass's
+  -- own, another pass holds it
+  pub record Met (v : Known S E) (i : ℕ) (turns : List Turn) : Type 0 where
+    pub goes_on : GoOn v.met turns
+    pub own : (p : ℕ) → v.party ≡ Some p → turns_by p turns ≡ v.turns
+    pub other : ℕ
+    pub holds : holder_in turns i ≡ Some other
+    pub apart : ¬ (v.party ≡ Some other)
+
   -- these are all the passes of a table, and none holds a shard
   abbrev pub AreWhole : TableValue S → List (PassValue S E) → Type 0
   AreWhole t passes = ((k : ℕ) (p : PassValue S E) → slice_get passes k ≡ Some p → IsOf t p × HoldsNone p.known)
       × ((party : ℕ) → party < t.passes → (k : ℕ) × (p : PassValue S E) × (slice_get passes k ≡ Some p) × (p.known.party ≡ Some party))
 
 module _ {S X E : Type 0} (m : Machine X E) where
+  -- what was seen is legal, and has of the pass's party just the pass's own events
+  pub record IsSound (v : Known S E) : Type 0 where
+    pub legal : m.Legal v.seen
+    pub own : IsOwn m v.party v.seen v.mine
+
   -- a shard was taken, and its value stands for the history g, which goes on from what was seen
   pub record Taken (v : Known S E) (i : ℕ) (x : X) (g : List E) : Type 0 where
     pub seen : IsPrefix v.seen g
@@ -71,7 +88,8 @@ module _ {S X E : Type 0} (m : Machine X E) where
     pub held : (i : ℕ) → is_among (m.shards_of v.seen e) i ≡ true → (g : List E) × (held_at v.held i ≡ Some g) × m.Agree i v.seen g
 
   -- the event was committed at a place, behind the history h, which goes on from what was seen and agrees with it on the
-  -- event's shards. The pass has seen all that, and the events of its party there are its own
+  -- event's shards. The pass has seen all that, and the events of its party there are its own. On each shard that it holds,
+  -- of the event or not, what it has seen is as it holds the shard: so it may commit an event of another without a look
   pub record Committed (v : Known S E) (e : E) (place : ℕ) (h : List E) (w : Known S E) : Type 0 where
     pub is : w ≡ committed v h e (m.party e) (m.shards_of v.seen e)
     pub place_is : place ≡ length h
@@ -79,6 +97,7 @@ module _ {S X E : Type 0} (m : Machine X E) where
     pub seen : IsPrefix v.seen h
     pub agrees : (i : ℕ) → is_among (m.shards_of v.seen e) i ≡ true → m.Agree i v.seen h
     pub own : IsOwn m v.party (h ++ e ∷ []) w.mine
+    pub held : (i : ℕ) (g : List E) → held_at w.held i ≡ Some g → IsPrefix g (h ++ e ∷ []) × m.Agree i g (h ++ e ∷ [])
 
   -- the history is whole: it is legal, each pass has seen a beginning of it, the events of a pass's party are the pass's
   -- own, and no other party has any

@@ -3,7 +3,7 @@ use Rattle.std.proofs.Common.{◌≡◌, ℕ, zero, suc, ◌+◌, ◌-◌, ◌*�
 use Rattle.std.proofs.lemmas.Bool.{ltb-true}
 use Rattle.commit_table.specs.Machine.{Laws}
 use Rattle.std.specs.Prelude.{option_and_then}
-use Rattle.commit_table.specs.Parts.{stepped, parts_of, with_parts}
+use Rattle.commit_table.specs.Parts.{stepped, parts_of, with_parts, Lasts}
 use Rattle.commit_table.specs.declared.counters.Deal.{Deal}
 use Rattle.commit_table.specs.declared.counters.Deal.TheVariants.{Raise, Carry}
 use Rattle.commit_table.specs.Counters.{most, counter_parts, counters}
@@ -47,5 +47,11 @@ bounded h ps e =
     let w = weighed counter_parts AreTwo weight grows zero (0 ∷ 0 ∷ []) h ps (0, 0, refl, omega arith, omega arith) e in
     let two = w.0 in let le = w.1 in let is : weight ps ≡ two.0 + 2 * two.1 = ap weight two.2 in let a = two.3 in let b = two.4 in omega arith
 
+lasts : Lasts counter_parts
+lasts place later (Raise p c) own others new le acts = (new, acts)
+lasts place later Carry own [] new le acts = absurd cc
+lasts place later Carry own (other ∷ []) new le acts = (new, acts)
+lasts place later Carry own (other ∷ (more ∷ rest)) new le acts = absurd cc
+
 pub counters_lawful : Laws counters
-counters_lawful = part_laws counter_parts bounded
+counters_lawful = part_laws counter_parts lasts bounded

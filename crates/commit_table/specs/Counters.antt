@@ -18,11 +18,11 @@ abbrev pub deal_peers : ℕ → Deal → List ℕ
 deal_peers own (Raise party counter) = []
 deal_peers own Carry = 1 ∷ []
 
-abbrev pub deal_act : Deal → ℕ → List ℕ → Option (ℕ × List ℕ)
-deal_act (Raise party counter) own others = cond (ltb own most) (Some (own + 1, [])) None
-deal_act Carry own [] = None
-deal_act Carry own (other ∷ []) = cond (ltb 0 own && ltb other most) (Some (own - 1, (other + 1) ∷ [])) None
-deal_act Carry own (other ∷ (more ∷ rest)) = None
+abbrev pub deal_act : ℕ → Deal → ℕ → List ℕ → Option (ℕ × List ℕ)
+deal_act place (Raise party counter) own others = cond (ltb own most) (Some (own + 1, [])) None
+deal_act place Carry own [] = None
+deal_act place Carry own (other ∷ []) = cond (ltb 0 own && ltb other most) (Some (own - 1, (other + 1) ∷ [])) None
+deal_act place Carry own (other ∷ (more ∷ rest)) = None
 
 abbrev pub deal_party : Deal → Option ℕ
 deal_party (Raise party counter) = Some party

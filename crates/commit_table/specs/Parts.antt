@@ -1,6 +1,6 @@
 -- A machine whose state is a list of parts, one for each shard, and whose events act on the parts of their shards alone.
-use Rattle.std.specs.Prelude.{◌≡◌, ℕ, zero, suc, List, [], ◌∷◌, length, slice_get, slice_set, option_and_then, Option, None, Some}
-use Rattle.commit_table.specs.Machine.{Machine}
+use Rattle.std.specs.Prelude.{◌≡◌, ℕ, zero, suc, ◌≤◌, false, List, [], ◌∷◌, length, slice_get, slice_set, option_and_then, Option, None, Some}
+use Rattle.commit_table.specs.Machine.{Machine, is_among}
 
 -- P is a part, X what lies in a shard, E an event. An event has an owner, and peers that follow from the owner's part.
 pub record Parts (P X E : Type 0) : Type 1 where
@@ -8,9 +8,10 @@ pub record Parts (P X E : Type 0) : Type 1 where
   pub first : List P
   pub owner : E → ℕ
   pub peers : P → E → List ℕ
-  -- the new parts of the owner and of the peers, in order; or none, where the event may not happen
-  pub act : E → P → List P → Option (P × List P)
-  -- the event is noted in its owner's part, with its place, which is never tested
+  -- the new parts of the owner and of the peers, in order, for an event at a place in the history; or none, where the event
+  -- may not happen. The place may be written into any of the parts, as what comes later is ordered by it
+  pub act : ℕ → E → P → List P → Option (P × List P)
+  -- the event is noted in its owner's part, with its place
   pub noted : ℕ → E → P → P
   pub party : E → Option ℕ
   -- a value of a shard is this part
@@ -32,7 +33,7 @@ module _ {P X E : Type 0} (a : Parts P X E) where
   -- what an event makes of its owner's part and its peers' parts
   abbrev pub acted : ℕ → List P → E → P → Option (List P)
   acted place ps e own =
-      option_and_then (λ qs. option_and_then (λ new. Some (with_parts (slice_set ps (a.owner e) (a.noted place e new.0)) (a.peers own e) new.1)) (a.act e own qs)) (parts_at ps (a.peers own e))
+      option_and_then (λ qs. option_and_then (λ new. Some (with_parts (slice_set ps (a.owner e) (a.noted place e new.0)) (a.peers own e) new.1)) (a.act place e own qs)) (parts_at ps (a.peers own e))
 
   -- the parts after an event at a place, or none
   abbrev pub stepped : ℕ → List P → E → Option (List P)
@@ -64,3 +65,19 @@ module _ {P X E : Type 0} (a : Parts P X E) where
     owner = a.owner;
     party = a.party;
   }
+
+  -- an event that may happen at a place may happen at each later place with the same parts: the place is written, not tested
+  abbrev pub Lasts : Type 0
+  Lasts = (place later : ℕ) (e : E) (own : P) (others : List P) (new : P × List P) → place ≤ later → a.act place e own others ≡ Some new → (made : P × List P) × (a.act later e own others ≡ Some made)
+
+  -- the parts of these shards after a history, in order
+  abbrev pub ArePartsOf : List E → List ℕ → List P → Type 0
+  ArePartsOf h [] [] = Unit {0}
+  ArePartsOf h [] (p ∷ ps) = ⊥
+  ArePartsOf h (i ∷ is) [] = ⊥
+  ArePartsOf h (i ∷ is) (p ∷ ps) = (part_of i h ≡ Some p) × ArePartsOf h is ps
+
+-- no shard is named twice
+abbrev pub AreApart : List ℕ → Type 0
+AreApart [] = Unit {0}
+AreApart (i ∷ is) = (is_among is i ≡ false) × AreApart is

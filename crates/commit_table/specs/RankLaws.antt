@@ -1,14 +1,16 @@
 -- The two ranks are a lawful machine: each event is one more in its owner's part of the journal, and there it has room.
-use Rattle.std.proofs.Common.{◌≡◌, ℕ, zero, suc, ◌+◌, ◌^◌, ◌<◌, ◌≤◌, Bool, true, false, cond, ltb, List, [], ◌∷◌, length, Option, None, Some, refl, ap, sym, subst, arith, length-append}
+use Rattle.std.proofs.Common.{◌≡◌, ℕ, zero, suc, ◌+◌, ◌^◌, ◌<◌, ◌≤◌, Bool, true, false, cond, ltb, ◌||◌, ne_eqb, List, [], ◌∷◌, length, map, slice_get, Option, None, Some, refl, ap, sym, subst, ◌∙◌, arith, length-append}
+use Rattle.std.proofs.lemmas.List.{map-append}
 use Rattle.std.specs.Prelude.{option_and_then}
-use Rattle.std.proofs.lemmas.Bool.{ltb-true}
-use Rattle.commit_table.specs.Machine.{Laws}
-use Rattle.commit_table.specs.Parts.{stepped, parts_at, parts_of, with_parts}
+use Rattle.std.proofs.lemmas.Bool.{ltb-true, lt-ltb}
+use Rattle.commit_table.specs.Machine.{Laws, is_among}
+use Rattle.commit_table.specs.Parts.{stepped, parts_at, parts_of, with_parts, Lasts}
 use Rattle.commit_table.specs.declared.ranks.Act.{Act}
 use Rattle.commit_table.specs.declared.ranks.Act.TheVariants.{Link, Post}
 use Rattle.commit_table.specs.declared.ranks.RankPart.{RankPart}
-use Rattle.commit_table.specs.Ranks.{most_events, empty_part, act_acts, act_noted, rank_parts, ranks}
+use Rattle.commit_table.specs.Ranks.{most_events, empty_part, act_owner, other_rank, act_peers, act_acts, act_noted, rank_parts, ranks}
 use Rattle.commit_table.specs.PartLaws.{weighed, part_laws}
+use Rattle.commit_table.specs.PartJournals.{cut, Lists, lists_are_cut}
 
 abbrev count : RankPart → ℕ
 count p = length p.journal
@@ -41,22 +43,22 @@ second_grows place e a b new other qs lt le same also is =
 -- what a post of the first rank makes, linked or not; and of the second
 abbrev first_step : ℕ → RankPart → RankPart → Bool → Option (List RankPart)
 first_step place a b linked =
-    option_and_then (λ qs. option_and_then (λ (z : RankPart × List RankPart). Some (with_parts (act_noted place (Post zero) z.0 ∷ b ∷ []) (cond linked (1 ∷ []) []) z.1)) (act_acts (Post zero) a qs)) (parts_at (a ∷ b ∷ []) (cond linked (1 ∷ []) []))
+    option_and_then (λ qs. option_and_then (λ (z : RankPart × List RankPart). Some (with_parts (act_noted place (Post zero) z.0 ∷ b ∷ []) (cond linked (1 ∷ []) []) z.1)) (act_acts place (Post zero) a qs)) (parts_at (a ∷ b ∷ []) (cond linked (1 ∷ []) []))
 
 abbrev second_step : ℕ → RankPart → RankPart → Bool → Option (List RankPart)
 second_step place a b linked =
-    option_and_then (λ qs. option_and_then (λ (z : RankPart × List RankPart). Some (with_parts (a ∷ act_noted place (Post (suc zero)) z.0 ∷ []) (cond linked (0 ∷ []) []) z.1)) (act_acts (Post (suc zero)) b qs)) (parts_at (a ∷ b ∷ []) (cond linked (0 ∷ []) []))
+    option_and_then (λ qs. option_and_then (λ (z : RankPart × List RankPart). Some (with_parts (a ∷ act_noted place (Post (suc zero)) z.0 ∷ []) (cond linked (0 ∷ []) []) z.1)) (act_acts place (Post (suc zero)) b qs)) (parts_at (a ∷ b ∷ []) (cond linked (0 ∷ []) []))
 
 post_first : (place : ℕ) (a b : RankPart) (linked : Bool) (qs : List RankPart) → count b ≤ most_events → first_step place a b linked ≡ Some qs → AreTwo qs × (count a + count b < weight qs)
 post_first place a b true qs le s =
-    let r = roomy a a (record b { messages = b.messages + 1 } ∷ []) (ltb (count a) most_events) (λ z. with_parts (act_noted place (Post zero) z.0 ∷ b ∷ []) (1 ∷ []) z.1) qs refl s in
-    first_grows place (Post zero) a b a (record b { messages = b.messages + 1 }) qs r.1 le refl refl r.0
+    let r = roomy a a (record b { messages = b.messages + 1; latest = place } ∷ []) (ltb (count a) most_events) (λ z. with_parts (act_noted place (Post zero) z.0 ∷ b ∷ []) (1 ∷ []) z.1) qs refl s in
+    first_grows place (Post zero) a b a (record b { messages = b.messages + 1; latest = place }) qs r.1 le refl refl r.0
 post_first place a b false qs le s = absurd cc
 
 post_second : (place : ℕ) (a b : RankPart) (linked : Bool) (qs : List RankPart) → count a ≤ most_events → second_step place a b linked ≡ Some qs → AreTwo qs × (count a + count b < weight qs)
 post_second place a b true qs le s =
-    let r = roomy b b (record a { messages = a.messages + 1 } ∷ []) (ltb (count b) most_events) (λ z. with_parts (a ∷ act_noted place (Post (suc zero)) z.0 ∷ []) (0 ∷ []) z.1) qs refl s in
-    second_grows place (Post (suc zero)) a b b (record a { messages = a.messages + 1 }) qs r.1 le refl refl r.0
+    let r = roomy b b (record a { messages = a.messages + 1; latest = place } ∷ []) (ltb (count b) most_events) (λ z. with_parts (a ∷ act_noted place (Post (suc zero)) z.0 ∷ []) (0 ∷ []) z.1) qs refl s in
+    second_grows place (Post (suc zero)) a b b (record a { messages = a.messages + 1; latest = place }) qs r.1 le refl refl r.0
 post_second place a b false qs le s = absurd cc
 
 grows_at : (place : ℕ) (a b : RankPart) (e : Act) (qs : List RankPart) → count a ≤ most_events → count b ≤ most_events → stepped rank_parts place (a ∷ b ∷ []) e ≡ Some qs → AreTwo qs × (count a + count b < weight qs)
@@ -78,5 +80,78 @@ bounded h ps e =
     let w = weighed rank_parts AreTwo weight grows zero (empty_part ∷ empty_part ∷ []) h ps (empty_part, empty_part, refl, omega arith, omega arith) e in
     let two = w.0 in let le = w.1 in let is : weight ps ≡ count two.0 + count two.1 = ap weight two.2 in let a = two.3 in let b = two.4 in omega arith
 
+-- whether there is room does not hang on the place
+room_lasts : {A : Type 0} (b : Bool) (x y new : A) → cond b (Some x) None ≡ Some new → (made : A) × (cond b (Some y) None ≡ Some made)
+room_lasts true x y new e = (y, refl)
+room_lasts false x y new e = absurd cc
+
+lasts : Lasts rank_parts
+lasts place later (Link rank) own others new le acts = (new, acts)
+lasts place later (Post rank) own [] new le acts = absurd cc
+lasts place later (Post rank) own (other ∷ []) new le acts =
+    room_lasts (ltb (length own.journal) most_events) (own, (record other { messages = other.messages + 1; latest = place }) ∷ []) (own, (record other { messages = other.messages + 1; latest = later }) ∷ []) new acts
+lasts place later (Post rank) own (other ∷ (more ∷ rest)) new le acts = absurd cc
+
 pub ranks_lawful : Laws ranks
-ranks_lawful = part_laws rank_parts bounded
+ranks_lawful = part_laws rank_parts lasts bounded
+
+-- each rank's part of the journal, as pairs of a place and an event
+abbrev pub noted_acts : RankPart → List (ℕ × Act)
+noted_acts p = map (λ n. (n.place, n.act)) p.journal
+
+made_of : {A : Type 0} (b : Bool) (x new : A) → cond b (Some x) None ≡ Some new → x ≡ new
+made_of true x new e = cc
+made_of false x new e = absurd cc
+
+first_empty : (i : ℕ) (p : RankPart) → slice_get (empty_part ∷ empty_part ∷ []) i ≡ Some p → noted_acts p ≡ []
+first_empty zero p e = let is : empty_part ≡ p = cc in ap noted_acts (sym is)
+first_empty (suc zero) p e = let is : empty_part ≡ p = cc in ap noted_acts (sym is)
+first_empty (suc (suc i)) p e = absurd cc
+
+own_noted : (place : ℕ) (e : Act) (own : RankPart) (others : List RankPart) (new : RankPart × List RankPart) → act_acts place e own others ≡ Some new → noted_acts new.0 ≡ noted_acts own
+own_noted place (Link rank) own others new acts = ap (λ (z : RankPart × List RankPart). noted_acts z.0) (sym (made_of (ltb (count own) most_events) (record own { linked = true }, []) new acts))
+own_noted place (Post rank) own [] new acts = absurd cc
+own_noted place (Post rank) own (other ∷ []) new acts =
+    ap (λ (z : RankPart × List RankPart). noted_acts z.0) (sym (made_of (ltb (count own) most_events) (own, (record other { messages = other.messages + 1; latest = place }) ∷ []) new acts))
+own_noted place (Post rank) own (other ∷ (more ∷ rest)) new acts = absurd cc
+
+one_other : (other made : RankPart) (qs : List RankPart) → qs ≡ made ∷ [] → noted_acts made ≡ noted_acts other → (k : ℕ) (q : RankPart) → slice_get qs k ≡ Some q → (p : RankPart) × (slice_get (other ∷ []) k ≡ Some p) × (noted_acts q ≡ noted_acts p)
+one_other other made qs is same zero q at = let new : made ≡ q = (let e = ap (λ z. slice_get z 0) is in cc) in (other, refl, ap noted_acts (sym new) ∙ same)
+one_other other made qs is same (suc k) q at = absurd (let e = ap (λ z. slice_get z (suc k)) is in cc)
+
+others_noted : (place : ℕ) (e : Act) (own : RankPart) (others : List RankPart) (new : RankPart × List RankPart) → act_acts place e own others ≡ Some new
+    → (k : ℕ) (q : RankPart) → slice_get new.1 k ≡ Some q → (p : RankPart) × (slice_get others k ≡ Some p) × (noted_acts q ≡ noted_acts p)
+others_noted place (Link rank) own others new acts k q at =
+    absurd (let e = ap (λ (z : RankPart × List RankPart). slice_get z.1 k) (made_of (ltb (count own) most_events) (record own { linked = true }, []) new acts) in cc)
+others_noted place (Post rank) own [] new acts k q at = absurd cc
+others_noted place (Post rank) own (other ∷ []) new acts k q at =
+    one_other other (record other { messages = other.messages + 1; latest = place }) new.1
+    (ap (λ (z : RankPart × List RankPart). z.1) (sym (made_of (ltb (count own) most_events) (own, (record other { messages = other.messages + 1; latest = place }) ∷ []) new acts))) refl k q at
+others_noted place (Post rank) own (other ∷ (more ∷ rest)) new acts k q at = absurd cc
+
+not_itself : (rank : ℕ) (b : Bool) → b ≡ ltb 0 rank → is_among (cond b (0 ∷ []) (1 ∷ [])) rank ≡ false
+not_itself rank true e = ap (λ z. z || false) (ne_eqb rank 0 (λ is. absurd (let lt = ltb-true 0 rank (sym e) in omega arith)))
+not_itself zero false e = refl
+not_itself (suc rank) false e = absurd (let lt = lt-ltb 0 (suc rank) (omega arith) in cc)
+
+not_other : (linked : Bool) (rank : ℕ) → is_among (cond linked (other_rank rank) []) rank ≡ false
+not_other true rank = not_itself rank (ltb 0 rank) refl
+not_other false rank = refl
+
+rank_apart : (own : RankPart) (e : Act) → is_among (act_peers own e) (act_owner e) ≡ false
+rank_apart own (Link rank) = refl
+rank_apart own (Post rank) = not_other own.linked rank
+
+rank_lists : Lists rank_parts noted_acts
+rank_lists = record {
+  first = first_empty;
+  notes = λ place e p. map-append (λ n. (n.place, n.act)) p.journal (record { place = place; act = e } ∷ []);
+  own = own_noted;
+  others = others_noted;
+  apart = rank_apart;
+}
+
+-- each rank's part of the journal is the history cut by owner
+pub rank_journals : (h : List Act) (ps : List RankPart) → parts_of rank_parts h ≡ Some ps → (i : ℕ) (p : RankPart) → slice_get rank_parts.first i ≡ Some p
+    → (r : RankPart) × (slice_get ps i ≡ Some r) × (noted_acts r ≡ cut act_owner i zero h)
+rank_journals = lists_are_cut rank_parts noted_acts rank_lists

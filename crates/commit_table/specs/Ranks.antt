@@ -11,7 +11,7 @@ abbrev pub most_events : ℕ
 most_events = 1000000
 
 abbrev pub empty_part : RankPart
-empty_part = record { linked = false; messages = 0; journal = [] }
+empty_part = record { linked = false; messages = 0; latest = 0; journal = [] }
 
 abbrev pub act_owner : Act → ℕ
 act_owner (Link rank) = rank
@@ -25,11 +25,11 @@ abbrev pub act_peers : RankPart → Act → List ℕ
 act_peers own (Link rank) = []
 act_peers own (Post rank) = cond own.linked (other_rank rank) []
 
-abbrev pub act_acts : Act → RankPart → List RankPart → Option (RankPart × List RankPart)
-act_acts (Link rank) own others = cond (ltb (length own.journal) most_events) (Some (record own { linked = true }, [])) None
-act_acts (Post rank) own [] = None
-act_acts (Post rank) own (other ∷ []) = cond (ltb (length own.journal) most_events) (Some (own, (record other { messages = other.messages + 1 }) ∷ [])) None
-act_acts (Post rank) own (other ∷ (more ∷ rest)) = None
+abbrev pub act_acts : ℕ → Act → RankPart → List RankPart → Option (RankPart × List RankPart)
+act_acts place (Link rank) own others = cond (ltb (length own.journal) most_events) (Some (record own { linked = true }, [])) None
+act_acts place (Post rank) own [] = None
+act_acts place (Post rank) own (other ∷ []) = cond (ltb (length own.journal) most_events) (Some (own, (record other { messages = other.messages + 1; latest = place }) ∷ [])) None
+act_acts place (Post rank) own (other ∷ (more ∷ rest)) = None
 
 abbrev pub act_noted : ℕ → Act → RankPart → RankPart
 act_noted place act own = record own { journal = own.journal ++ record { place = place; act = act } ∷ [] }

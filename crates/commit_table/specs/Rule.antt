@@ -7,8 +7,10 @@ use lib.ListN.{get_elem?}
 use Rattle.atomic_table.specs.Table.{State}
 use Rattle.commit_table.specs.declared.views.Known.{Known}
 use Rattle.commit_table.specs.declared.views.View.{View}
-use Rattle.commit_table.specs.Machine.{Machine, events_by}
+use Rattle.commit_table.specs.Machine.{Machine, events_by, IsOwn}
+use Rattle.commit_table.specs.declared.views.Turn.{Turn}
 use Rattle.commit_table.specs.Views.{held_at}
+use Rattle.commit_table.specs.Turns.{Turned}
 
 module _ {S X E : Type 0} (m : Machine X E) (start : S) (n : ℕ) where
   -- a free shard: its word is 0, and its slot has a value that stands for the history
@@ -57,6 +59,8 @@ module _ {S X E : Type 0} (m : Machine X E) (start : S) (n : ℕ) where
     pub seen : IsPrefix v.known.seen h
     pub heard : IsPrefix v.heard h
     pub looks : All (λ k. k ≤ length v.known.seen) v.known.looks
+    -- what it has seen has all its own events, and no other of its party
+    pub own_seen : IsOwn m v.known.party v.known.seen v.known.mine
     -- its party is no other view's, and the party's events are its own
     pub party : (p : ℕ) → v.known.party ≡ Some p → (p < n) × (seat p ≡ Some id) × (events_by m.party p h ≡ v.known.mine)
     -- where it is to make passes, it has no party and its parties have no events
@@ -70,13 +74,15 @@ module _ {S X E : Type 0} (m : Machine X E) (start : S) (n : ℕ) where
     pub closed : v.closed ≡ true → (v.gathers ≡ true) × (v.known.seen ≡ h) × ((p : ℕ) → p < n → Remembers v.gathered p)
 
   pub record Rule (s : State (Option X) (View S E)) : Type 0 where
-    -- the history, which view holds a shard, and which answers for a party
+    -- the history, which view holds a shard, which answers for a party, and who took and gave back shards so far
     pub history : List E
     pub holder : ℕ → Option ℕ
     pub seat : ℕ → Option ℕ
+    pub turns : List Turn
     pub size : length s.words ≡ suc m.shards
     pub legal : m.Legal history
     pub word : slice_index s.words 0 ≡ length history
     pub shards : (i : ℕ) → i < m.shards → IsShard s history i (holder i)
     pub parties : (p : ℕ) → IsParty s history p (seat p)
     pub views : (id : ℕ) (v : View S E) → get_elem? s.views id ≡ some v → Fits history holder seat id v
+    pub turned : Turned m.shards s.views turns holder seat

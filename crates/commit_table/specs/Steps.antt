@@ -1,13 +1,15 @@
 -- What each step on the table tells: of the step, the seat before, the number found, and the seat after.
 -- `of` is the machine of a start.
-use Rattle.std.specs.Prelude.{◌≡◌, ℕ, ◌+◌, ◌⊎◌, true, List, [], ◌∷◌, ◌++◌, length, Option, Some}
+use Rattle.std.specs.Prelude.{◌≡◌, ℕ, ◌+◌, ◌<◌, ◌⊎◌, true, List, [], ◌∷◌, ◌++◌, length, Option, Some}
 use mathlib.Core.Option.{some}
 use mathlib.Core.List.{IsPrefix}
 use lib.ListN.{get_elem?}
 use Rattle.atomic_table.specs.Table.{Me, Step}
 use Rattle.commit_table.specs.declared.views.Known.{Known}
 use Rattle.commit_table.specs.declared.views.View.{View}
+use Rattle.commit_table.specs.declared.views.Turn.{Turn}
 use Rattle.commit_table.specs.Machine.{Machine, is_among, events_by, IsOwn}
+use Rattle.commit_table.specs.Calls.{IsSound, Met}
 use Rattle.commit_table.specs.Views.{held_at, took, missed, gave_back, looked, committed, at_rest, reaching, closer}
 
 module _ {S X E : Type 0} (of : S → Machine X E) where
@@ -15,11 +17,12 @@ module _ {S X E : Type 0} (of : S → Machine X E) where
   abbrev pub Of : Known S E → (Machine X E → Type 0) → Type 0
   Of v P = (s : S) → v.start ≡ Some s → P (of s)
 
-  -- A compare-exchange of a shard's word: it was free, and is now held with its value; or it was held, and missed
+  -- A compare-exchange of a shard's word: it was free, and is now held with its value; or another pass
+  -- held it, and it was missed. Either
+  -- way what was seen before is legal, and has of the pass's party just the pass's own events
   abbrev pub Takes : ℕ → Known S E → ℕ → Me (Option X) (View S E) → Type 0
-  Takes i v found after =
-      ((found ≡ 0) × ((x : X) × (g : List E) × (after ≡ (reaching (took v i g) i, (i, Some x) ∷ [])) × IsPrefix v.seen g × Of v (λ m. m.Stands i x g)))
-      ⊎ ((found ≡ 1) × (after ≡ (at_rest (missed v i), [])))
+  Takes i v found after = Of v (λ m. IsSound m v) × (((found ≡ 0) × ((x : X) × (g : List E) × (after ≡ (reaching (took v i g) i, (i, Some x) ∷ [])) × IsPrefix v.seen g × Of v (λ m. m.Stands i x g)))
+      ⊎ ((found ≡ 1) × ((turns : List Turn) × (after ≡ (at_rest (missed v i turns), [])) × Met v i turns)))
 
   -- the slot of a held shard goes out with the seat
   abbrev pub Reaches : ℕ → Known S E → Me (Option X) (View S E) → Type 0
@@ -35,8 +38,9 @@ module _ {S X E : Type 0} (of : S → Machine X E) where
     -- on each shard that is held, the history is as it was when the shard was taken
     pub held : (i : ℕ) (g : List E) → held_at v.held i ≡ Some g → IsPrefix g h × m.Agree i g h
 
-  abbrev pub Looks : Known S E → List E → ℕ → Me (Option X) (View S E) → Type 0
-  Looks v heard found after = (h : List E) × (after ≡ (at_rest (looked v h), [])) × Of v (λ m. Sees m v heard found h)
+  -- a party is below n, the number of passes
+  abbrev pub Looks : ℕ → Known S E → List E → ℕ → Me (Option X) (View S E) → Type 0
+  Looks n v heard found after = (h : List E) × (after ≡ (at_rest (looked v h), [])) × Of v (λ m. Sees m v heard found h) × ((p : ℕ) → v.party ≡ Some p → p < n)
 
   -- An addition to the journal word: the event stands behind the history so far
   pub record Adds (m : Machine X E) (v : Known S E) (e : E) (found : ℕ) (h : List E) (w : Known S E) : Type 0 where
@@ -46,6 +50,8 @@ module _ {S X E : Type 0} (of : S → Machine X E) where
     pub seen : IsPrefix v.seen h
     pub agrees : (i : ℕ) → is_among (m.shards_of v.seen e) i ≡ true → m.Agree i v.seen h
     pub own : IsOwn m v.party (h ++ e ∷ []) w.mine
+    -- on each shard that is held then, the event's and others, the history is as the seat holds it
+    pub held : (i : ℕ) (g : List E) → held_at w.held i ≡ Some g → IsPrefix g (h ++ e ∷ []) × m.Agree i g (h ++ e ∷ [])
 
   abbrev pub Commits : Known S E → E → ℕ → Me (Option X) (View S E) → Type 0
   Commits v e found after = (h : List E) × (w : Known S E) × (after ≡ (at_rest w, [])) × Of v (λ m. Adds m v e found h w)
@@ -70,8 +76,8 @@ module _ {S X E : Type 0} (of : S → Machine X E) where
   abbrev pub frees : Step (Option X) → Me (Option X) (View S E) → ℕ → Me (Option X) (View S E) → Type 0
   frees step me found after = (i : ℕ) → step.word ≡ i + 1 → after ≡ (at_rest (gave_back me.0.known i), [])
 
-  abbrev pub looks : Step (Option X) → Me (Option X) (View S E) → ℕ → Me (Option X) (View S E) → Type 0
-  looks step me found after = Looks me.0.known me.0.heard found after
+  abbrev pub looks : ℕ → Step (Option X) → Me (Option X) (View S E) → ℕ → Me (Option X) (View S E) → Type 0
+  looks n step me found after = Looks n me.0.known me.0.heard found after
 
   abbrev pub adds : List E → Step (Option X) → Me (Option X) (View S E) → ℕ → Me (Option X) (View S E) → Type 0
   adds told step me found after = (e : E) × (told ≡ e ∷ []) × Commits me.0.known e found after

@@ -2,6 +2,7 @@
 use Rattle.std.specs.Prelude.{ℕ, false, true, cond, eqb, List, [], ◌∷◌, ◌++◌, length, Option, None, Some}
 use Rattle.commit_table.specs.declared.views.Known.{Known}
 use Rattle.commit_table.specs.declared.views.View.{View}
+use Rattle.commit_table.specs.declared.views.Turn.{Turn}
 
 module _ {E : Type 0} where
   -- what is held of a shard: the history that its value stands for, or none where the shard is not held
@@ -22,21 +23,21 @@ module _ {E : Type 0} where
 module _ {S E : Type 0} where
   -- the pass of a party before its first call, and a pass of no party that has seen a history
   abbrev pub new_pass : S → Option ℕ → List E → Known S E
-  new_pass start party seen = record { start = Some start; party = party; seen = seen; mine = []; commits = []; looks = []; held = []; missed = [] }
+  new_pass start party seen = record { start = Some start; party = party; seen = seen; mine = []; commits = []; looks = []; held = []; missed = []; turns = []; met = [] }
 
   -- what a note of a pass tells: what it has seen, and no more
   abbrev pub noted : Known S E → Known S E
-  noted v = record { start = v.start; party = None; seen = v.seen; mine = []; commits = []; looks = []; held = []; missed = [] }
+  noted v = record { start = v.start; party = None; seen = v.seen; mine = []; commits = []; looks = []; held = []; missed = []; turns = []; met = [] }
 
-  -- a shard was taken, whose value stands for g; it was missed; it was given back
+  -- a shard was taken, whose value stands for g; it was missed, as these turns tell; it was given back
   abbrev pub took : Known S E → ℕ → List E → Known S E
-  took v i g = record v { held = (i, Some g) ∷ v.held }
+  took v i g = record v { held = (i, Some g) ∷ v.held; turns = (i, true) ∷ v.turns }
 
-  abbrev pub missed : Known S E → ℕ → Known S E
-  missed v i = record v { missed = v.missed ++ i ∷ [] }
+  abbrev pub missed : Known S E → ℕ → List Turn → Known S E
+  missed v i met = record v { missed = v.missed ++ i ∷ []; met = met }
 
   abbrev pub gave_back : Known S E → ℕ → Known S E
-  gave_back v i = record v { held = (i, None) ∷ v.held }
+  gave_back v i = record v { held = (i, None) ∷ v.held; turns = (i, false) ∷ v.turns }
 
   -- the history h was seen
   abbrev pub looked : Known S E → List E → Known S E
@@ -74,4 +75,4 @@ module _ {S E : Type 0} where
 
   -- what is left of a seat that another took in
   abbrev pub spent : View S E
-  spent = at_rest (record { start = None; party = None; seen = []; mine = []; commits = []; looks = []; held = []; missed = [] })
+  spent = at_rest (record { start = None; party = None; seen = []; mine = []; commits = []; looks = []; held = []; missed = []; turns = []; met = [] })

@@ -29,7 +29,7 @@ impl<M: Sharded> Model for Tally<M> {
 
     ghost Value = { TallyValue M M.Event };
 
-    ghost view = { λ t. record { journal = t.seat.me.0.known.seen; passes = t.seat.me.0.gathered } };
+    ghost view = { λ t. record { start = t.seat.me.0.known.start; journal = t.seat.me.0.known.seen; passes = t.seat.me.0.gathered } };
 
     ghost invariant = { λ t. t.length ≡ count t.seat.me.0.known.seen };
 }
@@ -114,6 +114,7 @@ impl<M: Sharded> CommitTable<M> {
     pub fn close(self, passes: Vec<Pass<M>>) -> Ended<M>
         requires { AreWhole self passes.items }
         ensures passes { result.tally.passes ≡ map (λ p. p.known) passes.items }
+        ensures start { result.tally.start ≡ Some self.start }
         ensures journal { Closed (M.machine self.start) result.tally.journal result.tally.passes }
         ensures shards { AreShards (M.machine self.start) result.shards.items result.tally.journal }
     {

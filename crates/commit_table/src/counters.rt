@@ -6,7 +6,7 @@ ghost use Rattle.commit_table.specs.Views.{held_at};
 ghost use Rattle.commit_table.specs.Counters.{most, counters};
 ghost use Rattle.commit_table.specs.Calls.{IsOf, HoldsNone};
 ghost use Rattle.commit_table.specs.Attempts.{Recorded};
-ghost use Rattle.commit_table.specs.Outcomes.{Told};
+ghost use Rattle.commit_table.specs.Outcomes.{Told, RaisedBoth};
 
 use crate::pass::Pass;
 use crate::sharded::Sharded;
@@ -69,9 +69,11 @@ pub fn raise_held(
 pub enum Outcome {
     /// The event stands at this place.
     Done(u64),
-    /// Another pass held a counter. Nothing was done.
+    /// Another pass held one of the attempt's counters, which was missed: of a raise the counter that it raises, of a carry
+    /// either. Nothing else was done, and what was taken before was given back as it was.
     Busy,
-    /// No such event may follow. Nothing was done but a look.
+    /// No such event may follow what was seen: of a raise the counter stands at 1,000,000, of a carry the first at 0 or the
+    /// second at 1,000,000. Nothing was done but a look, while the attempt's counters were held.
     Stuck,
 }
 
@@ -82,7 +84,7 @@ pub fn raise(table: &CommitTable<Counters>, pass: &mut Pass<Counters>, counter: 
     requires free { HoldsNone pass.old.known }
     ensures table { pass.new.table ≡ pass.old.table }
     ensures free { HoldsNone pass.new.known }
-    ensures told { Told 2 (λ e. (p : ℕ) × (e ≡ Raise p counter) × (pass.old.known.party ≡ Some p)) pass.old.known result pass.new.known }
+    ensures told { Told (λ i. i ≡ counter) (λ e. (p : ℕ) × (e ≡ Raise p counter) × (pass.old.known.party ≡ Some p)) pass.old.known result pass.new.known }
 {
     let Some(value) = table.try_take(pass, counter) else {
         return Outcome::Busy;
@@ -93,6 +95,32 @@ pub fn raise(table: &CommitTable<Counters>, pass: &mut Pass<Counters>, counter: 
     table.look(pass);
     table.give_back(pass, counter, value);
     Outcome::Stuck
+}
+
+/// Raises both counters, which the pass holds, and gives them back. One look serves both events, since a commit leaves the
+/// other counter as it is held. The place of the second event is answered.
+pub fn raise_both_held(
+    table: &CommitTable<Counters>,
+    pass: &mut Pass<Counters>,
+    first: u64,
+    second: u64,
+) -> u64
+    requires pass { IsOf table.now pass.old }
+    requires first { (g : List Deal) × (held_at pass.old.known.held 0 ≡ Some g) × counters.Stands 0 first g }
+    requires second { (g : List Deal) × (held_at pass.old.known.held 1 ≡ Some g) × counters.Stands 1 second g }
+    requires room { (first < most) × (second < most) }
+    requires others { (i : ℕ) → 1 < i → held_at pass.old.known.held i ≡ None }
+    ensures table { pass.new.table ≡ pass.old.table }
+    ensures told { (p : ℕ) × (pass.old.known.party ≡ Some p) × RaisedBoth pass.old.known p result pass.new.known }
+    ensures free { HoldsNone pass.new.known }
+{
+    table.look(pass);
+    let party = CommitTable::number(pass);
+    let _ = table.commit(pass, &Deal::Raise(party, 0));
+    table.give_back(pass, 0, first + 1);
+    let place = table.commit(pass, &Deal::Raise(party, 1));
+    table.give_back(pass, 1, second + 1);
+    place
 }
 
 /// Carries 1 from the first counter to the second, which the pass holds both, and gives them back.
@@ -124,7 +152,7 @@ pub fn carry(table: &CommitTable<Counters>, pass: &mut Pass<Counters>) -> Outcom
     requires free { HoldsNone pass.old.known }
     ensures table { pass.new.table ≡ pass.old.table }
     ensures free { HoldsNone pass.new.known }
-    ensures told { Told 2 (λ e. e ≡ Carry) pass.old.known result pass.new.known }
+    ensures told { Told (λ i. i < 2) (λ e. e ≡ Carry) pass.old.known result pass.new.known }
 {
     let Some(first) = table.try_take(pass, 0) else {
         return Outcome::Busy;

@@ -1,9 +1,10 @@
 //! A shard's value leaves its slot and comes back, each within one call.
 ghost use Rattle.std.specs.Prelude.{◌≡◌, ℕ, ◌+◌, ◌<◌, Option, Some, None, List, [], ◌∷◌, IfSome, IfNone};
 ghost use mathlib.Core.List.{IsPrefix};
+ghost use Rattle.commit_table.specs.declared.views.Turn.{Turn};
 ghost use Rattle.commit_table.specs.Views.{held_at, at_rest, reaching, took, missed, gave_back};
-ghost use Rattle.commit_table.specs.Steps.{Of, Commits};
-ghost use Rattle.commit_table.specs.Calls.{IsSized, MayCommit};
+ghost use Rattle.commit_table.specs.Steps.{Of};
+ghost use Rattle.commit_table.specs.Calls.{IsSized, IsSound, Met, MayCommit, Committed};
 
 use crate::board::{Board, Place};
 use crate::sharded::Sharded;
@@ -35,9 +36,11 @@ pub fn take<M: Sharded>(board: &Board<M>, seat: &mut Place<M>, shard: u32) -> Op
     requires shard { shard < (M.machine board.now.key.start).shards }
     requires ready { seat.old.me ≡ (at_rest seat.old.me.0.known, []) }
     requires party { (p : ℕ) × (seat.old.me.0.known.party ≡ Some p) }
+    requires free { held_at seat.old.me.0.known.held shard ≡ None }
     ensures seat { (seat.new.table_id ≡ seat.old.table_id) × (seat.new.id ≡ seat.old.id) }
+    ensures sound { Of M.machine seat.old.me.0.known (λ m. IsSound m seat.old.me.0.known) }
     ensures some { IfSome result (λ x. (g : List M.Event) × (seat.new.me ≡ (at_rest (took seat.old.me.0.known shard g), [])) × IsPrefix seat.old.me.0.known.seen g × Of M.machine seat.old.me.0.known (λ m. m.Stands shard x g)) }
-    ensures none { IfNone result (seat.new.me ≡ (at_rest (missed seat.old.me.0.known shard), [])) }
+    ensures none { IfNone result ((turns : List Turn) × (seat.new.me ≡ (at_rest (missed seat.old.me.0.known shard turns), [])) × Met seat.old.me.0.known shard turns) }
 {
     if take_word(board, seat, shard) != 0 {
         return None;
@@ -66,9 +69,11 @@ pub fn add<M: Sharded>(board: &Board<M>, seat: &mut Place<M>, event: &M::Event) 
     requires size { IsSized board.now.table_id (M.machine board.now.key.start).shards }
     requires ready { seat.old.me ≡ (at_rest seat.old.me.0.known, []) }
     requires party { (p : ℕ) × (seat.old.me.0.known.party ≡ Some p) }
+    requires begun { seat.old.me.0.known.start ≡ Some board.now.key.start }
     requires may { MayCommit (M.machine board.now.key.start) seat.old.me.0.known event.now }
     ensures seat { (seat.new.table_id ≡ seat.old.table_id) × (seat.new.id ≡ seat.old.id) }
-    ensures told { Commits M.machine seat.old.me.0.known event.now result seat.new.me }
+    ensures rest { seat.new.me ≡ (at_rest seat.new.me.0.known, []) }
+    ensures told { (h : List M.Event) × Committed (M.machine board.now.key.start) seat.old.me.0.known event.now result h seat.new.me.0.known }
 {
     add_told::<M, Brand>(board, seat, event)
 }

@@ -6,12 +6,13 @@
 //! seen, its own events, its looks, and the shards that it holds.
 //!
 //! `specs/Machine.antt` says what a machine has to be, `specs/Rule.antt` what holds between any two steps, and
-//! `specs/Calls.antt` what each call tells. Nothing here waits, and nothing but `CommitTable::new` takes memory.
+//! `specs/Calls.antt` what each call tells. No call of the table waits, and `CommitTable::new` alone takes memory.
 #![tactic(auto)]
 
 mod board;
 mod close;
 mod counters;
+mod games;
 mod holds;
 mod pass;
 mod plays;
@@ -23,12 +24,13 @@ mod table;
 mod views;
 
 pub use close::{Ended, Tally};
-pub use counters::{Counters, Deal, Outcome, carry, raise, raise_held};
+pub use counters::{Counters, Deal, Outcome, carry, raise, raise_both_held, raise_held};
+pub use games::{Game, end_game, raise_often, raised_by_two, start_game};
 pub use pass::{Note, Pass};
 pub use ranks::{Act, Noted, RankPart, TwoRanks};
 pub use sharded::Sharded;
 pub use table::CommitTable;
-pub use views::{Known, View};
+pub use views::{Known, Turn, View};
 
 #[cfg(test)]
 mod tests;

@@ -1,7 +1,8 @@
 //! What the holder of a pass has, and notes that passes send to one another.
 ghost use Rattle.std.specs.Prelude.{◌≡◌, ℕ, ◌+◌, ◌-◌, ◌^◌, ◌<◌, Option, Some, None, List, [], ◌∷◌, length, min, slice_index, slice_set, vec_len, IfOk, IfSome, IfNone};
+ghost use Rattle.commit_table.specs.declared.views.Turn.{Turn};
 ghost use Rattle.commit_table.specs.Views.{at_rest, held_at, new_pass, noted, took, missed, gave_back};
-ghost use Rattle.commit_table.specs.Calls.{IsSized, Taken, Looked, MayCommit, Committed, misses_in};
+ghost use Rattle.commit_table.specs.Calls.{IsSized, IsSound, Taken, Met, Looked, MayCommit, Committed, misses_in};
 ghost use mathlib.Core.List.{IsPrefix};
 
 use crate::board::{Board, Place};
@@ -106,8 +107,10 @@ impl<M: Sharded> Pass<M> {
         requires table { (self.old.table ≡ board.now.table_id) × (self.old.known.start ≡ Some board.now.key.start) }
         requires size { IsSized board.now.table_id (M.machine board.now.key.start).shards }
         requires shard { shard < (M.machine board.now.key.start).shards }
+        requires free { held_at self.old.known.held shard ≡ None }
+        ensures sound { IsSound (M.machine board.now.key.start) self.old.known }
         ensures taken { IfSome result (λ x. (g : List M.Event) × (self.new ≡ record self.old { known = took self.old.known shard g }) × Taken (M.machine board.now.key.start) self.old.known shard x g) }
-        ensures missed { IfNone result (self.new ≡ record self.old { known = missed self.old.known shard }) }
+        ensures missed { IfNone result ((turns : List Turn) × (self.new ≡ record self.old { known = missed self.old.known shard turns }) × Met self.old.known shard turns) }
     {
         let Some(value) = take(board, &mut self.seat, shard) else {
             Self::count_miss(&mut self.misses, shard);
@@ -121,6 +124,7 @@ impl<M: Sharded> Pass<M> {
         requires size { IsSized board.now.table_id (M.machine board.now.key.start).shards }
         ensures table { self.new.table ≡ self.old.table }
         ensures told { (h : List M.Event) × Looked (M.machine board.now.key.start) self.old.known result h self.new.known }
+        ensures party { (p : ℕ) × (self.old.known.party ≡ Some p) × (p < board.now.key.passes) }
     {
         look_word(board, &mut self.seat)
     }

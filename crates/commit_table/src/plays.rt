@@ -1,5 +1,5 @@
 //! What each step on the table tells. The types are for proofs alone.
-ghost use Rattle.std.specs.Prelude.{List, [], ◌∷◌, ◌+◌, ◌++◌, Some};
+ghost use Rattle.std.specs.Prelude.{ℕ, List, [], ◌∷◌, ◌+◌, ◌++◌, Some};
 ghost use Rattle.commit_table.specs.Steps.{takes, parks, reaches, frees, looks, adds, opens, ends};
 ghost use Rattle.commit_table.specs.Views.{at_rest, noted, hearing, tally_of, spent};
 
@@ -41,10 +41,21 @@ impl<M: Sharded> Play<Option<M::Shard>, View<M, M::Event>> for Free {
     ghost then = { frees M.machine };
 }
 
-pub struct Look;
+/// How many passes there are. The call says it, since a step cannot read what the table was told.
+pub trait Counted {
+    ghost passes: { ℕ };
+}
 
-impl<M: Sharded> Play<Option<M::Shard>, View<M, M::Event>> for Look {
-    ghost then = { looks M.machine };
+impl Counted for Brand {
+    ghost passes = { 0 };
+}
+
+pub struct Look<N> {
+    count: PhantomData<N>,
+}
+
+impl<M: Sharded, N: Counted> Play<Option<M::Shard>, View<M, M::Event>> for Look<N> {
+    ghost then = { looks M.machine N.passes };
 }
 
 pub struct Commit<J> {

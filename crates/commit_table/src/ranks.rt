@@ -24,6 +24,8 @@ pub struct Noted {
 pub struct RankPart {
     pub linked: bool,
     pub messages: u64,
+    /// The place in the journal of the last post to the rank, or 0.
+    pub latest: u64,
     pub journal: LinkedList<Noted>,
 }
 

@@ -6,18 +6,20 @@ ghost use Rattle.commit_table.specs.Steps.{Takes, Reaches, Looks, Commits};
 ghost use Rattle.commit_table.specs.Calls.{IsSized, MayCommit};
 
 use crate::board::{Board, Place};
-use crate::plays::{Commit, Free, Look, Park, Reach, Take, Told};
+use crate::plays::{Commit, Counted, Free, Look, Park, Reach, Take, Told};
 use crate::sharded::Sharded;
+use std::marker::Brand;
 
 const JOURNAL: usize = 0;
 
-// Take, or miss: a compare-exchange from 0 to 1. It found 0 where the shard was free, and 1 where it was missed.
+// Take, or miss: a compare-exchange from 0 to 1. It found 0 where the shard was free, and 1 where another pass held it.
 pub fn take_word<M: Sharded>(board: &Board<M>, seat: &mut Place<M>, shard: u32) -> u64
     requires table { seat.old.table_id ≡ board.now.table_id }
     requires size { IsSized board.now.table_id (M.machine board.now.key.start).shards }
     requires shard { shard < (M.machine board.now.key.start).shards }
     requires ready { seat.old.me ≡ (at_rest seat.old.me.0.known, []) }
     requires party { (p : ℕ) × (seat.old.me.0.known.party ≡ Some p) }
+    requires free { held_at seat.old.me.0.known.held shard ≡ None }
     ensures seat { (seat.new.table_id ≡ seat.old.table_id) × (seat.new.id ≡ seat.old.id) }
     ensures told { Takes M.machine shard seat.old.me.0.known result seat.new.me }
 {
@@ -63,14 +65,25 @@ pub fn free_word<M: Sharded>(board: &Board<M>, seat: &mut Place<M>, shard: u32)
 }
 
 // Look: a load of the journal word.
+pub fn look_counted<M: Sharded, N: Counted>(board: &Board<M>, seat: &mut Place<M>) -> u64
+    requires table { seat.old.table_id ≡ board.now.table_id }
+    requires size { IsSized board.now.table_id (M.machine board.now.key.start).shards }
+    requires ready { seat.old.me ≡ (hearing seat.old.me.0.known seat.old.me.0.heard, []) }
+    requires count { N.passes ≡ board.now.key.passes }
+    ensures seat { (seat.new.table_id ≡ seat.old.table_id) × (seat.new.id ≡ seat.old.id) }
+    ensures told { Looks M.machine board.now.key.passes seat.old.me.0.known seat.old.me.0.heard result seat.new.me }
+{
+    board.load::<Look<N>>(seat, JOURNAL)
+}
+
 pub fn look_word<M: Sharded>(board: &Board<M>, seat: &mut Place<M>) -> u64
     requires table { seat.old.table_id ≡ board.now.table_id }
     requires size { IsSized board.now.table_id (M.machine board.now.key.start).shards }
     requires ready { seat.old.me ≡ (hearing seat.old.me.0.known seat.old.me.0.heard, []) }
     ensures seat { (seat.new.table_id ≡ seat.old.table_id) × (seat.new.id ≡ seat.old.id) }
-    ensures told { Looks M.machine seat.old.me.0.known seat.old.me.0.heard result seat.new.me }
+    ensures told { Looks M.machine board.now.key.passes seat.old.me.0.known seat.old.me.0.heard result seat.new.me }
 {
-    board.load::<Look>(seat, JOURNAL)
+    look_counted::<M, Brand>(board, seat)
 }
 
 // Commit: an addition of 1 to the journal word.

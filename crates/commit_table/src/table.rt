@@ -1,8 +1,9 @@
 //! The table, as its users call it.
 ghost use Rattle.std.specs.Prelude.{◌≡◌, ℕ, ◌+◌, ◌^◌, ◌<◌, ◌≤◌, Option, Some, None, List, [], ◌∷◌, map, length, slice_get, replicate, vec_len, vec_capacity, IfOk, IfSome, IfNone};
 ghost use mathlib.Core.List.{IsPrefix};
+ghost use Rattle.commit_table.specs.declared.views.Turn.{Turn};
 ghost use Rattle.commit_table.specs.Views.{held_at, at_rest, maker, new_pass, noted, took, missed, gave_back};
-ghost use Rattle.commit_table.specs.Calls.{IsSized, IsOf, Taken, Looked, MayCommit, Committed, AreShards, misses_in};
+ghost use Rattle.commit_table.specs.Calls.{IsSized, IsOf, IsSound, Taken, Met, Looked, MayCommit, Committed, AreShards, misses_in};
 
 use crate::board::{Begin, Board, Place, Whole};
 use crate::pass::{Note, Pass};
@@ -91,30 +92,35 @@ impl<M: Sharded> CommitTable<M> {
         Ok((table, passes))
     }
 
-    /// The value that tells the machine's start.
+    /// The value that tells the machine's start. The table has a slot for each shard of that machine, so that `misses` may
+    /// be asked of each.
     pub fn start(&self) -> &M
-        ensures { result.now ≡ self.now.start }
+        ensures start { result.now ≡ self.now.start }
+        ensures slots { self.now.table.slots ≡ (M.machine self.now.start).shards }
     {
         &self.begin.start
     }
 
     /// Takes a shard with its value, in one compare-exchange and, where it has it, one exchange and one load. Where
-    /// another pass holds the shard it is missed, which counts.
+    /// it finds that another pass holds the shard, that is a miss, which counts. A miss tells the takes and returns of all
+    /// passes so far, in which that pass has taken the shard and not given it back.
     pub fn try_take(&self, pass: &mut Pass<M>, shard: u32) -> Option<M::Shard>
         requires pass { IsOf self.now pass.old }
         requires shard { shard < (M.machine self.now.start).shards }
         requires free { held_at pass.old.known.held shard ≡ None }
+        ensures sound { IsSound (M.machine self.now.start) pass.old.known }
         ensures taken { IfSome result (λ x. (g : List M.Event) × (pass.new ≡ record pass.old { known = took pass.old.known shard g }) × Taken (M.machine self.now.start) pass.old.known shard x g) }
-        ensures missed { IfNone result (pass.new ≡ record pass.old { known = missed pass.old.known shard }) }
+        ensures missed { IfNone result ((turns : List Turn) × (pass.new ≡ record pass.old { known = missed pass.old.known shard turns }) × Met pass.old.known shard turns) }
     {
         pass.try_take(&self.table.shared, shard)
     }
 
-    /// Sees the history so far, and says its length.
+    /// Sees the history so far, and says its length. The pass's party is one of those for which the table made passes.
     pub fn look(&self, pass: &mut Pass<M>) -> u64
         requires pass { IsOf self.now pass.old }
         ensures table { pass.new.table ≡ pass.old.table }
         ensures told { (h : List M.Event) × Looked (M.machine self.now.start) pass.old.known result h pass.new.known }
+        ensures party { (p : ℕ) × (pass.old.known.party ≡ Some p) × (p < self.now.passes) }
     {
         pass.look(&self.table.shared)
     }

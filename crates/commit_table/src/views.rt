@@ -3,7 +3,8 @@ use std::collections::LinkedList;
 
 /// What the holder of a pass knows, as contracts see it.
 pub struct Known<S, E> {
-    /// The value that tells the machine's start. What is left of a pass that was taken in by another has none.
+    /// The value that tells the machine's start: that of the table which made the pass or the note. Only what is left of a
+    /// seat that another took in has none, and no call gives that out.
     pub start: Option<S>,
     /// The number of the pass, which no other pass has. A note has none.
     pub party: Option<u32>,
@@ -20,6 +21,19 @@ pub struct Known<S, E> {
     pub held: LinkedList<(u32, Option<LinkedList<E>>)>,
     /// The shards that were missed.
     pub missed: LinkedList<u32>,
+    /// The shards that this pass took and gave back, the newest first, each with whether it was taken.
+    pub turns: LinkedList<(u32, bool)>,
+    /// The turns of all passes, as far as the last miss told them, the newest first.
+    pub met: LinkedList<Turn>,
+}
+
+/// A shard was taken by a pass, or given back.
+pub struct Turn {
+    pub shard: u32,
+    /// The party of the pass.
+    pub party: u32,
+    /// Whether it was taken.
+    pub taken: bool,
 }
 
 /// What a seat at the table knows: what contracts see, and what is between the steps of a call.

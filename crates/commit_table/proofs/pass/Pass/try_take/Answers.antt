@@ -3,12 +3,13 @@ use Rattle.std.proofs.Math.ListN.{length-set}
 use Rattle.commit_table.specs.Calls.{Counts}
 use Rattle.commit_table.proofs.Slots.{rested}
 use Rattle.commit_table.proofs.Counting.{counted}
+use Rattle.commit_table.proofs.Looking.{sound_of}
 use Rattle.commit_table.proofs.pass.Pass.try_take.Goals as goal
 
 pub invariant_of-self-in_default : goal.invariant_of-self-in_default
 invariant_of-self-in_default g c =
     let e = rw c.in_default.is at c.take.ensures.none in
-    let r = rested c.take.new.seat.me _ e in
+    let r = rested c.take.new.seat.me _ e.1 in
     let slots = ap (λ z. z.slots) c.take.ensures.seat.0 in
     let was = c.self.invariant in
     let new = c.count_miss.ensures in
@@ -19,3 +20,9 @@ invariant_of-self-in_default g c =
       ap length new.items ∙ (length-set c.self.inside.misses.items c.args.shard _ ∙ (was.3 ∙ sym slots)),
       counts,
     )
+
+pub returns-in_default-clause-sound : goal.returns-in_default-clause-sound
+returns-in_default-clause-sound g c = sound_of g.M.Sharded.machine c.args.board.now.key.start _ _ (ap (λ p. p.known) c.self.view_is) c.requires.table.1 c.take.ensures.sound
+
+pub returns-clause-sound : goal.returns-clause-sound
+returns-clause-sound g c = sound_of g.M.Sharded.machine c.args.board.now.key.start _ _ (ap (λ p. p.known) c.self.view_is) c.requires.table.1 c.take.ensures.sound

@@ -1,6 +1,6 @@
 use Rattle.std.proofs.Common.{arith}
 use Rattle.commit_table.proofs.Twos.{two_popped, made_first}
-use Rattle.commit_speed.proofs.start_game.Goals as goal
+use Rattle.commit_table.proofs.games.start_game.Goals as goal
 
 pub invariant_of-result : goal.invariant_of-result
 invariant_of-result c =

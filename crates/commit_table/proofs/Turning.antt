@@ -1,0 +1,121 @@
+-- The turns on shards, where a view changes, where a shard is taken or given back, and where a view is new.
+use Rattle.std.proofs.Common.{◌≡◌, ℕ, ◌<◌, inl, inr, ⊎_elim, Bool, true, false, cond, eqb, eq-eqb, ne_eqb, List, [], ◌∷◌, ◌++◌, set, Option, None, Some, refl, ap, sym, subst, ◌∙◌, arith, append-nil}
+use mathlib.Core.Logic.{dite}
+use mathlib.Core.Option.{some}
+use native.Mathlib.Decide.{ℕ_discrete}
+use lib.ListN.{get_elem?}
+use Rattle.atomic_table.proofs.Lists.{at_set, set_else, at_longer}
+use Rattle.commit_table.specs.declared.views.Turn.{Turn}
+use Rattle.commit_table.specs.declared.views.View.{View}
+use Rattle.commit_table.specs.Turns.{holder_in, turns_by, GoOn, IsTaken, Recalls, AreTurns, Turned}
+use Rattle.commit_table.proofs.Lists.{at_here, one_there, at_end}
+
+pub none_before : (turns : List Turn) → GoOn [] turns
+none_before turns = (turns, sym (append-nil turns))
+
+pub none_since : (turns : List Turn) → GoOn turns turns
+none_since turns = ([], refl)
+
+pub one_since : (before turns : List Turn) (t : Turn) → GoOn before turns → GoOn before (t ∷ turns)
+one_since before turns t g = (t ∷ g.0, ap (λ z. t ∷ z) g.1)
+
+module _ {S E : Type 0} where
+  pub taken_kept : (views : List (View S E)) (turns : List Turn) (i id : ℕ) (v w : View S E) → get_elem? views id ≡ some v → (o : Option ℕ)
+      → (o ≡ Some id → (p : ℕ) → v.known.party ≡ Some p → w.known.party ≡ Some p) → IsTaken views turns i o → IsTaken (set views id w) turns i o
+  taken_kept views turns i id v w at None same r = r
+  taken_kept views turns i id v w at (Some k) same r = dite (ℕ_discrete k id)
+      (λ is.
+      let be : v ≡ r.0 = one_there views id v r.0 at (subst (λ (z : ℕ). get_elem? views z ≡ some r.0) is r.2) in
+      (w, r.1, subst (λ (z : ℕ). get_elem? (set views id w) z ≡ some w) (sym is) (at_here views id w v at), same (ap Some is) r.1 (subst (λ (z : View S E). z.known.party ≡ Some r.1) (sym be) r.3), r.4))
+      (λ ne. (r.0, r.1, set_else views id k w ne ∙ r.2, r.3, r.4))
+
+  taken_same : (views : List (View S E)) (turns more : List Turn) (i : ℕ) → holder_in more i ≡ holder_in turns i → (o : Option ℕ) → IsTaken views turns i o → IsTaken views more i o
+  taken_same views turns more i e None r = e ∙ r
+  taken_same views turns more i e (Some k) r = (r.0, r.1, r.2, r.3, e ∙ r.4)
+
+  pub taken_grown : (views : List (View S E)) (turns : List Turn) (i : ℕ) (u : View S E) (o : Option ℕ) → IsTaken views turns i o → IsTaken (views ++ u ∷ []) turns i o
+  taken_grown views turns i u None r = r
+  taken_grown views turns i u (Some k) r = (r.0, r.1, at_longer views (u ∷ []) k r.0 r.2, r.3, r.4)
+
+  recalls_same : (turns more : List Turn) (p : ℕ) (v : View S E) → turns_by p more ≡ turns_by p turns → Recalls turns v p → Recalls more v p
+  recalls_same turns more p v e a = ⊎_elim (λ x. inl (x.0, e ∙ x.1)) (λ x. ⊎_elim (λ y. inr (inl (y.0, y.1, e ∙ y.2))) (λ y. inr (inr (y.0, y.1, y.2, y.3, y.4, e ∙ y.5))) x) a
+
+  pub turns_kept : (views : List (View S E)) (turns more : List Turn) (p id : ℕ) (v w : View S E) → get_elem? views id ≡ some v → (o : Option ℕ)
+      → (o ≡ Some id → Recalls turns v p → Recalls more w p) → turns_by p more ≡ turns_by p turns → AreTurns views turns p o → AreTurns (set views id w) more p o
+  turns_kept views turns more p id v w at None change same r = same ∙ r
+  turns_kept views turns more p id v w at (Some k) change same r = dite (ℕ_discrete k id)
+      (λ is.
+      let be : v ≡ r.0 = one_there views id v r.0 at (subst (λ (z : ℕ). get_elem? views z ≡ some r.0) is r.1) in
+      (w, subst (λ (z : ℕ). get_elem? (set views id w) z ≡ some w) (sym is) (at_here views id w v at), change (ap Some is) (subst (λ (z : View S E). Recalls turns z p) (sym be) r.2)))
+      (λ ne. (r.0, set_else views id k w ne ∙ r.1, recalls_same turns more p r.0 same r.2))
+
+  pub turns_grown : (views : List (View S E)) (turns : List Turn) (p : ℕ) (u : View S E) (o : Option ℕ) → AreTurns views turns p o → AreTurns (views ++ u ∷ []) turns p o
+  turns_grown views turns p u None r = r
+  turns_grown views turns p u (Some k) r = (r.0, at_longer views (u ∷ []) k r.0 r.1, r.2)
+
+  -- a view is another, and no shard changes hands
+  pub turned_kept : (n : ℕ) (views : List (View S E)) (turns : List Turn) (holder later seat : ℕ → Option ℕ) (id : ℕ) (v w : View S E) → get_elem? views id ≡ some v → ((i : ℕ) → i < n → later i ≡ holder i)
+      → ((i : ℕ) → i < n → holder i ≡ Some id → (p : ℕ) → v.known.party ≡ Some p → w.known.party ≡ Some p) → ((p : ℕ) → Recalls turns v p → Recalls turns w p) → GoOn w.known.met turns
+      → Turned n views turns holder seat → Turned n (set views id w) turns later seat
+  turned_kept n views turns holder later seat id v w at holders party recalls met r = record {
+    takers = λ i lt. subst (λ o. IsTaken (set views id w) turns i o) (sym (holders i lt)) (taken_kept views turns i id v w at (holder i) (λ e. party i lt e) (r.takers i lt));
+    parties = λ p. turns_kept views turns turns p id v w at (seat p) (λ e. recalls p) refl (r.parties p);
+    met = λ k u there. ⊎_elim (λ t. subst (λ (z : View S E). GoOn z.known.met turns) t.1 met) (λ t. r.met k u t.1) (at_set views id k w u there);
+  }
+
+  -- a new view
+  pub turned_grown : (n : ℕ) (views : List (View S E)) (turns : List Turn) (holder seat : ℕ → Option ℕ) (u : View S E) → u.known.met ≡ [] → Turned n views turns holder seat → Turned n (views ++ u ∷ []) turns holder seat
+  turned_grown n views turns holder seat u bare r = record {
+    takers = λ i lt. taken_grown views turns i u (holder i) (r.takers i lt);
+    parties = λ p. turns_grown views turns p u (seat p) (r.parties p);
+    met = λ k w there. ⊎_elim (λ t. r.met k w t) (λ t. subst (λ (z : View S E). GoOn z.known.met turns) t.1 (subst (λ z. GoOn z turns) (sym bare) (none_before turns))) (at_end views u w k there);
+  }
+
+  -- a pass's turns are all that its party has
+  pub own_turns : (views : List (View S E)) (turns : List Turn) (p id : ℕ) (v : View S E) → get_elem? views id ≡ some v → v.ends ≡ 0 → v.gathers ≡ false → (o : Option ℕ) → o ≡ Some id
+      → AreTurns views turns p o → turns_by p turns ≡ v.known.turns
+  own_turns views turns p id v at rests alone o is r =
+      let there : AreTurns views turns p (Some id) = subst (λ z. AreTurns views turns p z) is r in
+      let be : v ≡ there.0 = one_there views id v there.0 at there.1 in
+      ⊎_elim (λ x. x.1) (λ x. ⊎_elim (λ y. absurd (let lt = y.1 in omega (arith, lt, rests))) (λ y. absurd (let on = y.0 in cc)) x) (subst (λ (z : View S E). Recalls turns z p) (sym be) there.2)
+
+  -- a party whose pass is yet to be made has no turns
+  pub unmade_turns : (views : List (View S E)) (turns : List Turn) (p id : ℕ) (v : View S E) → get_elem? views id ≡ some v → v.known.party ≡ None → v.gathers ≡ false → (o : Option ℕ) → o ≡ Some id
+      → AreTurns views turns p o → turns_by p turns ≡ []
+  unmade_turns views turns p id v at bare alone o is r =
+      let there : AreTurns views turns p (Some id) = subst (λ z. AreTurns views turns p z) is r in
+      let be : v ≡ there.0 = one_there views id v there.0 at there.1 in
+      ⊎_elim (λ x. absurd (let its = x.0 in cc)) (λ x. ⊎_elim (λ y. y.2) (λ y. absurd (let on = y.0 in cc)) x) (subst (λ (z : View S E). Recalls turns z p) (sym be) there.2)
+
+  taken_new : (views : List (View S E)) (turns : List Turn) (i p id : ℕ) (v w : View S E) → get_elem? views id ≡ some v → w.known.party ≡ Some p → (taken : Bool)
+      → IsTaken (set views id w) (record { shard = i; party = p; taken = taken } ∷ turns) i (cond taken (Some id) None)
+  taken_new views turns i p id v w at party true = (w, p, at_here views id w v at, party, subst (λ b. cond {A = Option ℕ} b (Some p) (holder_in turns i) ≡ Some p) (sym (eq-eqb i i refl)) refl)
+  taken_new views turns i p id v w at party false = subst (λ b. cond {A = Option ℕ} b None (holder_in turns i) ≡ None) (sym (eq-eqb i i refl)) refl
+
+  -- a pass takes a shard, or gives it back
+  pub turn_made : (n : ℕ) (views : List (View S E)) (turns : List Turn) (holder seat : ℕ → Option ℕ) (i p id : ℕ) (v w : View S E) (taken : Bool) → get_elem? views id ≡ some v
+      → v.known.party ≡ Some p → w.known.party ≡ Some p → w.known.turns ≡ (i, taken) ∷ v.known.turns → w.known.met ≡ v.known.met → v.ends ≡ 0 → v.gathers ≡ false → seat p ≡ Some id
+      → Turned n views turns holder seat → Turned n (set views id w) (record { shard = i; party = p; taken = taken } ∷ turns) (λ j. cond (eqb j i) (cond taken (Some id) None) (holder j)) seat
+  turn_made n views turns holder seat i p id v w taken at party its made met rests alone sits r =
+      let t : Turn = record { shard = i; party = p; taken = taken } in
+      let o : Option ℕ = cond taken (Some id) None in
+      let views' = set views id w in
+      let own : turns_by p turns ≡ v.known.turns = own_turns views turns p id v at rests alone (seat p) sits (r.parties p) in
+      record {
+        takers = λ j lt. dite (ℕ_discrete j i)
+            (λ same. subst (λ (z : ℕ). IsTaken views' (t ∷ turns) z (cond (eqb z i) o (holder z))) (sym same)
+            (subst (λ b. IsTaken views' (t ∷ turns) i (cond b o (holder i))) (sym (eq-eqb i i refl)) (taken_new views turns i p id v w at its taken)))
+            (λ ne. subst (λ b. IsTaken views' (t ∷ turns) j (cond b o (holder j))) (sym (ne_eqb j i ne))
+            (taken_same views' turns (t ∷ turns) j (subst (λ b. cond {A = Option ℕ} b (cond taken (Some p) None) (holder_in turns j) ≡ holder_in turns j) (sym (ne_eqb j i ne)) refl) (holder j)
+            (taken_kept views turns j id v w at (holder j) (λ e q has. its ∙ (sym party ∙ has)) (r.takers j lt))));
+        parties = λ q. dite (ℕ_discrete q p)
+            (λ same. subst (λ (z : ℕ). AreTurns views' (t ∷ turns) z (seat z)) (sym same) (subst (λ z. AreTurns views' (t ∷ turns) p z) (sym sits)
+            (w, at_here views id w v at, inl (its, subst (λ b. cond {A = List (ℕ × Bool)} b ((i, taken) ∷ turns_by p turns) (turns_by p turns) ≡ (i, taken) ∷ turns_by p turns) (sym (eq-eqb p p refl)) refl ∙ (ap (λ z. (i, taken) ∷ z) own ∙ sym made)))))
+            (λ ne. turns_kept views turns (t ∷ turns) q id v w at (seat q)
+            (λ e a. ⊎_elim (λ x. absurd (ne (let has = x.0 in cc))) (λ x. ⊎_elim (λ y. absurd (let lt = y.1 in omega (arith, lt, rests))) (λ y. absurd (let on = y.0 in cc)) x) a)
+            (subst (λ b. cond {A = List (ℕ × Bool)} b ((i, taken) ∷ turns_by q turns) (turns_by q turns) ≡ turns_by q turns) (sym (ne_eqb q p ne)) refl) (r.parties q));
+        met = λ k u there. ⊎_elim
+            (λ x. subst (λ (z : View S E). GoOn z.known.met (t ∷ turns)) x.1 (one_since w.known.met turns t (subst (λ z. GoOn z turns) (sym met) (r.met id v at))))
+            (λ x. one_since u.known.met turns t (r.met k u x.1))
+            (at_set views id k w u there);
+      }
