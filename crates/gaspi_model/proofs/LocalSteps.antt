@@ -2,6 +2,7 @@
 use Rattle.std.proofs.Common.{◌≡◌, ℕ, ◌+◌, ◌≤◌, Bool, true, false, ◌==◌, ◌||◌, List, [], ◌∷◌, map, length, Option, None, Some, Ok, refl, sym, ap, ◌∙◌, subst, arith, cond}
 use Rattle.std.specs.List.{slice_get, count_by}
 use Rattle.std.proofs.lemmas.Bool.{eq-eqb, eqb-true}
+use Rattle.std.proofs.lemmas.List.Sums.{sum_by-cons}
 use Rattle.gaspi_types.specs.CallRows.{row_of}
 use Rattle.gaspi_types.specs.Touches.{reach_of}
 use Rattle.gaspi_types.specs.declared.shapes.CallerId.{CallerId}
@@ -19,7 +20,7 @@ use Rattle.gaspi_types.specs.declared.touches.Reach.{Reach}
 use Rattle.gaspi_types.specs.declared.touches.Reach.TheVariants.{Alone, OwnMemory, PeerMemory, PeerPosts}
 use Rattle.gaspi_model.specs.Parts.{touched_of, lifted}
 use Rattle.gaspi_model.specs.Step.{step, owner_of, event_touch, event_reach, local_step, missing}
-use Rattle.gaspi_model.specs.Shards.{footprint, reach_shards, is_shard, same_shard, HaveSamePart, AgreeOn, ComeToSame, numbers_of, is_among}
+use Rattle.gaspi_model.specs.Shards.{footprint, reach_shards, is_shard, same_shard, HaveSamePart, AgreeOn, ComeToSame, numbers_of, is_among, without_repeats}
 use Rattle.gaspi_model.specs.declared.states.Posts.{Posts}
 use Rattle.gaspi_model.specs.declared.states.State.{State}
 use Rattle.gaspi_model.specs.declared.states.Shard.{Shard}
@@ -143,16 +144,62 @@ numbered-among number (x ∷ list) shard h = go (same_shard x shard) refl (λ re
         rw (eq-eqb (number x) (number shard) same) refl
     go false is rest = later (number x == number shard) (is_among (map number list) (number shard)) (rest (rw is at h))
 
+-- numbers without repeats are the same numbers
+same-among : (list : List ℕ) (n : ℕ) → is_among (without_repeats list) n ≡ is_among list n
+same-among [] n = refl
+same-among (x ∷ list) n = go (is_among list x) refl (same-among list n)
+  where
+    covered : (b : Bool) → (x == n) ≡ b → is_among list x ≡ true → is_among list n ≡ (b || is_among list n)
+    covered true is there = rw (sym (eqb-true x n is)) there
+    covered false is there = refl
+
+    go : (b : Bool) → is_among list x ≡ b → is_among (without_repeats list) n ≡ is_among list n → is_among (without_repeats (x ∷ list)) n ≡ is_among (x ∷ list) n
+    go true there rest = rw there (rest ∙ covered (x == n) refl there)
+    go false there rest = rw there (ap (λ (b : Bool). (x == n) || b) rest)
+
+-- each of them once
+none-counted : (list : List ℕ) (n : ℕ) → is_among list n ≡ false → count_by (λ m. m == n) list ≡ 0
+none-counted [] n none = refl
+none-counted (x ∷ list) n none = go (x == n) refl (λ absent. none-counted list n absent)
+  where
+    go : (b : Bool) → (x == n) ≡ b → (is_among list n ≡ false → count_by (λ m. m == n) list ≡ 0) → count_by (λ m. m == n) (x ∷ list) ≡ 0
+    go true is rest = absurd (let there = rw is at none in let no : ⊥ = cc in no)
+    go false is rest = rw is (rest (rw is at none))
+
+counted-cons : (x n : ℕ) (list : List ℕ) → count_by (λ m. m == n) (x ∷ list) ≡ cond (x == n) 1 0 + count_by (λ m. m == n) list
+counted-cons x n list = sum_by-cons (λ (m : ℕ). cond (m == n) 1 0) x list
+
+once-counted : (list : List ℕ) (n : ℕ) → count_by (λ m. m == n) (without_repeats list) ≤ 1
+once-counted [] n = omega arith
+once-counted (x ∷ list) n = go (is_among list x) refl (x == n) refl (once-counted list n)
+  where
+    go : (b : Bool) → is_among list x ≡ b → (c : Bool) → (x == n) ≡ c → count_by (λ m. m == n) (without_repeats list) ≤ 1 → count_by (λ m. m == n) (without_repeats (x ∷ list)) ≤ 1
+    go true there c is rest = rw there rest
+    go false there true is rest =
+        let none = none-counted (without_repeats list) n (same-among list n ∙ subst (λ (k : ℕ). is_among list k ≡ false) (eqb-true x n is) there) in
+        let one : count_by (λ m. m == n) (x ∷ without_repeats list) ≡ 1 = counted-cons x n (without_repeats list) ∙ rw (is, none) refl in
+        rw there (omega arith)
+    go false there false is rest =
+        let same : count_by (λ m. m == n) (x ∷ without_repeats list) ≡ count_by (λ m. m == n) (without_repeats list) = counted-cons x n (without_repeats list) ∙ rw is (omega arith) in
+        rw there (omega arith)
+
+pub coarse-once : (number : Shard → ℕ) (s : State) (e : Event) (n : ℕ) → count_by (λ m. m == n) (numbers_of number s e) ≤ 1
+coarse-once number s e n = once-counted (map number (footprint s e)) n
+
+-- what is a shard of an event has its number among the event's
+numbered : (number : Shard → ℕ) (s : State) (e : Event) (shard : Shard) → is_shard (footprint s e) shard ≡ true → is_among (numbers_of number s e) (number shard) ≡ true
+numbered number s e shard is = same-among (map number (footprint s e)) (number shard) ∙ numbered-among number (footprint s e) shard is
+
 pub coarse-frame : (number : Shard → ℕ) (s t : State) (e : Event) (shard : Shard) → step s e ≡ Ok t → is_among (numbers_of number s e) (number shard) ≡ false → HaveSamePart t s shard
 coarse-frame number s t e shard h out = frame s t e shard h (by-test (is_shard (footprint s e) shard) refl)
   where
     by-test : (b : Bool) → is_shard (footprint s e) shard ≡ b → is_shard (footprint s e) shard ≡ false
-    by-test true is = absurd (let among = numbered-among number (footprint s e) shard is in let no : ⊥ = cc in no)
+    by-test true is = absurd (let among = numbered number s e shard is in let no : ⊥ = cc in no)
     by-test false is = is
 
 pub coarse-determined : (number : Shard → ℕ) (s s' : State) (e : Event) → AgreeOn (λ shard. is_among (numbers_of number s e) (number shard)) s s' → ComeToSame s s' (step s e) (step s' e)
 coarse-determined number s s' e agree =
-    determined s s' e (record { limits = agree.limits; parts = λ shard is. agree.parts shard (numbered-among number (footprint s e) shard is) })
+    determined s s' e (record { limits = agree.limits; parts = λ shard is. agree.parts shard (numbered number s e shard is) })
 
 pub coarse-owner : (number : Shard → ℕ) (s : State) (e : Event) → is_among (numbers_of number s e) (number (shards.Posts (owner_of e))) ≡ true
-coarse-owner number s e = numbered-among number (footprint s e) (shards.Posts (owner_of e)) (owner-among s e)
+coarse-owner number s e = numbered number s e (shards.Posts (owner_of e)) (owner-among s e)

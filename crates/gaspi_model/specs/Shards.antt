@@ -1,6 +1,6 @@
 -- The shards of an event: the parts of the state that it reads and changes. A shard is the posts of a rank or the memory of
 -- a rank. (own choice)
-use Rattle.std.specs.Prelude.{◌≡◌, ℕ, Bool, true, false, ◌==◌, List, [], ◌∷◌, map, Option, None, Some, Result, Ok, Err, slice_get}
+use Rattle.std.specs.Prelude.{◌≡◌, ℕ, Bool, true, false, ◌==◌, List, [], ◌∷◌, map, Option, None, Some, Result, Ok, Err, if◌then◌else◌, slice_get}
 use Rattle.std.specs.List.{list_any}
 use Rattle.gaspi_types.specs.declared.entries.Entry.{Entry}
 use Rattle.gaspi_types.specs.declared.events.Event.{Event}
@@ -63,10 +63,15 @@ ComeToSame s s' (Err why) (Err why') = why ≡ why'
 ComeToSame s s' (Ok t) (Err why) = ⊥
 ComeToSame s s' (Err why) (Ok t) = ⊥
 
--- Coarser shards: each shard has a number, and those of one number are one. So a rank's posts and memory can be one shard,
--- or the whole state.
-abbrev pub numbers_of : (Shard → ℕ) → State → Event → List ℕ
-numbers_of number s e = map number (footprint s e)
-
 abbrev pub is_among : List ℕ → ℕ → Bool
 is_among list n = list_any (λ m. m == n) list
+
+-- numbers without those that stand again behind
+abbrev pub without_repeats : List ℕ → List ℕ
+without_repeats [] = []
+without_repeats (n ∷ list) = if is_among list n then without_repeats list else n ∷ without_repeats list
+
+-- Coarser shards: each shard has a number, and those of one number are one. So a rank's posts and memory can be one shard,
+-- or the whole state. The numbers of an event's shards, each once.
+abbrev pub numbers_of : (Shard → ℕ) → State → Event → List ℕ
+numbers_of number s e = without_repeats (map number (footprint s e))

@@ -1,6 +1,6 @@
 //! Laws of the machine: the contracts of functions that do nothing.
 
-ghost use Rattle.std.specs.Prelude.{◌≡◌, ◌≢◌, ℕ, ◌+◌, ◌%◌, ◌^◌, ◌<◌, ◌≤◌, ◌∷◌, ◌++◌, [], List, Ok, Some, IsOk, true, false, length, slice_get};
+ghost use Rattle.std.specs.Prelude.{◌==◌, ◌≡◌, ◌≢◌, ℕ, ◌+◌, ◌%◌, ◌^◌, ◌<◌, ◌≤◌, ◌∷◌, ◌++◌, [], List, Ok, Some, IsOk, true, false, length, slice_get};
 ghost use Rattle.byteorder.specs.Endian.{little_bytes};
 ghost use Rattle.gaspi_types.specs.CallRows.{need_of, row_of};
 ghost use Rattle.gaspi_types.specs.declared.call_rows.Posting.{Posting};
@@ -181,13 +181,14 @@ pub fn locality()
 {}
 
 /// The same of coarser shards, where each shard has a number and those of one number are one: so of a rank's posts and
-/// memory as one shard, or of the whole state. A number may stand twice in the list of an event's.
+/// memory as one shard, or of the whole state. The numbers of an event's shards are listed once each.
 pub fn coarser_locality()
     ensures frame { (number : Shard → ℕ) (s t : State) (e : Event) (shard : Shard) → step s e ≡ Ok t → is_among (numbers_of number s e) (number shard) ≡ false
         → HaveSamePart t s shard }
     ensures determined { (number : Shard → ℕ) (s s' : State) (e : Event) → AgreeOn (λ shard. is_among (numbers_of number s e) (number shard)) s s'
         → ComeToSame s s' (step s e) (step s' e) }
     ensures owner { (number : Shard → ℕ) (s : State) (e : Event) → is_among (numbers_of number s e) (number (shards.Posts (owner_of e))) ≡ true }
+    ensures once { (number : Shard → ℕ) (s : State) (e : Event) (n : ℕ) → count_by (λ m. m == n) (numbers_of number s e) ≤ 1 }
 {}
 
 /// Where no transfer may come next, every lane of a queue that is not broken is empty: nothing stands still for want of

@@ -1,4 +1,4 @@
-use Rattle.gaspi_model.proofs.LocalSteps.{coarse-frame, coarse-determined, coarse-owner}
+use Rattle.gaspi_model.proofs.LocalSteps.{coarse-frame, coarse-determined, coarse-owner, coarse-once}
 use Rattle.gaspi_model.proofs.laws.coarser_locality.Goals as goal
 
 pub returns-clause-frame : goal.returns-clause-frame
@@ -9,3 +9,6 @@ returns-clause-determined c = coarse-determined
 
 pub returns-clause-owner : goal.returns-clause-owner
 returns-clause-owner c = coarse-owner
+
+pub returns-clause-once : goal.returns-clause-once
+returns-clause-once c = coarse-once
