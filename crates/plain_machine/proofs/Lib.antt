@@ -2,6 +2,7 @@ pub mod Fitting
 pub mod Kept
 pub mod Lifted
 pub mod Lists
+pub mod Moved
 pub mod Opened
 pub mod Parted
 pub mod Ranges

@@ -2,11 +2,9 @@
 use Rattle.std.proofs.Common.{◌≡◌, ℕ, ◌+◌, ◌^◌, ◌<◌, true, Option, None, Some, Result, Ok, Err, length, slice_get, slice_set, refl, sym, ap, subst, ◌∙◌, arith, List}
 use Rattle.std.proofs.lemmas.Bool.Decides.{nat_tests}
 use Rattle.gaspi_types.specs.Checks.{◌>>=◌, found}
-use Rattle.gaspi_types.specs.Touches.{take_touch, put_touch}
 use Rattle.gaspi_types.specs.World.{are_limits}
 use Rattle.gaspi_types.specs.declared.calls.Call.{Call}
-use Rattle.gaspi_types.specs.declared.events.Event.TheVariants.{Called, Take, Put}
-use Rattle.gaspi_types.specs.declared.events.Outcome.{Outcome}
+use Rattle.gaspi_types.specs.declared.events.Event.TheVariants.{Called}
 use Rattle.gaspi_types.specs.declared.replies.Reply.{Reply}
 use Rattle.gaspi_types.specs.declared.shapes.CallerId.{CallerId}
 use Rattle.gaspi_types.specs.declared.shapes.Limits.{Limits}
@@ -17,7 +15,7 @@ use Rattle.gaspi_model.specs.Parts.{no_memory}
 use Rattle.gaspi_types.specs.Tables.{changed_at}
 use Rattle.gaspi_model.specs.Sound.{IsSoundPosts}
 use Rattle.gaspi_model.specs.Step.{step, Steps}
-use Rattle.gaspi_model.specs.Transfers.{take, put, Worked}
+use Rattle.gaspi_model.specs.Transfers.{Worked}
 use Rattle.gaspi_model.specs.declared.states.Posts.{Posts}
 use Rattle.gaspi_model.specs.declared.states.Memory.{Memory}
 use Rattle.gaspi_model.specs.declared.states.State.{State}
@@ -25,17 +23,16 @@ use Rattle.gaspi_model.specs.declared.states.StepFault.{StepFault}
 use Rattle.gaspi_model.specs.declared.states.StepFault.TheVariants as faults
 use Rattle.gaspi_model.specs.declared.states.Why.{Why}
 use Rattle.plain_machine.specs.Machine.{taken_of}
-use Rattle.plain_machine.specs.Reaching.{call_reach, entry_reach, memory_at, with_memory_at, with_peer_at, Lent, call_lent, put_lent}
+use Rattle.plain_machine.specs.Reaching.{call_reach, memory_at, with_memory_at, with_peer_at, Lent, call_lent}
 use Rattle.plain_calls.specs.Telling.{told}
 use Rattle.plain_calls.specs.declared.segment_calls.News.{News}
 use Rattle.plain_calls.proofs.Chains.{changed_there}
 use Rattle.plain_calls.proofs.Items.{set_there}
 use Rattle.plain_machine.proofs.Lists.{item_at}
-use Rattle.plain_machine.proofs.Reached.{called_as, take_as, put_as}
-use Rattle.plain_machine.proofs.Kept.{take_keeps, put_keeps}
+use Rattle.plain_machine.proofs.Reached.{called_as}
 
 -- a step on a part, where the whole is made of it
-pub lift_steps : {S : Type 0} (result : Result (Unit {0}) StepFault) (old new : S) (outcome : Result S Why) (s : State) (whole : S → State)
+pub lift_steps : {S T : Type 0} (result : Result (Unit {0}) StepFault) (old new : S) (outcome : Result S Why) (s : T) (whole : S → T)
     → whole old ≡ s → Steps result old new outcome → Steps result s (whole new) (outcome >>= (λ w. Ok (whole w)))
 lift_steps (Ok done) old new outcome s whole is steps = rw steps refl
 lift_steps (Err (faults.Illegal why)) old new outcome s whole is steps = (rw steps.0 refl, ap whole steps.1 ∙ is)
@@ -108,45 +105,6 @@ called_untold s c call reply rank p m m' posts' fault there is none steps =
 pub told_taken : (news : Option News) (peer : Posts) → taken_of (told news peer) ≡ taken_of peer
 told_taken None peer = refl
 told_taken (Some news) peer = refl
-
--- a take on the memory that it works on
-pub take_steps : (s : State) (origin queue target number : ℕ) (outcome : Outcome) (p p' : Posts) (m : Memory) (result : Result (Unit {0}) StepFault)
-    → slice_get s.posts origin ≡ Some p → m ≡ memory_at s.memories origin (entry_reach s.limits origin take_touch p queue target number)
-    → Steps result p p' (take s.limits p m queue target number outcome)
-    → Steps result s (record s { posts = slice_set s.posts origin p' }) (step s (Take origin queue target number outcome))
-take_steps s origin queue target number outcome p p' m result there memory steps =
-    let is_step : step s (Take origin queue target number outcome) ≡ (take s.limits p m queue target number outcome >>= (λ after. Ok (record s { posts = slice_set s.posts origin after }))) =
-    rw memory (take_as s origin queue target number outcome p _ there refl) in
-    subst (λ (o : Result State Why). Steps result s (record s { posts = slice_set s.posts origin p' }) o) (sym is_step)
-    (lift_steps result p p' (take s.limits p m queue target number outcome) s (λ (after : Posts). record s { posts = slice_set s.posts origin after })
-    (ap (λ (ps : List Posts). record s { posts = ps }) (set_there s.posts origin p there)) steps)
-
--- a put on the memory that it works on
-pub put_steps : (s : State) (origin queue target number : ℕ) (outcome : Outcome) (p : Posts) (reach : Reach) (result : Result (Unit {0}) StepFault) (m : Memory) (posts' : List Posts) (m' : Memory)
-    → slice_get s.posts origin ≡ Some p → entry_reach s.limits origin (put_touch target) p queue target number ≡ reach
-    → memory_at s.memories origin reach ≡ m → with_memory_at s.memories origin reach m ≡ s.memories
-    → Steps {S = Lent} result (record { posts = s.posts; memory = m }) (record { posts = posts'; memory = m' }) (put_lent s.posts m origin queue target number outcome)
-    → Steps result s (record s { posts = posts'; memories = with_memory_at s.memories origin reach m' }) (step s (Put origin queue target number outcome))
-put_steps s origin queue target number outcome p reach result m posts' m' there is memory kept steps =
-    let whole : Lent → State = λ w. record s { posts = w.posts; memories = with_memory_at s.memories origin reach w.memory } in
-    let is_step : step s (Put origin queue target number outcome) ≡ (put_lent s.posts m origin queue target number outcome >>= (λ w. Ok (whole w))) =
-    rw memory at (put_as s origin queue target number outcome p reach there is) in
-    subst (λ (o : Result State Why). Steps result s (whole (record { posts = posts'; memory = m' })) o) (sym is_step)
-    (lift_steps result (record { posts = s.posts; memory = m }) (record { posts = posts'; memory = m' }) (put_lent s.posts m origin queue target number outcome) s whole
-    (ap (λ (ms : List Memory). record s { memories = ms }) kept) steps)
-
--- a take and a put keep the room that their origin has taken
-pub take_taken : (limits : Limits) (p p' : Posts) (m : Memory) (queue target number : ℕ) (outcome : Outcome) (result : Result (Unit {0}) StepFault)
-    → Steps result p p' (take limits p m queue target number outcome) → taken_of p' ≡ taken_of p
-take_taken limits p p' m queue target number outcome (Ok done) steps = (take_keeps limits p m queue target number outcome p' steps).taken
-take_taken limits p p' m queue target number outcome (Err (faults.Illegal why)) steps = ap taken_of steps.1
-take_taken limits p p' m queue target number outcome (Err faults.NoMemory) steps = ap taken_of steps
-
-pub put_taken : (p p' : Posts) (m m' : Memory) (queue target number : ℕ) (outcome : Outcome) (result : Result (Unit {0}) StepFault)
-    → Steps {S = Worked} result (record { posts = p; memory = m }) (record { posts = p'; memory = m' }) (put p m queue target number outcome) → taken_of p' ≡ taken_of p
-put_taken p p' m m' queue target number outcome (Ok done) steps = (put_keeps p m queue target number outcome (record { posts = p'; memory = m' }) steps).taken
-put_taken p p' m m' queue target number outcome (Err (faults.Illegal why)) steps = ap (λ (w : Worked). taken_of w.posts) steps.1
-put_taken p p' m m' queue target number outcome (Err faults.NoMemory) steps = ap (λ (w : Worked). taken_of w.posts) steps
 
 -- the count of events has room for one more in its 32 bits
 pub events_fit : (limits : Limits) (p : Posts) → are_limits limits ≡ true → IsSoundPosts limits p → p.events + 1 < 2 ^ 32

@@ -2,10 +2,8 @@
 use Rattle.std.proofs.Common.{◌≡◌, ℕ, ◌<◌, true, false, List, Option, None, Some, Result, Err, length, slice_get, refl, sym, ap, subst, ◌∙◌}
 use Rattle.std.proofs.lemmas.Option.{slice_get_within}
 use Rattle.gaspi_types.specs.Replies.{same_reply}
-use Rattle.gaspi_types.specs.Touches.{put_touch}
 use Rattle.gaspi_types.specs.declared.calls.Call.{Call}
-use Rattle.gaspi_types.specs.declared.events.Event.TheVariants.{Called, Put}
-use Rattle.gaspi_types.specs.declared.events.Outcome.{Outcome}
+use Rattle.gaspi_types.specs.declared.events.Event.TheVariants.{Called}
 use Rattle.gaspi_types.specs.declared.replies.Reply.{Reply}
 use Rattle.gaspi_types.specs.declared.replies.Ready.{Ready}
 use Rattle.gaspi_types.specs.declared.shapes.CallerId.{CallerId}
@@ -23,9 +21,9 @@ use Rattle.gaspi_model.specs.declared.states.Why.TheVariants as whys
 use Rattle.plain_calls.specs.declared.looks.Look.{Look}
 use Rattle.plain_machine.specs.Looking.{IsLookIn}
 use Rattle.plain_machine.specs.Machine.{state_of, state_in}
-use Rattle.plain_machine.specs.Reaching.{call_reach, entry_reach, memory_at, with_memory_at, with_peer_at, Lent, call_lent, put_lent}
+use Rattle.plain_machine.specs.Reaching.{call_reach, memory_at, with_memory_at, with_peer_at, Lent, call_lent}
 use Rattle.plain_machine.specs.declared.ranks.Ranks.{Ranks}
-use Rattle.plain_machine.proofs.Lifted.{called_steps, put_steps}
+use Rattle.plain_machine.proofs.Lifted.{called_steps}
 use Rattle.plain_machine.proofs.Reached.{called_as, memory_as}
 
 -- a caller that has a section is of a rank that is there
@@ -72,7 +70,7 @@ pub limits_as : (l l' : Limits) (posts : List Posts) (memories : List Memory) (r
     → Steps result s (state_of l posts memories) outcome → Steps result s (state_of l' posts memories) outcome
 limits_as l l' posts memories result s outcome same steps = subst (λ (x : Limits). Steps result s (state_of x posts memories) outcome) (sym same) steps
 
--- a call, and a put, on the memory that it works on, among the ranks
+-- a call on the memory that it works on, among the ranks
 pub called_ranks : (ranks ranks' : Ranks) (memories : List Memory) (c : CallerId) (call : Call) (reply : Reply) (reach : Reach) (result : Result (Unit {0}) StepFault) (m m' : Memory)
     → is_declared (state_in ranks memories) c.rank c.thread ≡ true → call_reach ranks.limits c.rank call ≡ reach → memory_at memories c.rank reach ≡ m → with_memory_at memories c.rank reach m ≡ memories
     → ((change : Posts → Posts) (all : List Posts) → with_peer_at reach change all ≡ all) → ranks'.limits ≡ ranks.limits
@@ -81,12 +79,3 @@ pub called_ranks : (ranks ranks' : Ranks) (memories : List Memory) (c : CallerId
 called_ranks ranks ranks' memories c call reply reach result m m' declared is memory kept silent limits steps =
     limits_as ranks.limits ranks'.limits ranks'.posts (with_memory_at memories c.rank reach m') result (state_in ranks memories) _ limits
     (called_steps (state_in ranks memories) c call reply reach result m ranks'.posts m' (declared_there (state_in ranks memories) c.rank c.thread declared).within is memory kept silent steps)
-
-pub put_ranks : (ranks ranks' : Ranks) (memories : List Memory) (origin queue target number : ℕ) (outcome : Outcome) (p : Posts) (reach : Reach) (result : Result (Unit {0}) StepFault) (m m' : Memory)
-    → slice_get ranks.posts origin ≡ Some p → entry_reach ranks.limits origin (put_touch target) p queue target number ≡ reach
-    → memory_at memories origin reach ≡ m → with_memory_at memories origin reach m ≡ memories → ranks'.limits ≡ ranks.limits
-    → Steps {S = Lent} result (record { posts = ranks.posts; memory = m }) (record { posts = ranks'.posts; memory = m' }) (put_lent ranks.posts m origin queue target number outcome)
-    → Steps result (state_in ranks memories) (state_in ranks' (with_memory_at memories origin reach m')) (step (state_in ranks memories) (Put origin queue target number outcome))
-put_ranks ranks ranks' memories origin queue target number outcome p reach result m m' there is memory kept limits steps =
-    limits_as ranks.limits ranks'.limits ranks'.posts (with_memory_at memories origin reach m') result (state_in ranks memories) _ limits
-    (put_steps (state_in ranks memories) origin queue target number outcome p reach result m ranks'.posts m' there is memory kept steps)

@@ -217,7 +217,11 @@ fn opening_slots_at(
 
 /// The slots of each segment of a rank.
 #[tactic(auto, using(crate::proofs::Ranges::map_range_more))]
-fn opening_slots(alloc: Global, shape: &Shape, rank: u32) -> Result<Rows<Option<Rows<u32>>>, NoMemory>
+fn opening_slots(
+    alloc: Global,
+    shape: &Shape,
+    rank: u32,
+) -> Result<Rows<Option<Rows<u32>>>, NoMemory>
     ensures { IfOk result (λ slots. slots ≡ opening_slots shape.now rank) }
 {
     let mut slots = Rows::new(alloc);

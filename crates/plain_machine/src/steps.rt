@@ -1,20 +1,22 @@
 //! The step of the machine, on the ranks, their memories and the lanes that have an entry.
 
-ghost use Rattle.std.specs.Prelude.{◌≡◌, ◌≢◌, ◌<◌, length, map, Err, true, false};
+ghost use Rattle.std.specs.Prelude.{◌≡◌, ◌≢◌, ◌<◌, ℕ, List, length, map, Err, false};
 ghost use Rattle.gaspi_types.specs.declared.events.Event.TheVariants.{Take, Put};
+ghost use Rattle.gaspi_types.specs.declared.touches.Reach.TheVariants.{PeerMemory};
 ghost use Rattle.gaspi_model.specs.Step.{step, Steps};
+ghost use Rattle.gaspi_model.specs.declared.states.Memory.{Memory};
 ghost use Rattle.plain_calls.specs.Memory.{takes_memory};
 ghost use Rattle.plain_machine.specs.Machine.{AreWhole, IsMachine, state_in, taken_of};
-ghost use Rattle.plain_machine.specs.Reaching.{Lent, put_lent, AreRanks};
+ghost use Rattle.plain_machine.specs.Entries.{found_at, memories_after_put};
 ghost use Rattle.plain_machine.specs.Standing.{standing_lanes};
 
 use crate::looking::step_called;
 use crate::ranks::Ranks;
-use crate::reaching::{no_memory, put_reach, take_reach, worked_memory};
+use crate::reaching::{no_memory, worked_memory};
 use crate::standing::{LaneId, has_entry, unname_lane};
-use crate::transfers::{put, take};
+use crate::transfers::{FoundEntry, find_entry, put_bytes, set_put, set_taken, take_bytes};
 use gaspi_model::{Memory, StepFault, Why};
-use gaspi_types::{Event, Outcome, Reach, Rows};
+use gaspi_types::{Event, Outcome, RankId, Reach, Rows};
 use std::alloc::Global;
 
 /// Steps by a take: a write takes its bytes from its origin's memory.
@@ -34,43 +36,45 @@ fn step_take(
     if rank >= ranks.posts.len() {
         return Err(StepFault::Illegal(Why::Take));
     }
+    let at = match find_entry(ranks.posts.at(rank), id, number, Why::Take) {
+        Ok(at) => at,
+        Err(why) => return Err(StepFault::Illegal(why)),
+    };
     let none = no_memory(alloc);
-    let reach = take_reach(&ranks.limits, ranks.posts.at(rank), id, number);
+    let reach = at
+        .entry
+        .kind
+        .take_touch()
+        .reach(ranks.limits.ranks, id.origin);
     let memory = worked_memory(memories, &none, id.origin, reach);
-    take(
-        alloc,
-        &ranks.limits,
-        ranks.posts.at_mut(rank),
-        memory,
-        id,
-        number,
-        outcome,
-    )
+    let bytes = take_bytes(alloc, &ranks.limits, memory, &at, outcome)?;
+    let place = at.place;
+    set_taken(ranks.posts.at_mut(rank), id, place, bytes);
+    Ok(())
 }
 
-/// Steps by a put on the posts of its origin and the memory that it works on. It takes no memory.
-fn put_on(
-    ranks: &mut Ranks,
-    memory: &mut Memory,
-    id: &LaneId,
-    number: u32,
+/// Puts an entry that was found into the memory that it reaches. It takes no memory.
+fn put_reached(
+    memories: &mut Rows<Memory>,
+    alloc: Global,
+    me: RankId,
+    reach: Reach,
+    at: &FoundEntry<'_>,
     outcome: Outcome,
 ) -> Result<(), StepFault>
-    requires ranks { AreRanks ranks.old.limits ranks.old.posts }
-    requires taken { ranks.old.taken ≡ map taken_of ranks.old.posts }
-    requires there { id.now.origin < length ranks.old.posts }
-    ensures step { Steps {S = Lent} result (record { posts = ranks.old.posts; memory = memory.old }) (record { posts = ranks.new.posts; memory = memory.new }) (put_lent ranks.old.posts memory.old id.now.origin id.now.queue id.now.target number outcome) }
-    ensures limits { ranks.new.limits ≡ ranks.old.limits }
-    ensures taken { ranks.new.taken ≡ map taken_of ranks.new.posts }
+    requires own { me < length memories.old }
+    requires peer { (rank : ℕ) → reach ≡ PeerMemory rank → rank < length memories.old }
+    ensures step { Steps {S = List Memory} result memories.old memories.new (memories_after_put memories.old me reach (found_at at.now) outcome) }
     ensures ample { result ≢ Err StepFault.NoMemory }
 {
-    put(
-        ranks.posts.at_mut(id.origin.index()),
-        memory,
-        id,
-        number,
-        outcome,
-    )
+    match reach {
+        Reach::OwnMemory => put_bytes(memories.at_mut(me.index()), at, outcome),
+        Reach::PeerMemory(peer) => put_bytes(memories.at_mut(peer.index()), at, outcome),
+        Reach::Alone | Reach::PeerPosts(_) => {
+            let mut none = no_memory(alloc);
+            put_bytes(&mut none, at, outcome)
+        }
+    }
 }
 
 /// Steps by a put, on the memory of its target. It takes no memory.
@@ -91,19 +95,22 @@ fn step_put(
     if rank >= ranks.posts.len() {
         return Err(StepFault::Illegal(Why::Put));
     }
-    match put_reach(&ranks.limits, ranks.posts.at(rank), id, number) {
-        Reach::OwnMemory => {
-            let memory = memories.at_mut(rank);
-            put_on(ranks, memory, id, number, outcome)
+    let at = match find_entry(ranks.posts.at(rank), id, number, Why::Put) {
+        Ok(at) => at,
+        Err(why) => return Err(StepFault::Illegal(why)),
+    };
+    let reach = at
+        .entry
+        .kind
+        .put_touch(id.target)
+        .reach(ranks.limits.ranks, id.origin);
+    match put_reached(memories, alloc, id.origin, reach, &at, outcome) {
+        Ok(()) => {
+            let place = at.place;
+            set_put(ranks.posts.at_mut(rank), id, place, outcome);
+            Ok(())
         }
-        Reach::PeerMemory(peer) => {
-            let memory = memories.at_mut(peer.index());
-            put_on(ranks, memory, id, number, outcome)
-        }
-        Reach::Alone | Reach::PeerPosts(_) => {
-            let mut none = no_memory(alloc);
-            put_on(ranks, &mut none, id, number, outcome)
-        }
+        Err(fault) => Err(fault),
     }
 }
 

@@ -1,15 +1,16 @@
 //! Takes and puts: what a transfer may do, and what it leaves. (GASPI: one-sided communication, notification order)
 
 ghost use Rattle.std.specs.Prelude.{◌≡◌, ◌≢◌, ◌+◌, ◌<◌, ◌^◌, IfOk, Err};
-ghost use Rattle.gaspi_model.specs.Transfers.{same_outcome, find_entry, take, put, put_outcome, target_segment, target_generation, taken_bytes, carried_bytes, memory_put, Worked};
+ghost use Rattle.gaspi_types.specs.declared.entries.Phase.TheVariants.{Carried};
+ghost use Rattle.gaspi_model.specs.Posting.{counted};
+ghost use Rattle.gaspi_model.specs.Transfers.{same_outcome, find_entry, put_outcome, target_segment, target_generation, taken_bytes, carried_bytes, memory_put};
 ghost use Rattle.gaspi_model.specs.Step.{Steps};
-ghost use Rattle.plain_machine.specs.Entries.{Finds, lane_phase, queue_phase, posts_phase, queue_failed, posts_failed_at, queue_without, posts_without};
+ghost use Rattle.gaspi_model.specs.declared.states.Memory.{Memory};
+ghost use Rattle.plain_machine.specs.Entries.{Finds, Gives, found_at, bytes_taken, memory_after_put, posts_after_put, lane_phase, queue_phase, posts_phase, queue_failed, posts_failed_at, queue_without, posts_without};
 
 use crate::standing::LaneId;
 use gaspi_model::{Memory, Posts, StepFault, Why};
-use gaspi_types::{
-    Bytes, Entry, Kind, Limits, NoMemory, Outcome, Phase, Queue, RankId, Rows,
-};
+use gaspi_types::{Bytes, Entry, Kind, Limits, NoMemory, Outcome, Phase, Queue, RankId, Rows};
 use plain_calls::{bytes_of, may_put, may_take, place_of, segment_at, set_slot};
 use segment_tables::{is_generation, range_of, store_bytes};
 use std::alloc::Global;
@@ -144,38 +145,36 @@ fn remove_entry(posts: &mut Posts, id: &LaneId, place: usize)
     }
 }
 
-/// Steps by a take: the entry is posted, its queue is not broken, and fewer entries of its lane than a queue holds
-/// have taken their bytes.
-pub fn take(
+/// The bytes with which an entry may be taken that was found: it is posted, its queue is not broken, and fewer entries of
+/// its lane than a queue holds have taken their bytes.
+pub fn take_bytes(
     alloc: Global,
     limits: &Limits,
-    posts: &mut Posts,
     memory: &Memory,
-    id: &LaneId,
-    number: u32,
+    at: &FoundEntry<'_>,
     outcome: Outcome,
-) -> Result<(), StepFault>
-    requires { posts.old.events + 1 < 2 ^ 32 }
-    ensures { Steps result posts.old posts.new (take limits.now posts.old memory.now id.now.queue id.now.target number outcome) }
+) -> Result<Bytes, StepFault>
+    ensures { Gives result (bytes_taken limits.now memory.now (found_at at.now) outcome) }
 {
-    let at = match find_entry(posts, id, number, Why::Take) {
-        Ok(at) => at,
-        Err(why) => return Err(StepFault::Illegal(why)),
-    };
     if at.queue.broken.is_some()
         || !may_take(limits.depth, at.lane, at.entry)
         || !same_outcome(outcome, Outcome::Applied)
     {
         return Err(StepFault::Illegal(Why::Take));
     }
-    let bytes = match taken_bytes(alloc, memory, &at.entry.kind) {
-        Ok(bytes) => bytes,
-        Err(NoMemory) => return Err(StepFault::NoMemory),
-    };
-    let place = at.place;
+    match taken_bytes(alloc, memory, &at.entry.kind) {
+        Ok(bytes) => Ok(bytes),
+        Err(NoMemory) => Err(StepFault::NoMemory),
+    }
+}
+
+/// Gives the entry at a place the bytes that it takes, and counts the event.
+pub fn set_taken(posts: &mut Posts, id: &LaneId, place: usize, bytes: Bytes)
+    requires { posts.old.events + 1 < 2 ^ 32 }
+    ensures { posts.new ≡ counted (posts_phase posts.old id.now.queue id.now.target place (Carried bytes)) }
+{
     set_phase(posts, id, place, Phase::Carried(bytes));
     posts.events += 1;
-    Ok(())
 }
 
 /// The segment and the generation to which an entry puts.
@@ -233,41 +232,36 @@ fn memory_put(memory: &mut Memory, entry: &Entry)
     }
 }
 
-/// Steps by a put: the entry has taken its bytes, its queue is not broken, and, for a notification, no earlier write
-/// stands in its lane. It takes no memory.
-pub fn put(
-    posts: &mut Posts,
+/// Puts an entry that was found, into the memory: it has taken its bytes, its queue is not broken, and, for a notification,
+/// no earlier write stands in its lane. It takes no memory.
+pub fn put_bytes(
     memory: &mut Memory,
-    id: &LaneId,
-    number: u32,
+    at: &FoundEntry<'_>,
     outcome: Outcome,
 ) -> Result<(), StepFault>
-    requires { posts.old.events + 1 < 2 ^ 32 }
-    ensures step { Steps {S = Worked} result (record { posts = posts.old; memory = memory.old }) (record { posts = posts.new; memory = memory.new }) (put posts.old memory.old id.now.queue id.now.target number outcome) }
+    ensures step { Steps {S = Memory} result memory.old memory.new (memory_after_put memory.old (found_at at.now) outcome) }
     ensures ample { result ≢ Err StepFault.NoMemory }
 {
-    let at = match find_entry(posts, id, number, Why::Put) {
-        Ok(at) => at,
-        Err(why) => return Err(StepFault::Illegal(why)),
-    };
     if at.queue.broken.is_some()
         || !may_put(at.lane, at.entry)
         || !same_outcome(outcome, put_outcome(memory, &at.entry.kind))
     {
         return Err(StepFault::Illegal(Why::Put));
     }
-    let place = at.place;
-    match outcome {
-        Outcome::Applied => {
-            memory_put(memory, at.entry);
-            remove_entry(posts, id, place);
-            posts.events += 1;
-            Ok(())
-        }
-        Outcome::Failed => {
-            fail_entry(posts, id, place);
-            posts.events += 1;
-            Ok(())
-        }
+    if matches!(outcome, Outcome::Applied) {
+        memory_put(memory, at.entry);
     }
+    Ok(())
+}
+
+/// Takes the entry at a place out of its lane, or marks it as failed, and counts the event.
+pub fn set_put(posts: &mut Posts, id: &LaneId, place: usize, outcome: Outcome)
+    requires { posts.old.events + 1 < 2 ^ 32 }
+    ensures { posts.new ≡ posts_after_put posts.old id.now.queue id.now.target place outcome }
+{
+    match outcome {
+        Outcome::Applied => remove_entry(posts, id, place),
+        Outcome::Failed => fail_entry(posts, id, place),
+    }
+    posts.events += 1;
 }

@@ -1,32 +1,38 @@
-use Rattle.std.proofs.Common.{sym, refl, inl, inr, ◌∙◌}
-use Rattle.gaspi_types.specs.declared.touches.Reach.TheVariants.{Alone, OwnMemory, PeerMemory, PeerPosts}
-use Rattle.plain_calls.proofs.Items.{set_there}
-use Rattle.plain_machine.proofs.Recorded.{put_ranks}
+use Rattle.std.proofs.Common.{◌≡◌, Ok, slice_set, sym, ap, subst, ◌∙◌}
+use Rattle.gaspi_types.specs.Touches.{reach_of}
+use Rattle.gaspi_model.specs.Transfers.{find_entry}
+use Rattle.gaspi_model.specs.declared.states.Posts.{Posts}
+use Rattle.gaspi_model.specs.declared.states.Why.TheVariants as whys
+use Rattle.plain_machine.specs.Entries.{found_at}
+use Rattle.plain_machine.specs.Machine.{state_in}
+use Rattle.plain_machine.proofs.Lifted.{events_fit}
+use Rattle.plain_machine.proofs.Moved.{put_done, put_fault, put_keeps_taken}
 use Rattle.plain_machine.proofs.steps.step_put.Goals as goal
 
-pub returns-in-OwnMemory-clause-step : goal.returns-in-OwnMemory-clause-step
-returns-in-OwnMemory-clause-step c =
-    let own = rw c.index-rank.ensures.value at c.at.ensures in
-    let there = rw c.index-rank.ensures.value at c.at_mut-memory.ensures.value in
+pub set_put-requires : goal.set_put-requires
+set_put-requires c = events_fit c.args.ranks.now.limits _ c.requires.sound.limits (c.requires.sound.posts _ _ c.at_mut.ensures.value)
+
+pub returns-in-Ok-put_reached-clause-step : goal.returns-in-Ok-put_reached-clause-step
+returns-in-Ok-put_reached-clause-step c =
+    let there = rw c.index-rank.ensures.value at c.at_mut.ensures.value in
+    let read = rw c.index-rank.ensures.value at c.at.ensures in
+    let same : c.at.result.now ≡ c.at_mut.result.now = cc in
+    let found : find_entry c.at_mut.result.now c.args.id.now.queue c.args.id.now.target c.args.number whys.Put ≡ Ok (found_at c.in-Ok.at) =
+    subst (λ (p : Posts). find_entry p c.args.id.now.queue c.args.id.now.target c.args.number whys.Put ≡ Ok (found_at c.in-Ok.at)) same c.in-Ok.ensures in
+    let reach = c.reach-reach.ensures ∙ ap (reach_of c.args.ranks.now.limits.ranks c.args.id.now.origin) c.put_touch.ensures in
     rw c.index-rank.ensures.value
-    (put_ranks c.args.ranks.now c.put_on.new.ranks c.args.memories.now c.args.id.now.origin c.args.id.now.queue c.args.id.now.target c.args.number c.args.outcome _ OwnMemory c.put_on.result _ c.put_on.new.memory
-    own (sym c.put_reach.ensures ∙ c.in-OwnMemory.is) (rw there refl) (set_there c.args.memories.now c.args.id.now.origin _ there) c.put_on.ensures.limits c.put_on.ensures.step)
+    (put_done (state_in c.args.ranks.now c.args.memories.now) c.args.id.now.origin c.args.id.now.queue c.args.id.now.target c.args.number c.args.outcome c.at_mut.result.now c.set_put.new.posts (found_at c.in-Ok.at) c.reach-reach.result c.put_reached.new.memories
+    there found reach c.in-Ok-put_reached.ensures.step c.set_put.ensures)
 
-pub returns-in-PeerMemory-clause-step : goal.returns-in-PeerMemory-clause-step
-returns-in-PeerMemory-clause-step c =
-    let own = rw c.index-rank.ensures.value at c.at.ensures in
-    let there = rw c.index.ensures.value at c.at_mut-memory-in-PeerMemory.ensures.value in
-    rw c.index.ensures.value
-    (put_ranks c.args.ranks.now c.put_on-in-PeerMemory.new.ranks c.args.memories.now c.args.id.now.origin c.args.id.now.queue c.args.id.now.target c.args.number c.args.outcome _ (PeerMemory c.in-PeerMemory.peer) c.put_on-in-PeerMemory.result _ c.put_on-in-PeerMemory.new.memory
-    own (sym c.put_reach.ensures ∙ c.in-PeerMemory.is) (rw there refl) (set_there c.args.memories.now c.in-PeerMemory.peer _ there) c.put_on-in-PeerMemory.ensures.limits c.put_on-in-PeerMemory.ensures.step)
+pub returns-in-Ok-put_reached-clause-taken : goal.returns-in-Ok-put_reached-clause-taken
+returns-in-Ok-put_reached-clause-taken c =
+    c.requires.taken
+    ∙ sym (put_keeps_taken (state_in c.args.ranks.now c.args.memories.now) (state_in (record c.args.ranks.now { posts = slice_set c.args.ranks.now.posts c.index-rank.result c.set_put.new.posts }) c.put_reached.new.memories)
+    c.args.id.now.origin c.args.id.now.queue c.args.id.now.target c.args.number c.args.outcome (returns-in-Ok-put_reached-clause-step c))
 
-pub returns-in-Alone-clause-step : goal.returns-in-Alone-clause-step
-returns-in-Alone-clause-step c =
-    let own = rw c.index-rank.ensures.value at c.at.ensures in
-    let none = sym c.no_memory-none.ensures in
-    elim c.in-Alone.is [
-      | inl is ↦ put_ranks c.args.ranks.now c.put_on-in-Alone.new.ranks c.args.memories.now c.args.id.now.origin c.args.id.now.queue c.args.id.now.target c.args.number c.args.outcome _ Alone c.put_on-in-Alone.result _ c.put_on-in-Alone.new.memory
-          own (sym c.put_reach.ensures ∙ is) none refl c.put_on-in-Alone.ensures.limits c.put_on-in-Alone.ensures.step
-      | inr is ↦ put_ranks c.args.ranks.now c.put_on-in-Alone.new.ranks c.args.memories.now c.args.id.now.origin c.args.id.now.queue c.args.id.now.target c.args.number c.args.outcome _ (PeerPosts is.0) c.put_on-in-Alone.result _ c.put_on-in-Alone.new.memory
-          own (sym c.put_reach.ensures ∙ is.1) none refl c.put_on-in-Alone.ensures.limits c.put_on-in-Alone.ensures.step
-    ]
+pub returns-in-Err-put_reached-clause-step : goal.returns-in-Err-put_reached-clause-step
+returns-in-Err-put_reached-clause-step c =
+    let read = rw c.index-rank.ensures.value at c.at.ensures in
+    let reach = c.reach-reach.ensures ∙ ap (reach_of c.args.ranks.now.limits.ranks c.args.id.now.origin) c.put_touch.ensures in
+    put_fault (state_in c.args.ranks.now c.args.memories.now) c.args.id.now.origin c.args.id.now.queue c.args.id.now.target c.args.number c.args.outcome c.at.result.now (found_at c.in-Ok.at) c.reach-reach.result c.put_reached.new.memories c.in-Err-put_reached.fault
+    read c.in-Ok.ensures reach c.in-Err-put_reached.ensures.step
