@@ -1,4 +1,6 @@
-use crate::{Journal, JournalFault, Verdict, check, journals_differ_in_text, read, write};
+use crate::{
+    Journal, JournalFault, JournalPart, Verdict, check, journals_differ_in_text, read, write,
+};
 use gaspi_model::Why;
 use gaspi_types::{
     Bytes, Call, CallerId, Event, Notify, Outcome, QueueId, RankId, Reply, Rows, Shape, Store,
@@ -118,6 +120,21 @@ fn events_read_back(rt: HostRuntime) -> Result<(), Fail> {
         alloc,
         &journal,
         b"journal 1\n0 called 0.0 store 0 0 00ff -> done\n1 take 0 0 1 0 ok\nend 2\n",
+    )
+}
+
+#[test]
+fn a_part_becomes_a_journal(rt: HostRuntime) -> Result<(), Fail> {
+    let alloc = rt.alloc();
+    let mut part = JournalPart::with_room(alloc, 2)?;
+    part.push(take());
+    part.push(put());
+    assert!(rt; !part.has_room());
+    assert_text(
+        &rt,
+        alloc,
+        &part.into_rows(),
+        b"journal 1\n0 take 0 0 1 0 ok\n1 put 0 0 1 0 ok\nend 2\n",
     )
 }
 

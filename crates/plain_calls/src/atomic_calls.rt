@@ -26,9 +26,7 @@ pub fn word_finds(
     if rank >= u64::from(limits.ranks) {
         return Err(Refusal::BadRank);
     }
-    let theirs = known_extent(me, &posts.segments, rank, seg).ok_or(
-        Refusal::Unregistered,
-    )?;
+    let theirs = known_extent(me, &posts.segments, rank, seg).ok_or(Refusal::Unregistered)?;
     if !is_generation(theirs.generation, segment_at(memory, seg)) {
         return Err(Refusal::Unregistered);
     }

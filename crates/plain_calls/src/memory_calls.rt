@@ -14,7 +14,12 @@ use std::alloc::Global;
 pub fn store_finds(posts: &Posts, call: &Store) -> Result<Option<Reply>, Refusal>
     ensures { result ≡ store_finds posts.now call.now }
 {
-    check_own_range(&posts.segments.own, call.seg, call.offset, call.bytes.len() as u64)?;
+    check_own_range(
+        &posts.segments.own,
+        call.seg,
+        call.offset,
+        call.bytes.len() as u64,
+    )?;
     Ok(Some(Reply::Done))
 }
 

@@ -6,8 +6,8 @@ ghost use Rattle.gaspi_types.specs.Lanes.{has_posted};
 ghost use Rattle.gaspi_model.specs.QueueCalls.{wait_finds, closed};
 
 use crate::lanes::has_posted;
-use gaspi_model::{Posts};
-use gaspi_types::{Refusal, Reply, Wait, Queue};
+use gaspi_model::Posts;
+use gaspi_types::{Queue, Refusal, Reply, Wait};
 
 /// Whether an entry of a queue is posted.
 fn has_posted_entry(q: &Queue) -> bool
