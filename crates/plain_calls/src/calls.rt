@@ -121,25 +121,6 @@ pub fn look(
     }
 }
 
-/// What a look at a call answers. The memory is that which the call works on: its rank's or, of an atomic, that of the
-/// rank that it names. Only a load takes memory.
-pub fn answer(
-    alloc: Global,
-    limits: &Limits,
-    me: RankId,
-    posts: &Posts,
-    memory: &Memory,
-    thread: ThreadId,
-    call: &Call,
-) -> Result<Ready, NoMemory>
-    requires { length posts.now.queues ≤ 8 }
-    ensures answer { IfOk result (λ ready. ready ≡ answer limits.now me posts.now memory.now thread call.now) }
-    ensures ample { is_load call.now ≡ false → IsOk result }
-{
-    let look = look(alloc, limits, me, posts, memory, thread, call)?;
-    Ok(look.ready)
-}
-
 /// What a call leaves that posts nothing.
 fn plain_done(
     alloc: Global,

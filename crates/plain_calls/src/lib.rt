@@ -17,10 +17,10 @@ mod replies;
 mod segment_calls;
 mod threads;
 
-pub use calls::{answer, look, news, tell};
+pub use calls::{look, news, tell};
 pub use lanes::{is_carried, is_posted, is_write, may_put, may_take, place_of};
 pub use looks::{Kinds, Look};
 pub use memories::{bytes_of, new_slots, segment_at, set_slot};
-pub use recording::{called, record};
+pub use recording::record;
 pub use segment_calls::News;
 pub use threads::{is_running, is_there, thread_at};

@@ -1,6 +1,6 @@
-//! A look at a call recorded, and a call with a reply, on the posts of its caller's rank and the memory that it works on.
+//! A look at a call recorded, on the posts of its caller's rank and the memory that it works on.
 
-ghost use Rattle.std.specs.Prelude.{◌≡◌, ◌≢◌, ◌+◌, ◌<◌, ◌≤◌, ◌^◌, ◌||◌, length, IfOk, OnOk, OnErr, IsOk, Err, false, true};
+ghost use Rattle.std.specs.Prelude.{◌≡◌, ◌≢◌, ◌+◌, ◌<◌, ◌≤◌, ◌^◌, length, IfOk, OnOk, OnErr, IsOk, Err, false, true};
 ghost use Rattle.gaspi_types.specs.Replies.{is_idle};
 ghost use Rattle.gaspi_types.specs.World.{are_limits};
 ghost use Rattle.gaspi_model.specs.State.{owed, thread_at};
@@ -9,13 +9,13 @@ ghost use Rattle.gaspi_model.specs.Sound.{IsSoundPosts};
 ghost use Rattle.gaspi_model.specs.Step.{called, Steps, is_there};
 ghost use Rattle.gaspi_model.specs.Transfers.{Worked};
 ghost use Rattle.plain_calls.specs.Looks.{IsLook, kinds_of, found_after, made_of};
-ghost use Rattle.plain_calls.specs.Memory.{is_load, keeps_memory};
+ghost use Rattle.plain_calls.specs.Memory.{keeps_memory};
 ghost use Rattle.plain_calls.specs.Room.{HasCallRoom};
 
-use crate::calls::{call_done, look};
+use crate::calls::call_done;
 use crate::looks::Look;
 use crate::replies::{is_idle, recorded_reply};
-use crate::threads::{is_running, is_there, thread_at};
+use crate::threads::{is_running, thread_at};
 use gaspi_model::{Memory, Posts, StepFault, ThreadState, Why};
 use gaspi_types::{Call, Limits, NoMemory, RankId, Ready, Reply, ThreadId};
 use std::alloc::Global;
@@ -108,42 +108,5 @@ pub fn record(
             Ok(reply)
         }
         Err(NoMemory) => Err(StepFault::NoMemory),
-    }
-}
-
-/// Steps by a call with its reply: the caller has a section, the reply is the one that may be recorded, and the rank
-/// has room. `taken` is the room that the rank has taken, before and after.
-pub fn called(
-    alloc: Global,
-    limits: &Limits,
-    me: RankId,
-    posts: &mut Posts,
-    memory: &mut Memory,
-    taken: &mut u32,
-    thread: ThreadId,
-    call: &Call,
-    reply: &Reply,
-) -> Result<(), StepFault>
-    requires limits { are_limits limits.now ≡ true }
-    requires sound { IsSoundPosts limits.now posts.old }
-    requires queues { length posts.old.queues ≤ 8 }
-    requires taken { taken.old ≡ posts.old.events + owed posts.old }
-    ensures step { Steps {S = Worked} result (record { posts = posts.old; memory = memory.old }) (record { posts = posts.new; memory = memory.new }) (called limits.now me posts.old memory.old thread call.now reply.now) }
-    ensures taken { taken.new ≡ posts.new.events + owed posts.new }
-    ensures ample { (is_load call.now || keeps_memory call.now) ≡ false → result ≢ Err StepFault.NoMemory }
-{
-    if !is_there(thread_at(posts, thread)) {
-        return Err(StepFault::Illegal(Why::Caller));
-    }
-    let look = match look(alloc, limits, me, posts, memory, thread, call) {
-        Ok(look) => look,
-        Err(NoMemory) => return Err(StepFault::NoMemory),
-    };
-    if !look.is_recorded_with(reply) {
-        return Err(StepFault::Illegal(Why::Reply));
-    }
-    match record(alloc, limits, me, posts, memory, taken, thread, call, look) {
-        Ok(_) => Ok(()),
-        Err(fault) => Err(fault),
     }
 }
