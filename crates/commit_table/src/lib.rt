@@ -25,7 +25,7 @@ mod views;
 
 pub use close::{Ended, Tally};
 pub use counters::{Counters, Deal, Outcome, carry, raise, raise_both_held, raise_held};
-pub use games::{Game, end_game, raise_often, raised_by_two, start_game};
+pub use games::{Game, end_game, start_game};
 pub use pass::{Note, Pass};
 pub use ranks::{Act, Noted, RankPart, TwoRanks};
 pub use sharded::Sharded;

@@ -1,8 +1,7 @@
-//! Threads that raise two counters over one table.
+//! Passes that raise two counters over one table.
 
 use crate::{
-    CommitTable, Game, Outcome, carry, end_game, raise, raise_both_held, raise_held, raised_by_two,
-    start_game,
+    CommitTable, Game, Outcome, carry, end_game, raise, raise_both_held, raise_held, start_game,
 };
 use std::alloc::Global;
 use std::test::Fail;
@@ -55,22 +54,6 @@ fn a_miss_gives_back_what_was_taken(rt: HostRuntime) -> Result<(), Fail> {
     assert!(rt; matches!(outcome, Outcome::Done(1)));
     let ended = end_game(alloc, table, first, second)?;
     assert!(rt; ended.tally.events() == 2 && ended.shards.as_slice() == [0, 1].as_slice());
-    Ok(())
-}
-
-#[test]
-fn two_threads_raise_counters_of_their_own(rt: HostRuntime) -> Result<(), Fail> {
-    let ended = raised_by_two(&rt, rt.alloc(), 0, 1, 10_000)?;
-    assert!(rt; ended.tally.events() == 20_000);
-    assert!(rt; ended.shards.as_slice() == [10_000, 10_000].as_slice());
-    Ok(())
-}
-
-#[test]
-fn two_threads_raise_one_counter(rt: HostRuntime) -> Result<(), Fail> {
-    let ended = raised_by_two(&rt, rt.alloc(), 1, 1, 10_000)?;
-    assert!(rt; ended.tally.events() == 20_000);
-    assert!(rt; ended.shards.as_slice() == [0, 20_000].as_slice());
     Ok(())
 }
 

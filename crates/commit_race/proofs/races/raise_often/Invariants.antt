@@ -1,6 +1,6 @@
 use Rattle.std.proofs.Common.{◌≡◌}
 use Rattle.commit_table.specs.Calls.{IsOf, HoldsNone}
-use Rattle.commit_table.proofs.games.raise_often.Given as goal
+use Rattle.commit_race.proofs.races.raise_often.Given as goal
 
 abbrev pub invariant-loop : goal.invariant-loop
 invariant-loop g l =
