@@ -1,6 +1,6 @@
 //! Two threads that raise counters over one table.
 
-ghost use Rattle.std.specs.Prelude.{◌≡◌, ◌<◌, IfOk};
+ghost use Rattle.std.specs.Prelude.{◌≡◌, ◌<◌, length, IfOk};
 ghost use Rattle.commit_table.specs.Counters.{counters};
 ghost use Rattle.commit_table.specs.Calls.{IsOf, HoldsNone, Closed, AreShards};
 
@@ -46,6 +46,7 @@ pub fn raised_by_two<R: Threads + Wait + Sync>(
     times: u64,
 ) -> Result<Ended<Counters>, AllocError>
     requires { (first_counter < 2) × (second_counter < 2) }
+    ensures passes { IfOk result (λ end. length end.tally.passes ≡ 2) }
     ensures journal { IfOk result (λ end. Closed counters end.tally.journal end.tally.passes) }
     ensures shards { IfOk result (λ end. AreShards counters end.shards.items end.tally.journal) }
 {

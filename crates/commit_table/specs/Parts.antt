@@ -66,7 +66,7 @@ module _ {P X E : Type 0} (a : Parts P X E) where
     party = a.party;
   }
 
-  -- an event that may happen at a place may happen at each later place with the same parts: the place is written, not tested
+  -- an event that may happen at a place may happen at each later place with the same parts
   abbrev pub Lasts : Type 0
   Lasts = (place later : ℕ) (e : E) (own : P) (others : List P) (new : P × List P) → place ≤ later → a.act place e own others ≡ Some new → (made : P × List P) × (a.act later e own others ≡ Some made)
 

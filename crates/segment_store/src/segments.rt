@@ -166,6 +166,14 @@ impl Segments {
         range_of(bytes_of(&self.own, seg), offset as usize, size as usize)
     }
 
+    /// The table of segments, lent: its own, and what it knows of those of others. A rank's posts are built from it.
+    pub fn table(&self) -> &SegmentTable
+        ensures table { result.now ≡ self.now.table }
+        ensures sound { IsSound self.now }
+    {
+        &self.table
+    }
+
     /// How many bytes an own segment has; None exactly where it is not there.
     pub fn size_of(&self, seg: u64) -> Option<u32>
         ensures size { result ≡ option_map (λ mine. mine.size) (extent_in self.now.table.own seg) }
@@ -198,7 +206,8 @@ impl Segments {
         );
     }
 
-    /// The generation and the size in which a segment of an owner is known; None exactly where it is not.
+    /// The generation and the size in which a segment of another rank was made known; None exactly where none was. What the
+    /// rank knows of its own segments is what is there (`size_of`, `generation`).
     pub fn known(&self, owner: RankId, seg: u64) -> Option<(u32, u32)>
         requires { owner < length self.now.table.known }
         ensures { result ≡ option_map (λ extent. (extent.generation, extent.size)) (extent_in (known_of self.now.table.known owner) seg) }

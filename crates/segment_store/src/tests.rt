@@ -229,6 +229,7 @@ fn ranges_are_stored(rt: &impl Abort, alloc: Global) -> Result<(), Fail> {
 fn others_are_known(rt: &impl Abort, alloc: Global) -> Result<(), Fail> {
     let mut segments = Segments::new(alloc, 2)?;
     assert!(rt; !segments.has_rank(RankId::of(2)));
+    assert_eq!(rt; segments.table().known.len(), 2);
     for seg in [0, 31, 32, u64::MAX] {
         knows(rt, &segments, 1, seg, None);
     }
