@@ -18,9 +18,10 @@ pub use writing::write;
 /// The events of a world in the order in which they happened: the place of an event is its index, from 0.
 pub type Journal = Rows<Event>;
 
-/// A part of a journal with room for so many events: it takes its memory when it is made, and adding an event below its
-/// room cannot fail. `into_rows` makes a journal of it, without taking memory.
-pub type JournalPart = Buffer<Event>;
+/// A journal with room for so many events: it takes its memory when it is made, and adding an event below its room cannot
+/// fail. `into_rows` makes a journal of it, without taking memory. The place of an event is its index, so it is the journal of
+/// a whole world, as under one lock, and not the part of one rank.
+pub type ReservedJournal = Buffer<Event>;
 
 #[cfg(test)]
 mod tests;

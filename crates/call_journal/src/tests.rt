@@ -1,5 +1,5 @@
 use crate::{
-    Journal, JournalFault, JournalPart, Verdict, check, journals_differ_in_text, read, write,
+    Journal, JournalFault, ReservedJournal, Verdict, check, journals_differ_in_text, read, write,
 };
 use gaspi_model::Why;
 use gaspi_types::{
@@ -124,16 +124,16 @@ fn events_read_back(rt: HostRuntime) -> Result<(), Fail> {
 }
 
 #[test]
-fn a_part_becomes_a_journal(rt: HostRuntime) -> Result<(), Fail> {
+fn a_reserved_journal_becomes_a_journal(rt: HostRuntime) -> Result<(), Fail> {
     let alloc = rt.alloc();
-    let mut part = JournalPart::with_room(alloc, 2)?;
-    part.push(take());
-    part.push(put());
-    assert!(rt; !part.has_room());
+    let mut reserved = ReservedJournal::with_room(alloc, 2)?;
+    reserved.push(take());
+    reserved.push(put());
+    assert!(rt; !reserved.has_room());
     assert_text(
         &rt,
         alloc,
-        &part.into_rows(),
+        &reserved.into_rows(),
         b"journal 1\n0 take 0 0 1 0 ok\n1 put 0 0 1 0 ok\nend 2\n",
     )
 }

@@ -20,7 +20,6 @@ use Rattle.gaspi_model.specs.Sound.{IsSound}
 use Rattle.gaspi_model.specs.Step.{step, transfer_event, answer_in, room_taken, own_calls, is_active, ends_caller}
 use Rattle.gaspi_model.specs.Transfers.{transfers}
 use Rattle.gaspi_model.specs.declared.states.Posts.{Posts}
-use Rattle.gaspi_model.specs.declared.states.Memory.{Memory}
 use Rattle.gaspi_model.specs.declared.states.State.{State}
 use Rattle.gaspi_model.specs.declared.states.Why.{Why}
 use Rattle.gaspi_types.proofs.Items.{past-none}

@@ -5,7 +5,6 @@ use Rattle.std.proofs.lemmas.Bool.{leb-false, ltb-true, ne_eqb}
 use Rattle.std.proofs.lemmas.List.Sums.{sum_by-cons, sum_by-set, sum_by-remove}
 use Rattle.std.proofs.lemmas.Option.{slice_get_within, get_or_from_slice_get}
 use Rattle.gaspi_types.specs.CallRows.{need_of}
-use Rattle.gaspi_types.specs.declared.shapes.Limits.{Limits}
 use Rattle.gaspi_types.specs.declared.calls.Call.{Call}
 use Rattle.gaspi_types.specs.declared.calls.Call.TheVariants.{End}
 use Rattle.gaspi_types.specs.declared.replies.Reply.{Reply}
@@ -20,7 +19,6 @@ use Rattle.gaspi_model.specs.Step.{step, transfer_event, answer_in, room_taken}
 use Rattle.gaspi_model.specs.Transfers.{transfers}
 use Rattle.gaspi_model.specs.declared.states.State.{State}
 use Rattle.gaspi_model.specs.declared.states.Posts.{Posts}
-use Rattle.gaspi_model.specs.declared.states.Memory.{Memory}
 use Rattle.gaspi_model.specs.declared.states.Why.{Why}
 use Rattle.rank_script.specs.Runs.{Progress, Going, Over, going_on, advanced, stopped, is_timeout, is_stuck, is_retried, is_failed}
 use Rattle.rank_script.specs.declared.scripts.Halted.TheVariants as halts

@@ -7,7 +7,7 @@ ghost use Rattle.gaspi_model.specs.Step.{transfer_event};
 ghost use Rattle.gaspi_model.specs.Transfers.{transfers};
 ghost use Rattle.gaspi_run.specs.Generator.{drawn};
 ghost use Rattle.gaspi_run.specs.Schedule.{made, looks_of, recorded, looked, going_turn, ending_turn, caller_turn, candidate_turn, candidates, turn, AreDeclared};
-ghost use Rattle.plain_machine.specs.Looking.{IsLookIn};
+ghost use Rattle.plain_machine.specs.Looking.{IsFindingIn};
 ghost use Rattle.rank_script.specs.Runs.{advanced};
 ghost use Rattle.rank_script.specs.declared.scripts.ScriptLine.{ScriptLine};
 ghost use Rattle.gaspi_run.specs.declared.turns.Waiting.{Waiting};
@@ -15,7 +15,7 @@ ghost use Rattle.gaspi_run.specs.declared.turns.Waiting.{Waiting};
 use crate::turns::{Finished, Turns, Waiting};
 use gaspi_model::StepFault;
 use gaspi_types::{Call, Event, NoMemory, Ready, Reply, Timeout, Transfer, need};
-use plain_calls::Look;
+use plain_calls::Finding;
 use rank_script::{Halted, RunOutcome};
 use std::alloc::Global;
 
@@ -67,11 +67,11 @@ fn record_call(
     alloc: Global,
     place: usize,
     call: &Call,
-    look: Look,
+    look: Finding,
 ) -> Result<(), NoMemory>
     requires place { place < length turns.old.waiting }
     requires declared { AreDeclared turns.old }
-    requires look { (w : Waiting) → slice_get turns.old.waiting place ≡ Some w → IsLookIn look turns.old.state w.caller call.now }
+    requires look { (w : Waiting) → slice_get turns.old.waiting place ≡ Some w → IsFindingIn look turns.old.state w.caller call.now }
     ensures { (w : Waiting) → slice_get turns.old.waiting place ≡ Some w → OnOk result (turns.new ≡ recorded turns.old place w call.now (recorded_reply look.ready)) }
 {
     let call = call.copy(alloc)?;
@@ -113,11 +113,11 @@ fn look_again(
     place: usize,
     call: &Call,
     timeout: Timeout,
-    look: Look,
+    look: Finding,
 ) -> Result<(), NoMemory>
     requires place { place < length turns.old.waiting }
     requires declared { AreDeclared turns.old }
-    requires look { (w : Waiting) → slice_get turns.old.waiting place ≡ Some w → IsLookIn look turns.old.state w.caller call.now }
+    requires look { (w : Waiting) → slice_get turns.old.waiting place ≡ Some w → IsFindingIn look turns.old.state w.caller call.now }
     requires not_ready { look.ready ≡ NotReady }
     ensures { (w : Waiting) (line : ScriptLine) → slice_get turns.old.waiting place ≡ Some w → line.call ≡ call.now → line.timeout ≡ timeout
         → OnOk result (turns.new ≡ looked limit turns.old place w line) }

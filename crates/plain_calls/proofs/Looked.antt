@@ -21,9 +21,9 @@ use Rattle.gaspi_model.specs.declared.states.ThreadState.{ThreadState}
 use Rattle.gaspi_model.specs.declared.states.Why.{Why}
 use Rattle.gaspi_model.specs.declared.states.Why.TheVariants as whys
 use Rattle.gaspi_model.proofs.EnabledEvents.{same_reply-refl}
-use Rattle.plain_calls.specs.Looks.{IsLook, kinds_of, found_done, found_after, made_of}
+use Rattle.plain_calls.specs.Looks.{IsFinding, kinds_of, found_done, found_after, made_of}
 use Rattle.plain_calls.specs.Room.{HasCallRoom}
-use Rattle.plain_calls.specs.declared.looks.Look.{Look}
+use Rattle.plain_calls.specs.declared.looks.Finding.{Finding}
 use Rattle.plain_calls.proofs.CallRoom.{found_by, room_by, taken_by}
 
 -- a call that posts nothing asks for nothing
@@ -49,8 +49,8 @@ found_done-same limits me posts thread call kinds asks = by_posting (row_of call
     by_posting None is = rw is refl
     by_posting (Some to) is = rw is (ap (with_post posts to.queue to.rank) (sym asks))
 
-pub found_after-same : (look : Look) (limits : Limits) (me : ℕ) (posts : Posts) (memory : Memory) (thread : ℕ) (call : Call)
-    → IsLook look limits me posts memory thread call → found_after posts thread call look ≡ posts_after limits me posts thread call (recorded_reply look.ready)
+pub found_after-same : (look : Finding) (limits : Limits) (me : ℕ) (posts : Posts) (memory : Memory) (thread : ℕ) (call : Call)
+    → IsFinding look limits me posts memory thread call → found_after posts thread call look ≡ posts_after limits me posts thread call (recorded_reply look.ready)
 found_after-same look limits me posts memory thread call l = by_idle (is_idle (recorded_reply look.ready)) refl
   where
     by_idle : (idle : Bool) → is_idle (recorded_reply look.ready) ≡ idle → found_after posts thread call look ≡ posts_after limits me posts thread call (recorded_reply look.ready)
@@ -58,21 +58,21 @@ found_after-same look limits me posts memory thread call l = by_idle (is_idle (r
     by_idle false busy = rw busy (ap counted (found_done-same limits me posts thread call (kinds_of look.kinds) (l.kinds busy)))
 
 -- the reply is the one that may be recorded
-pub look_same : (look : Look) (limits : Limits) (me : ℕ) (posts : Posts) (memory : Memory) (thread : ℕ) (call : Call)
-    → IsLook look limits me posts memory thread call → same_reply (recorded_reply look.ready) (recorded_reply (answer limits me posts memory thread call)) ≡ true
+pub look_same : (look : Finding) (limits : Limits) (me : ℕ) (posts : Posts) (memory : Memory) (thread : ℕ) (call : Call)
+    → IsFinding look limits me posts memory thread call → same_reply (recorded_reply look.ready) (recorded_reply (answer limits me posts memory thread call)) ≡ true
 look_same look limits me posts memory thread call l =
     ap (λ (r : Ready). same_reply (recorded_reply look.ready) (recorded_reply r)) (sym l.ready) ∙ same_reply-refl (recorded_reply look.ready)
 
-pub look_room : (look : Look) (limits : Limits) (me : ℕ) (posts : Posts) (memory : Memory) (thread : ℕ) (call : Call)
-    → are_limits limits ≡ true → IsSoundPosts limits posts → IsLook look limits me posts memory thread call
+pub look_room : (look : Finding) (limits : Limits) (me : ℕ) (posts : Posts) (memory : Memory) (thread : ℕ) (call : Call)
+    → are_limits limits ≡ true → IsSoundPosts limits posts → IsFinding look limits me posts memory thread call
     → is_idle (recorded_reply look.ready) ≡ false → HasCallRoom posts call (length (kinds_of look.kinds))
 look_room look limits me posts memory thread call limited sound l busy =
     room_by limits me posts memory thread call (recorded_reply look.ready) (kinds_of look.kinds) (l.kinds busy) limited sound
     (found_by limits me posts memory thread call (recorded_reply look.ready) (look_same look limits me posts memory thread call l) busy)
 
 -- the step, where the rank has room and where it has none
-pub look_steps : (look : Look) (limits : Limits) (me : ℕ) (posts : Posts) (memory : Memory) (thread : ℕ) (call : Call)
-    → IsLook look limits me posts memory thread call → is_there (thread_at posts thread) ≡ true
+pub look_steps : (look : Finding) (limits : Limits) (me : ℕ) (posts : Posts) (memory : Memory) (thread : ℕ) (call : Call)
+    → IsFinding look limits me posts memory thread call → is_there (thread_at posts thread) ≡ true
     → nat_le (posts.events + owed posts + charge (thread_at posts thread) call (recorded_reply look.ready)) limits.events ≡ true
     → called limits me posts memory thread call (recorded_reply look.ready)
     ≡ Ok (record { posts = found_after posts thread call look; memory = memory_after limits posts memory call (recorded_reply look.ready) })
@@ -80,15 +80,15 @@ look_steps look limits me posts memory thread call l there room =
     rw (there, look_same look limits me posts memory thread call l, room)
     (ap (λ (p : Posts). Ok (record { posts = p; memory = memory_after limits posts memory call (recorded_reply look.ready) })) (sym (found_after-same look limits me posts memory thread call l)))
 
-pub look_limit : (look : Look) (limits : Limits) (me : ℕ) (posts : Posts) (memory : Memory) (thread : ℕ) (call : Call)
-    → IsLook look limits me posts memory thread call → is_there (thread_at posts thread) ≡ true
+pub look_limit : (look : Finding) (limits : Limits) (me : ℕ) (posts : Posts) (memory : Memory) (thread : ℕ) (call : Call)
+    → IsFinding look limits me posts memory thread call → is_there (thread_at posts thread) ≡ true
     → nat_le (posts.events + owed posts + charge (thread_at posts thread) call (recorded_reply look.ready)) limits.events ≡ false
     → called limits me posts memory thread call (recorded_reply look.ready) ≡ Err whys.Limit
 look_limit look limits me posts memory thread call l there full = rw (there, look_same look limits me posts memory thread call l, full) refl
 
 -- what the rank has taken grows by the charge
-pub look_taken : (look : Look) (limits : Limits) (me : ℕ) (posts : Posts) (memory : Memory) (thread : ℕ) (call : Call)
-    → IsSoundPosts limits posts → IsLook look limits me posts memory thread call
+pub look_taken : (look : Finding) (limits : Limits) (me : ℕ) (posts : Posts) (memory : Memory) (thread : ℕ) (call : Call)
+    → IsSoundPosts limits posts → IsFinding look limits me posts memory thread call
     → (found_after posts thread call look).events + owed (found_after posts thread call look)
     ≡ posts.events + owed posts + charge (thread_at posts thread) call (recorded_reply look.ready)
 look_taken look limits me posts memory thread call sound l =

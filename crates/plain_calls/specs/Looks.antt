@@ -16,7 +16,7 @@ use Rattle.gaspi_model.specs.declared.states.Memory.{Memory}
 use Rattle.gaspi_model.specs.declared.states.StepFault.{StepFault}
 use Rattle.plain_calls.specs.declared.looks.Kinds.{Kinds}
 use Rattle.plain_calls.specs.declared.looks.Kinds.TheVariants.{Nothing, One, Two}
-use Rattle.plain_calls.specs.declared.looks.Look.{Look}
+use Rattle.plain_calls.specs.declared.looks.Finding.{Finding}
 
 -- the kinds of the entries, in order
 abbrev pub kinds_of : Kinds → List Kind
@@ -40,13 +40,13 @@ Accepts (Ok kinds) asked finds = (asked ≡ Ok (kinds_of kinds)) × (finds ≡ O
 Accepts (Err refusal) asked finds = finds ≡ Err refusal
 
 -- the look at a call that posts: what it answers, and what it asks for where it is no refusal
-pub record IsPostLook (look : Look) (asked : Result (List Kind) Refusal) (finds : Result (Option Reply) Refusal) : Type 0 where
+pub record IsPostFinding (look : Finding) (asked : Result (List Kind) Refusal) (finds : Result (Option Reply) Refusal) : Type 0 where
   pub ready : look.ready ≡ ready_of finds
   pub kinds : is_idle (recorded_reply look.ready) ≡ false → asked ≡ Ok (kinds_of look.kinds)
 
 -- This is what a look at this call of this caller finds on these posts and this memory: what it answers, and, where it is
 -- recorded neither as a refusal nor as a timeout, what it asks to be appended.
-pub record IsLook (look : Look) (limits : Limits) (me : ℕ) (posts : Posts) (memory : Memory) (thread : ℕ) (call : Call) : Type 0 where
+pub record IsFinding (look : Finding) (limits : Limits) (me : ℕ) (posts : Posts) (memory : Memory) (thread : ℕ) (call : Call) : Type 0 where
   pub ready : look.ready ≡ answer limits me posts memory thread call
   pub kinds : is_idle (recorded_reply look.ready) ≡ false → call_asks limits me posts call ≡ Ok (kinds_of look.kinds)
 
@@ -59,7 +59,7 @@ found_done posts thread call kinds = done_by (row_of call).posting
     done_by (Some to) = with_post posts to.queue to.rank (Ok kinds)
 
 -- a refusal or a timeout changes nothing but the count of events
-abbrev pub found_after : Posts → ℕ → Call → Look → Posts
+abbrev pub found_after : Posts → ℕ → Call → Finding → Posts
 found_after posts thread call look =
     counted (if is_idle (recorded_reply look.ready) then posts else found_done posts thread call (kinds_of look.kinds))
 

@@ -6,13 +6,13 @@ ghost use Rattle.gaspi_types.specs.declared.replies.Refusal.{Refusal};
 ghost use Rattle.gaspi_types.specs.declared.replies.Reply.{Reply};
 ghost use Rattle.gaspi_model.specs.Calls.{plain_finds, answer, plain_done, memory_done, peer_after, recorded_reply};
 ghost use Rattle.gaspi_model.specs.declared.states.Posts.{Posts};
-ghost use Rattle.plain_calls.specs.Looks.{Accepts, IsPostLook, IsLook, found_done};
+ghost use Rattle.plain_calls.specs.Looks.{Accepts, IsPostFinding, IsFinding, found_done};
 ghost use Rattle.plain_calls.specs.Memory.{is_load, is_alloc, keeps_memory};
 ghost use Rattle.plain_calls.specs.Room.{HasPlainRoom, HasCallRoom};
 ghost use Rattle.plain_calls.specs.Telling.{told};
 
 use crate::atomic_calls::{compare_swap_leaves, fetch_add_leaves, word_finds};
-use crate::looks::{Kinds, Look};
+use crate::looks::{Finding, Kinds};
 use crate::memory_calls::{load_finds, store_finds, store_leaves};
 use crate::notification_calls::{reset_finds, reset_leaves, waitsome_finds};
 use crate::post_calls::posting_finds;
@@ -73,15 +73,15 @@ fn plain_finds(
 }
 
 /// The look at a call that posts.
-fn posting_look(finds: Result<Kinds, Refusal>) -> Look
-    ensures { (asked : Result (List Kind) Refusal) (answers : Result (Option Reply) Refusal) → Accepts finds asked answers → IsPostLook result asked answers }
+fn posting_finding(finds: Result<Kinds, Refusal>) -> Finding
+    ensures { (asked : Result (List Kind) Refusal) (answers : Result (Option Reply) Refusal) → Accepts finds asked answers → IsPostFinding result asked answers }
 {
     match finds {
-        Ok(kinds) => Look {
+        Ok(kinds) => Finding {
             ready: Ready::Reply(Reply::Done),
             kinds,
         },
-        Err(refusal) => Look {
+        Err(refusal) => Finding {
             ready: Ready::Reply(Reply::Refused(refusal)),
             kinds: Kinds::Nothing,
         },
@@ -98,22 +98,22 @@ pub fn look(
     memory: &Memory,
     thread: ThreadId,
     call: &Call,
-) -> Result<Look, NoMemory>
+) -> Result<Finding, NoMemory>
     requires { length posts.now.queues ≤ 8 }
-    ensures look { IfOk result (λ look. IsLook look limits.now me posts.now memory.now thread call.now) }
+    ensures look { IfOk result (λ look. IsFinding look limits.now me posts.now memory.now thread call.now) }
     ensures ample { is_load call.now ≡ false → IsOk result }
 {
     if !is_running(thread_at(posts, thread)) {
-        return Ok(Look {
+        return Ok(Finding {
             ready: Ready::Reply(Reply::Refused(Refusal::CallerEnded)),
             kinds: Kinds::Nothing,
         });
     }
     match call.row().posting {
-        Some(to) => Ok(posting_look(posting_finds(limits, me, posts, to, call))),
+        Some(to) => Ok(posting_finding(posting_finds(limits, me, posts, to, call))),
         None => {
             let finds = plain_finds(alloc, limits, me, posts, memory, call)?;
-            Ok(Look {
+            Ok(Finding {
                 ready: ready_of(finds),
                 kinds: Kinds::Nothing,
             })
@@ -177,7 +177,7 @@ pub fn call_done(
 }
 
 /// What a call tells a peer that it reaches, where its look is recorded.
-pub fn news(me: RankId, posts: &Posts, call: &Call, look: &Look) -> Option<News>
+pub fn news(me: RankId, posts: &Posts, call: &Call, look: &Finding) -> Option<News>
     ensures { (peer : Posts) → told result peer ≡ peer_after me posts.now call.now (recorded_reply look.now.ready) peer }
 {
     if look.is_idle() {

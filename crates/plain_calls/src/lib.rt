@@ -19,7 +19,7 @@ mod threads;
 
 pub use calls::{look, news, tell};
 pub use lanes::{is_carried, is_posted, is_write, may_put, may_take, place_of};
-pub use looks::{Kinds, Look};
+pub use looks::{Finding, Kinds};
 pub use memories::{bytes_of, new_slots, segment_at, set_slot};
 pub use recording::record;
 pub use segment_calls::News;

@@ -32,12 +32,12 @@ impl Kinds {
 
 /// What a look at a call found: what it answers, and the kinds of the entries to append where it posts and is done.
 #[derive(Debug, Drop)]
-pub struct Look {
+pub struct Finding {
     pub ready: Ready,
     pub kinds: Kinds,
 }
 
-impl Look {
+impl Finding {
     /// Whether the call is recorded as a refusal or a timeout.
     pub fn is_idle(&self) -> bool
         ensures { result ≡ is_idle (recorded_reply self.now.ready) }

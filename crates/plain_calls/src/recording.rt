@@ -8,12 +8,12 @@ ghost use Rattle.gaspi_model.specs.Calls.{memory_after, charge, recorded_reply};
 ghost use Rattle.gaspi_model.specs.Sound.{IsSoundPosts};
 ghost use Rattle.gaspi_model.specs.Step.{called, Steps, is_there};
 ghost use Rattle.gaspi_model.specs.Transfers.{Worked};
-ghost use Rattle.plain_calls.specs.Looks.{IsLook, kinds_of, found_after, made_of};
+ghost use Rattle.plain_calls.specs.Looks.{IsFinding, kinds_of, found_after, made_of};
 ghost use Rattle.plain_calls.specs.Memory.{keeps_memory};
 ghost use Rattle.plain_calls.specs.Room.{HasCallRoom};
 
 use crate::calls::call_done;
-use crate::looks::Look;
+use crate::looks::Finding;
 use crate::replies::{is_idle, recorded_reply};
 use crate::threads::{is_running, thread_at};
 use gaspi_model::{Memory, Posts, StepFault, ThreadState, Why};
@@ -45,7 +45,7 @@ fn record_found(
     memory: &mut Memory,
     thread: ThreadId,
     call: &Call,
-    look: Look,
+    look: Finding,
 ) -> Result<Reply, NoMemory>
     requires room { is_idle (recorded_reply look.ready) ≡ false → HasCallRoom posts.old call.now (length (kinds_of look.kinds)) }
     requires events { posts.old.events + 1 < 2 ^ 32 }
@@ -85,13 +85,13 @@ pub fn record(
     taken: &mut u32,
     thread: ThreadId,
     call: &Call,
-    look: Look,
+    look: Finding,
 ) -> Result<Reply, StepFault>
     requires limits { are_limits limits.now ≡ true }
     requires sound { IsSoundPosts limits.now posts.old }
     requires taken { taken.old ≡ posts.old.events + owed posts.old }
     requires there { is_there (thread_at posts.old thread) ≡ true }
-    requires look { IsLook look limits.now me posts.old memory.old thread call.now }
+    requires look { IsFinding look limits.now me posts.old memory.old thread call.now }
     ensures reply { IfOk result (λ reply. reply ≡ recorded_reply look.ready) }
     ensures step { Steps {S = Worked} (made_of result) (record { posts = posts.old; memory = memory.old }) (record { posts = posts.new; memory = memory.new }) (called limits.now me posts.old memory.old thread call.now (recorded_reply look.ready)) }
     ensures taken { taken.new ≡ posts.new.events + owed posts.new }

@@ -18,8 +18,8 @@ use Rattle.gaspi_model.specs.declared.states.State.{State}
 use Rattle.gaspi_model.specs.declared.states.StepFault.{StepFault}
 use Rattle.gaspi_model.specs.declared.states.Why.{Why}
 use Rattle.gaspi_model.specs.declared.states.Why.TheVariants as whys
-use Rattle.plain_calls.specs.declared.looks.Look.{Look}
-use Rattle.plain_machine.specs.Looking.{IsLookIn}
+use Rattle.plain_calls.specs.declared.looks.Finding.{Finding}
+use Rattle.plain_machine.specs.Looking.{IsFindingIn}
 use Rattle.plain_machine.specs.Machine.{state_of, state_in}
 use Rattle.plain_machine.specs.Reaching.{call_reach, memory_at, with_memory_at, with_peer_at, Lent, call_lent}
 use Rattle.plain_machine.specs.declared.ranks.Ranks.{Ranks}
@@ -55,7 +55,7 @@ undeclared s c call reply declared = by_item (slice_get s.posts c.rank) refl
         refused s c call reply p whys.Caller is (rw gone refl)
 
 -- one with another reply than what the look found
-pub unanswered : (s : State) (c : CallerId) (call : Call) (reply : Reply) (look : Look) → is_declared s c.rank c.thread ≡ true → IsLookIn look s c call
+pub unanswered : (s : State) (c : CallerId) (call : Call) (reply : Reply) (look : Finding) → is_declared s c.rank c.thread ≡ true → IsFindingIn look s c call
     → same_reply reply (recorded_reply look.ready) ≡ false → step s (Called c call reply) ≡ Err whys.Reply
 unanswered s c call reply look declared finds other =
     let d = declared_there s c.rank c.thread declared in

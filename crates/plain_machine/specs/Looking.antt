@@ -10,21 +10,21 @@ use Rattle.gaspi_model.specs.Step.{call_memory, is_there}
 use Rattle.gaspi_model.specs.declared.states.Posts.{Posts}
 use Rattle.gaspi_model.specs.declared.states.Memory.{Memory}
 use Rattle.gaspi_model.specs.declared.states.State.{State}
-use Rattle.plain_calls.specs.Looks.{IsLook}
-use Rattle.plain_calls.specs.declared.looks.Look.{Look}
+use Rattle.plain_calls.specs.Looks.{IsFinding}
+use Rattle.plain_calls.specs.declared.looks.Finding.{Finding}
 use Rattle.plain_machine.specs.Standing.{call_lane}
 use Rattle.plain_machine.specs.declared.standing.LaneId.{LaneId}
 
 -- this is what a look at this call of this caller finds in this state
-abbrev pub IsLookIn : Look → State → CallerId → Call → Type 0
-IsLookIn look s c call =
-    (posts : Posts) → slice_get s.posts c.rank ≡ Some posts → IsLook look s.limits c.rank posts (call_memory s c.rank posts call) c.thread call
+abbrev pub IsFindingIn : Finding → State → CallerId → Call → Type 0
+IsFindingIn look s c call =
+    (posts : Posts) → slice_get s.posts c.rank ≡ Some posts → IsFinding look s.limits c.rank posts (call_memory s c.rank posts call) c.thread call
 
 -- the same on the posts of its rank and the memory that it works on; and its caller has a section
-pub record IsLookOn (look : Look) (limits : Limits) (posts : Posts) (memory : Memory) (c : CallerId) (call : Call) : Type 0 where
+pub record IsFindingOn (look : Finding) (limits : Limits) (posts : Posts) (memory : Memory) (c : CallerId) (call : Call) : Type 0 where
   pub there : is_there (thread_at posts c.thread) ≡ true
-  pub finds : IsLook look limits c.rank posts memory c.thread call
+  pub finds : IsFinding look limits c.rank posts memory c.thread call
 
 -- the lane to which a call posts whose look is recorded
-abbrev pub look_lane : ℕ → Call → Look → Option LaneId
+abbrev pub look_lane : ℕ → Call → Finding → Option LaneId
 look_lane rank call look = if is_idle (recorded_reply look.ready) then None else call_lane rank call

@@ -9,7 +9,7 @@ ghost use Rattle.gaspi_model.specs.declared.states.Memory.{Memory};
 ghost use Rattle.gaspi_model.specs.declared.states.Posts.{Posts};
 ghost use Rattle.plain_calls.specs.Looks.{made_of};
 ghost use Rattle.plain_calls.specs.Memory.{is_load, keeps_memory};
-ghost use Rattle.plain_machine.specs.Looking.{IsLookIn, IsLookOn};
+ghost use Rattle.plain_machine.specs.Looking.{IsFindingIn, IsFindingOn};
 ghost use Rattle.plain_machine.specs.Machine.{AreWhole, IsMachine, state_in, taken_of};
 ghost use Rattle.plain_machine.specs.Reaching.{call_reach, Lent, call_lent, AreRanks};
 ghost use Rattle.plain_machine.specs.Standing.{standing_lanes};
@@ -19,7 +19,7 @@ use crate::reaching::{call_reach, no_memory, worked_memory};
 use crate::standing::{LaneId, has_entry, look_lane, name_lane};
 use gaspi_model::{Memory, StepFault, Why};
 use gaspi_types::{Call, CallerId, NoMemory, RankId, Reach, Reply, Rows};
-use plain_calls::{Look, is_there, look, news, record, tell, thread_at};
+use plain_calls::{Finding, is_there, look, news, record, tell, thread_at};
 use std::alloc::Global;
 
 /// Whether a caller has a section.
@@ -39,10 +39,10 @@ pub fn look_in(
     alloc: Global,
     caller: &CallerId,
     call: &Call,
-) -> Result<Look, NoMemory>
+) -> Result<Finding, NoMemory>
     requires whole { AreWhole ranks.now memories.now }
     requires there { caller.now.rank < length ranks.now.posts }
-    ensures look { IfOk result (λ look. IsLookIn look (state_in ranks.now memories.now) caller.now call.now) }
+    ensures look { IfOk result (λ look. IsFindingIn look (state_in ranks.now memories.now) caller.now call.now) }
     ensures ample { is_load call.now ≡ false → IsOk result }
 {
     let none = no_memory(alloc);
@@ -65,12 +65,12 @@ fn record_on(
     alloc: Global,
     caller: CallerId,
     call: &Call,
-    look: Look,
+    look: Finding,
 ) -> Result<Reply, StepFault>
     requires ranks { AreRanks ranks.old.limits ranks.old.posts }
     requires taken { ranks.old.taken ≡ map taken_of ranks.old.posts }
     requires there { caller.rank < length ranks.old.posts }
-    requires look { (posts : Posts) → slice_get ranks.old.posts caller.rank ≡ Some posts → IsLookOn look ranks.old.limits posts memory.old caller call.now }
+    requires look { (posts : Posts) → slice_get ranks.old.posts caller.rank ≡ Some posts → IsFindingOn look ranks.old.limits posts memory.old caller call.now }
     ensures reply { IfOk result (λ reply. reply ≡ recorded_reply look.ready) }
     ensures step { Steps {S = Lent} (made_of result) (record { posts = ranks.old.posts; memory = memory.old }) (record { posts = ranks.new.posts; memory = memory.new }) (call_lent ranks.old.limits ranks.old.posts memory.old caller call.now (recorded_reply look.ready)) }
     ensures ranks { length ranks.new.posts ≡ length ranks.old.posts }
@@ -99,12 +99,12 @@ fn record_telling(
     alloc: Global,
     caller: CallerId,
     call: &Call,
-    look: Look,
+    look: Finding,
     peer: RankId,
 ) -> Result<Reply, StepFault>
     requires whole { AreWhole ranks.old memories.now }
     requires declared { is_declared (state_in ranks.old memories.now) caller.rank caller.thread ≡ true }
-    requires look { IsLookIn look (state_in ranks.old memories.now) caller call.now }
+    requires look { IsFindingIn look (state_in ranks.old memories.now) caller call.now }
     requires reach { call_reach ranks.old.limits caller.rank call.now ≡ PeerPosts peer }
     ensures reply { IfOk result (λ reply. reply ≡ recorded_reply look.ready) }
     ensures step { Steps (made_of result) (state_in ranks.old memories.now) (state_in ranks.new memories.now) (step (state_in ranks.old memories.now) (Called caller call.now (recorded_reply look.ready))) }
@@ -135,11 +135,11 @@ fn record_in(
     alloc: Global,
     caller: CallerId,
     call: &Call,
-    look: Look,
+    look: Finding,
 ) -> Result<Reply, StepFault>
     requires whole { AreWhole ranks.old memories.old }
     requires declared { is_declared (state_in ranks.old memories.old) caller.rank caller.thread ≡ true }
-    requires look { IsLookIn look (state_in ranks.old memories.old) caller call.now }
+    requires look { IsFindingIn look (state_in ranks.old memories.old) caller call.now }
     ensures reply { IfOk result (λ reply. reply ≡ recorded_reply look.ready) }
     ensures step { Steps (made_of result) (state_in ranks.old memories.old) (state_in ranks.new memories.new) (step (state_in ranks.old memories.old) (Called caller call.now (recorded_reply look.ready))) }
     ensures taken { ranks.new.taken ≡ map taken_of ranks.new.posts }
@@ -172,11 +172,11 @@ pub fn record_named(
     alloc: Global,
     caller: CallerId,
     call: &Call,
-    look: Look,
+    look: Finding,
 ) -> Result<Reply, StepFault>
     requires machine { IsMachine (state_in ranks.old memories.old) ranks.old.taken standing.old.items }
     requires declared { is_declared (state_in ranks.old memories.old) caller.rank caller.thread ≡ true }
-    requires look { IsLookIn look (state_in ranks.old memories.old) caller call.now }
+    requires look { IsFindingIn look (state_in ranks.old memories.old) caller call.now }
     ensures reply { IfOk result (λ reply. reply ≡ recorded_reply look.ready) }
     ensures step { Steps (made_of result) (state_in ranks.old memories.old) (state_in ranks.new memories.new) (step (state_in ranks.old memories.old) (Called caller call.now (recorded_reply look.ready))) }
     ensures taken { ranks.new.taken ≡ map taken_of ranks.new.posts }

@@ -9,7 +9,7 @@ ghost use Rattle.gaspi_types.specs.declared.events.Event.TheVariants.{Called};
 ghost use Rattle.gaspi_model.specs.Calls.{recorded_reply};
 ghost use Rattle.plain_calls.specs.Looks.{made_of};
 ghost use Rattle.plain_calls.specs.Memory.{is_load, keeps_memory, takes_memory};
-ghost use Rattle.plain_machine.specs.Looking.{IsLookIn};
+ghost use Rattle.plain_machine.specs.Looking.{IsFindingIn};
 
 use crate::listing::{transfer_at, transfer_count, transfers};
 use crate::looking::{has_section, look_in, record_named};
@@ -22,7 +22,7 @@ use gaspi_model::{Memory, StepFault, Why, soundness};
 use gaspi_types::{
     Call, CallerId, Event, NoMemory, Outcome, RankId, Ready, Reply, Rows, Shape, Transfer,
 };
-use plain_calls::{Look, is_running, thread_at};
+use plain_calls::{Finding, is_running, thread_at};
 use std::alloc::Global;
 use std::marker::Model;
 
@@ -88,9 +88,9 @@ impl Machine {
 
     /// Looks at a call of a caller: its refusal or its reply, or that it is not ready, and what it asks to be appended. Only
     /// a load takes memory, for the bytes that it reads.
-    pub fn look(&self, alloc: Global, caller: CallerId, call: &Call) -> Result<Look, NoMemory>
+    pub fn look(&self, alloc: Global, caller: CallerId, call: &Call) -> Result<Finding, NoMemory>
         requires { is_declared self.now caller.rank caller.thread ≡ true }
-        ensures look { IfOk result (λ look. IsLookIn look self.now caller call.now) }
+        ensures look { IfOk result (λ look. IsFindingIn look self.now caller call.now) }
         ensures answer { IfOk result (λ look. answer_in self.now caller.rank caller.thread call.now ≡ Some look.ready) }
         ensures ample { is_load call.now ≡ false → IsOk result }
     {
@@ -105,10 +105,10 @@ impl Machine {
         alloc: Global,
         caller: CallerId,
         call: &Call,
-        look: Look,
+        look: Finding,
     ) -> Result<Reply, StepFault>
         requires declared { is_declared self.old caller.rank caller.thread ≡ true }
-        requires look { IsLookIn look self.old caller call.now }
+        requires look { IsFindingIn look self.old caller call.now }
         ensures reply { IfOk result (λ reply. reply ≡ recorded_reply look.ready) }
         ensures step { Steps (made_of result) self.old self.new (step self.old (Called caller call.now (recorded_reply look.ready))) }
         ensures ample { keeps_memory call.now ≡ false → result ≢ Err StepFault.NoMemory }

@@ -8,7 +8,7 @@ ghost use Rattle.plain_machine.specs.Looking.{look_lane};
 
 use gaspi_model::Posts;
 use gaspi_types::{Call, Entry, Queue, QueueId, RankId, Rows};
-use plain_calls::Look;
+use plain_calls::Finding;
 
 /// The name of a lane: its origin, its queue and its target.
 #[derive(Clone, Copy, Debug, PartialEq, Eq)]
@@ -98,7 +98,7 @@ fn post_lane(rank: RankId, target: u64, queue: u64) -> Option<LaneId>
 }
 
 /// The lane to which a call of a rank posts whose look is recorded.
-pub fn look_lane(rank: RankId, call: &Call, look: &Look) -> Option<LaneId>
+pub fn look_lane(rank: RankId, call: &Call, look: &Finding) -> Option<LaneId>
     ensures { result ≡ look_lane rank call.now look.now }
 {
     if look.is_idle() {
