@@ -8,7 +8,8 @@ mod reading;
 mod verdicts;
 mod writing;
 
-use gaspi_types::{Buffer, Event, Rows};
+use buffers::Buffer;
+use gaspi_types::{Event, Rows};
 pub use laws::journals_differ_in_text;
 pub use ranges::journal_is_in_range;
 pub use reading::{JournalFault, read};

@@ -1,8 +1,6 @@
-pub mod Buffered
 pub mod CallRows
 pub mod Checks
 pub mod Copies
-pub mod Fields
 pub mod Lanes
 pub mod Lending
 pub mod NumberTypes

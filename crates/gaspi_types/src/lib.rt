@@ -1,11 +1,9 @@
 //! The types of the GASPI runtime: the shape of a world, its calls, replies and events.
 #![tactic(auto)]
 
-mod buffers;
 mod call_rows;
 mod calls;
 mod collectives;
-mod comparisons;
 mod entries;
 mod events;
 mod ids;
@@ -16,14 +14,12 @@ mod segments;
 mod shapes;
 mod touches;
 
-pub use buffers::Buffer;
 pub use call_rows::{CallRow, Posting, need};
 pub use calls::{
     Alloc, Call, CompareSwap, Delete, FetchAdd, Load, Notify, Register, Reset, Store, Timeout,
     Wait, Waitsome, Write, WriteNotify,
 };
 pub use collectives::{Coll, NumType, Numbers, Op, Stage, are_in_type, is_in_type};
-pub use comparisons::same_reply;
 pub use entries::{ByteRange, Entry, Kind, NoteSlot, Phase, Queue};
 pub use events::{Event, Outcome, Transfer};
 pub use ids::{NoteId, QueueId, RankId, SegId, ThreadId};

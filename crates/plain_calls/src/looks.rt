@@ -6,7 +6,8 @@ ghost use Rattle.gaspi_model.specs.Calls.{recorded_reply};
 ghost use Rattle.plain_calls.specs.Looks.{kinds_of};
 
 use crate::replies::is_idle;
-use gaspi_types::{Kind, Ready, Reply, same_reply};
+use gaspi_types::{Kind, Ready, Reply};
+use reply_comparison::same_reply;
 
 /// The kinds of the entries that a call asks to be appended, in order.
 #[derive(Clone, Copy, Debug)]

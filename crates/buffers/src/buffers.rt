@@ -2,8 +2,7 @@
 
 ghost use Rattle.std.specs.Prelude.{◌≡◌, ◌<◌, ◌≤◌, ◌↔◌, ◌++◌, ◌∷◌, [], length, take, remove, slice_get, IsTrue, IfOk, Some};
 
-use crate::lists::Rows;
-use crate::memory::NoMemory;
+use gaspi_types::{NoMemory, Rows};
 use std::alloc::Global;
 use std::marker::Model;
 
@@ -17,7 +16,7 @@ pub struct Buffer<T> {
 
 impl<T> Model for Buffer<T> {
     ghost use Rattle.std.specs.Prelude.{◌≤◌, vec_len, vec_capacity};
-    ghost use Rattle.gaspi_types.specs.Buffered.{Buffered};
+    ghost use Rattle.buffers.specs.Buffered.{Buffered};
 
     ghost Value = { Buffered T };
 

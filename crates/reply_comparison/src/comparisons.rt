@@ -2,11 +2,10 @@
 
 ghost use Rattle.std.specs.Prelude.{◌≡◌, nat_eq};
 ghost use Rattle.std.specs.Cmp.Lexicographic.{pointwise};
-ghost use Rattle.gaspi_types.specs.Fields.{listed};
+ghost use Rattle.reply_comparison.specs.Fields.{listed};
 ghost use Rattle.gaspi_types.specs.Replies.{refusal_fields, coll_fields, stage_number, op_number, type_number, same_refusal, same_numbers, same_reply};
 
-use crate::collectives::{Coll, NumType, Numbers, Op, Stage};
-use crate::replies::{Refusal, Reply};
+use gaspi_types::{Coll, NumType, Numbers, Op, Refusal, Reply, Stage};
 
 /// The fields of a refusal as numbers, in order.
 #[derive(Clone, Copy)]
