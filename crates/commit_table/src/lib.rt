@@ -27,7 +27,7 @@ pub use close::{Ended, Tally};
 pub use counters::{Counters, Deal, Outcome, carry, raise, raise_both_held, raise_held};
 pub use games::{Game, end_game, start_game};
 pub use pass::{Note, Pass};
-pub use ranks::{Act, Noted, RankPart, TwoRanks};
+pub use ranks::{Act, Noted, RankPart, TwoRanks, parts_are_the_history};
 pub use sharded::Sharded;
 pub use table::CommitTable;
 pub use views::{Known, Turn, View};

@@ -1,5 +1,12 @@
 //! Two ranks that post to one another: the smallest machine of a runtime's shape. Which shards a post has follows from the
 //! owner's part, and each rank has its part of the journal.
+
+ghost use Rattle.std.specs.Prelude.{◌≡◌, ℕ, zero, List, slice_get, Some};
+ghost use Rattle.commit_table.specs.PartJournals.{cut};
+ghost use Rattle.commit_table.specs.Parts.{parts_of};
+ghost use Rattle.commit_table.specs.Ranks.{rank_parts, act_owner};
+ghost use Rattle.commit_table.specs.RankLaws.{noted_acts};
+
 use crate::sharded::Sharded;
 use std::collections::LinkedList;
 
@@ -45,3 +52,11 @@ impl Sharded for TwoRanks {
 
     ghost lawful = { λ start. ranks_lawful };
 }
+
+/// After a history the part of the journal that a rank has noted is the history cut by owner: all its own events, each with
+/// its place, and no others.
+pub fn parts_are_the_history()
+    ensures { (history : List Act) (parts : List RankPart) → parts_of rank_parts history ≡ Some parts
+        → (rank : ℕ) (first : RankPart) → slice_get rank_parts.first rank ≡ Some first
+        → (part : RankPart) × (slice_get parts rank ≡ Some part) × (noted_acts part ≡ cut act_owner rank zero history) }
+{}

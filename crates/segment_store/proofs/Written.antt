@@ -8,14 +8,14 @@ use Rattle.gaspi_types.specs.Checks.{◌>>=◌, found}
 use Rattle.gaspi_types.specs.SegmentBytes.{is_transfer_size, is_within, range_checks}
 use Rattle.gaspi_types.specs.SegmentTables.{extent_in, own_range_checks}
 use Rattle.gaspi_types.specs.SegmentWords.{word_checks, word_at}
-use Rattle.gaspi_types.specs.Segments.{segment_in, bytes_of, with_bytes}
+use Rattle.gaspi_types.specs.Segments.{segment_in, bytes_of, with_bytes, extents_of}
 use Rattle.gaspi_types.specs.declared.segments.Extent.{Extent}
 use Rattle.gaspi_types.specs.declared.segments.Segment.{Segment}
 use Rattle.gaspi_types.specs.declared.replies.Refusal.{Refusal}
 use Rattle.gaspi_types.specs.declared.replies.Refusal.TheVariants.{BadRange, BadSize, NoSegment, Unregistered}
 use Rattle.gaspi_types.proofs.Items.{set-there}
 use Rattle.gaspi_types.proofs.Written.{segment-behind, segment-written}
-use Rattle.segment_store.specs.Segments.{Stored, IsSound, own_word_checks, own_word, with_stored, with_added, with_swapped}
+use Rattle.segment_store.specs.Segments.{Stored, own_word_checks, word_in, with_stored, with_added, with_swapped}
 use Rattle.segment_store.specs.Changes.{IsWritten}
 
 -- an own segment whose bytes are replaced in a range
@@ -44,24 +44,24 @@ word-checked whole offset h = of-place (is_within offset 8 whole) refl
     of-place false is = absurd (let refused : ◌≡◌ {A = Result (Unit {0}) Refusal} (Err (BadRange whole)) (Ok tt) = rw is at h in let no : ⊥ = cc in no)
 
 -- where the checks that begin with finding the extent of a segment pass, the segment is there and they pass of its size
-segment-found : (s : Stored) (segment : ℕ) (refusal : Refusal) (checks : ℕ → Result (Unit {0}) Refusal) → IsSound s
-    → (found (extent_in s.table.own segment) refusal >>= (λ (mine : Extent). checks mine.size)) ≡ Ok tt
+segment-found : (s : Stored) (segment : ℕ) (refusal : Refusal) (checks : ℕ → Result (Unit {0}) Refusal)
+    → (found (extent_in (extents_of s.segments) segment) refusal >>= (λ (mine : Extent). checks mine.size)) ≡ Ok tt
     → (mine : Segment) × (segment_in s.segments segment ≡ Some mine) × (checks (length mine.bytes) ≡ Ok tt)
-segment-found s segment refusal checks sound h = of-extent (extent_in s.table.own segment) refl
+segment-found s segment refusal checks h = of-extent (extent_in (extents_of s.segments) segment) refl
   where
-    of-extent : (o : Option Extent) → extent_in s.table.own segment ≡ o → (mine : Segment) × (segment_in s.segments segment ≡ Some mine) × (checks (length mine.bytes) ≡ Ok tt)
+    of-extent : (o : Option Extent) → extent_in (extents_of s.segments) segment ≡ o → (mine : Segment) × (segment_in s.segments segment ≡ Some mine) × (checks (length mine.bytes) ≡ Ok tt)
     of-extent None is = absurd (let refused : ◌≡◌ {A = Result (Unit {0}) Refusal} (Err refusal) (Ok tt) = rw is at h in let no : ⊥ = cc in no)
     of-extent (Some x) is =
-        let behind = segment-behind s.segments segment x (subst (λ (own : List (Option Extent)). extent_in own segment ≡ Some x) sound.agrees is) in
+        let behind = segment-behind s.segments segment x is in
         let size : x.size ≡ length behind.0.bytes = ap (λ (e : Extent). e.size) (sym behind.2) in
         let passes : checks x.size ≡ Ok tt = rw is at h in
         (behind.0, behind.1, subst (λ (n : ℕ). checks n ≡ Ok tt) size passes)
 
 -- an atomic that is not refused finds its word
-word-found : (s : Stored) (segment offset old : ℕ) → own_word s segment offset ≡ Ok old → (own_word_checks s.table.own segment offset ≡ Ok tt) × (word_at (bytes_of s.segments segment) offset ≡ old)
-word-found s segment offset old h = of-checks (own_word_checks s.table.own segment offset) refl
+word-found : (s : Stored) (segment offset old : ℕ) → word_in s.segments segment offset ≡ Ok old → (own_word_checks (extents_of s.segments) segment offset ≡ Ok tt) × (word_at (bytes_of s.segments segment) offset ≡ old)
+word-found s segment offset old h = of-checks (own_word_checks (extents_of s.segments) segment offset) refl
   where
-    of-checks : (r : Result (Unit {0}) Refusal) → own_word_checks s.table.own segment offset ≡ r → (own_word_checks s.table.own segment offset ≡ Ok tt) × (word_at (bytes_of s.segments segment) offset ≡ old)
+    of-checks : (r : Result (Unit {0}) Refusal) → own_word_checks (extents_of s.segments) segment offset ≡ r → (own_word_checks (extents_of s.segments) segment offset ≡ Ok tt) × (word_at (bytes_of s.segments segment) offset ≡ old)
     of-checks (Ok done) is = (is, (let same : ◌≡◌ {A = Result ℕ Refusal} (Ok (word_at (bytes_of s.segments segment) offset)) (Ok old) = rw is at h in cc))
     of-checks (Err refusal) is = absurd (let refused : ◌≡◌ {A = Result ℕ Refusal} (Err refusal) (Ok old) = rw is at h in let no : ⊥ = cc in no)
 
@@ -80,29 +80,29 @@ with_bytes-same own segment = go (slice_get own segment) refl
 
 -- the laws
 
-pub stored : (s : Stored) (segment offset : ℕ) (bytes : List ℕ) → IsSound s → own_range_checks s.table.own segment offset (length bytes) ≡ Ok tt → IsWritten s (with_stored s segment offset bytes) segment offset bytes
-stored s segment offset bytes sound h =
-    let at = segment-found s segment NoSegment (λ (size : ℕ). range_checks size offset (length bytes)) sound h in
+pub stored : (s : Stored) (segment offset : ℕ) (bytes : List ℕ) → own_range_checks (extents_of s.segments) segment offset (length bytes) ≡ Ok tt → IsWritten s (with_stored s segment offset bytes) segment offset bytes
+stored s segment offset bytes h =
+    let at = segment-found s segment NoSegment (λ (size : ℕ). range_checks size offset (length bytes)) h in
     written s segment offset at.0 bytes at.1 (range-checked (length at.0.bytes) offset (length bytes) at.2)
 
-pub added : (s : Stored) (segment offset value old : ℕ) → IsSound s → own_word s segment offset ≡ Ok old → IsWritten s (with_added s segment offset value) segment offset (little_bytes 8 ((old + value) % 2 ^ 64))
-added s segment offset value old sound h =
+pub added : (s : Stored) (segment offset value old : ℕ) → word_in s.segments segment offset ≡ Ok old → IsWritten s (with_added s segment offset value) segment offset (little_bytes 8 ((old + value) % 2 ^ 64))
+added s segment offset value old h =
     let word = word-found s segment offset old h in
-    let at = segment-found s segment Unregistered (λ (size : ℕ). word_checks size offset) sound word.0 in
+    let at = segment-found s segment Unregistered (λ (size : ℕ). word_checks size offset) word.0 in
     let eight = length-bytes_low_first 0 8 ((old + value) % 2 ^ 64) in
     let within = word-checked (length at.0.bytes) offset at.2 in
     rw word.1 (written s segment offset at.0 (little_bytes 8 ((old + value) % 2 ^ 64)) at.1 (omega arith))
 
-pub swapped : (s : Stored) (segment offset new old : ℕ) → IsSound s → own_word s segment offset ≡ Ok old → IsWritten s (with_swapped s segment offset old new) segment offset (little_bytes 8 new)
-swapped s segment offset new old sound h =
+pub swapped : (s : Stored) (segment offset new old : ℕ) → word_in s.segments segment offset ≡ Ok old → IsWritten s (with_swapped s segment offset old new) segment offset (little_bytes 8 new)
+swapped s segment offset new old h =
     let word = word-found s segment offset old h in
-    let at = segment-found s segment Unregistered (λ (size : ℕ). word_checks size offset) sound word.0 in
+    let at = segment-found s segment Unregistered (λ (size : ℕ). word_checks size offset) word.0 in
     let is = eq-eqb (word_at (bytes_of s.segments segment) offset) old word.1 in
     let eight = length-bytes_low_first 0 8 new in
     let within = word-checked (length at.0.bytes) offset at.2 in
     rw is (written s segment offset at.0 (little_bytes 8 new) at.1 (omega arith))
 
-pub unequal : (s : Stored) (segment offset comparator new old : ℕ) → own_word s segment offset ≡ Ok old → old ≢ comparator → with_swapped s segment offset comparator new ≡ s
+pub unequal : (s : Stored) (segment offset comparator new old : ℕ) → word_in s.segments segment offset ≡ Ok old → old ≢ comparator → with_swapped s segment offset comparator new ≡ s
 unequal s segment offset comparator new old h apart =
     let word = word-found s segment offset old h in
     let is : (word_at (bytes_of s.segments segment) offset == comparator) ≡ false = ne_eqb _ comparator (λ same. apart (sym word.1 ∙ same)) in

@@ -54,11 +54,18 @@ own_bytes s segment offset size = do
   fits ← own_range_checks s.table.own segment offset size
   Ok (range_of (bytes_of s.segments segment) offset size)
 
--- what an atomic answers: the word that stood there (atomics)
+-- what an atomic answers, checked by a table: the word that stood there (atomics)
+abbrev pub word_by : List (Option Extent) → List (Option Segment) → ℕ → ℕ → Result ℕ Refusal
+word_by own segments segment offset = do
+  fits ← own_word_checks own segment offset
+  Ok (word_at (bytes_of segments segment) offset)
+
 abbrev pub own_word : Stored → ℕ → ℕ → Result ℕ Refusal
-own_word s segment offset = do
-  fits ← own_word_checks s.table.own segment offset
-  Ok (word_at (bytes_of s.segments segment) offset)
+own_word s segment offset = word_by s.table.own s.segments segment offset
+
+-- the same of the segments by themselves, whose generations and sizes are the table
+abbrev pub word_in : List (Option Segment) → ℕ → ℕ → Result ℕ Refusal
+word_in segments segment offset = word_by (extents_of segments) segments segment offset
 
 -- What calls change.
 

@@ -4,25 +4,27 @@ ghost use Rattle.std.specs.Prelude.{◌≡◌, ◌≢◌, ℕ, ◌+◌, ◌%◌,
 ghost use Rattle.std.specs.Option.{option_map};
 ghost use Rattle.byteorder.specs.Endian.{little_bytes};
 ghost use Rattle.gaspi_types.specs.SegmentTables.{extent_in, own_range_checks};
-ghost use Rattle.gaspi_types.specs.Segments.{segment_in, extent_of};
+ghost use Rattle.gaspi_types.specs.Segments.{segment_in, extent_of, extents_of};
 ghost use Rattle.segment_store.specs.Changes.{IsWritten};
-ghost use Rattle.segment_store.specs.Segments.{Stored, IsSound, own_word, with_stored, with_added, with_swapped};
+ghost use Rattle.segment_store.specs.Segments.{Stored, IsSound, word_in, with_stored, with_added, with_swapped};
 
 /// The table of own segments, by which calls are checked, has the generation and the size of each segment, and no others.
 pub fn extents()
-    ensures { (s : Stored) (segment : ℕ) → IsSound s → extent_in s.table.own segment ≡ option_map extent_of (segment_in s.segments segment) }
+    ensures each { (s : Stored) (segment : ℕ) → IsSound s → extent_in s.table.own segment ≡ option_map extent_of (segment_in s.segments segment) }
+    ensures all { (s : Stored) → IsSound s → s.table.own ≡ extents_of s.segments }
 {}
 
 /// What a call that writes changes, where it is not refused: a store exactly the bytes of its range, and an atomic exactly
 /// the eight bytes of its word, the lowest first. Every other byte, every other segment, all generations and all that is
-/// known stay. A word that is not the comparator stays too. (GASPI: segments, atomics)
+/// known stay. A word that is not the comparator stays too. Whether it is refused is told by the generations and sizes of the
+/// segments themselves, which is the table that calls are checked by. (GASPI: segments, atomics)
 pub fn writes()
-    ensures store { (s : Stored) (segment offset : ℕ) (bytes : List ℕ) → IsSound s → own_range_checks s.table.own segment offset (length bytes) ≡ Ok tt
+    ensures store { (s : Stored) (segment offset : ℕ) (bytes : List ℕ) → own_range_checks (extents_of s.segments) segment offset (length bytes) ≡ Ok tt
         → IsWritten s (with_stored s segment offset bytes) segment offset bytes }
-    ensures added { (s : Stored) (segment offset value old : ℕ) → IsSound s → own_word s segment offset ≡ Ok old
+    ensures added { (s : Stored) (segment offset value old : ℕ) → word_in s.segments segment offset ≡ Ok old
         → IsWritten s (with_added s segment offset value) segment offset (little_bytes 8 ((old + value) % 2 ^ 64)) }
-    ensures swapped { (s : Stored) (segment offset new old : ℕ) → IsSound s → own_word s segment offset ≡ Ok old
+    ensures swapped { (s : Stored) (segment offset new old : ℕ) → word_in s.segments segment offset ≡ Ok old
         → IsWritten s (with_swapped s segment offset old new) segment offset (little_bytes 8 new) }
-    ensures unequal { (s : Stored) (segment offset comparator new old : ℕ) → own_word s segment offset ≡ Ok old → old ≢ comparator
+    ensures unequal { (s : Stored) (segment offset comparator new old : ℕ) → word_in s.segments segment offset ≡ Ok old → old ≢ comparator
         → with_swapped s segment offset comparator new ≡ s }
 {}
