@@ -5,7 +5,7 @@ use Rattle.std.proofs.lemmas.Bool.{lt-ltb}
 use Rattle.std.proofs.lemmas.List.{length-replicate}
 use Rattle.gaspi_io.specs.Faults.{HasCause}
 use Rattle.gaspi_io.specs.Sink.{with_more, AddsFront}
-use Rattle.gaspi_io.specs.Source.{without}
+use Rattle.gaspi_io.specs.Source.{without, TakesAtMost}
 use Rattle.rank_script.specs.WorldText.{TextFault}
 use Rattle.gaspi_run.specs.Command.{fault_text, world_read, Answers}
 use Rattle.command_line.specs.declared.words.Command.{Command}
@@ -51,11 +51,11 @@ pub read-fault : (command : Command) (before after : Option (List ℕ)) (input :
     → ForSome before (λ told. after ≡ Some []) → world_read command input ≡ Err fault → KnowsFault command before after fault
 read-fault command before after input fault short all end faulty = record { input = input; all = all; end = λ fits. end; past = λ long. absurd (omega arith); is = faulty }
 
-pub fault-answer : (command : Command) (before after held held' : Option (List ℕ)) (faults faults' sink_faults sink_faults' : ℕ) (answer : Answer) (fault : TextFault) → KnowsFault command before after fault → faults' ≡ faults
+pub fault-answer : (command : Command) (before after held held' : Option (List ℕ)) (faults faults' sink_faults sink_faults' : ℕ) (answer : Answer) (fault : TextFault) → KnowsFault command before after fault → TakesAtMost 268435457 before after → faults' ≡ faults
     → ((answer.status ≡ 2) × (held' ≡ with_more held (fault_text fault)) × (sink_faults' ≡ sink_faults))
     ⊎ (((answer.status ≡ 6) × AddsFront (fault_text fault) held held' × HasCause sink_faults sink_faults') ⊎ ((answer.status ≡ 7) × (held' ≡ held) × (sink_faults' ≡ sink_faults)))
     → answer.journal ≡ [] → Answers command before after faults faults' held held' sink_faults sink_faults' answer
-fault-answer command before after held held' faults faults' sink_faults sink_faults' answer fault k read (inl told) empty = inr (inl (record {
+fault-answer command before after held held' faults faults' sink_faults sink_faults' answer fault k taken read (inl told) empty = inr (inl (record {
   text = fault_text fault;
   still = (read, told.2);
   fault = record { input = k.input; fault = fault; all = k.all; end = k.end; past = k.past; is = k.is; text_is = refl };
@@ -63,7 +63,7 @@ fault-answer command before after held held' faults faults' sink_faults sink_fau
   status = told.0;
   empty = empty;
 }))
-fault-answer command before after held held' faults faults' sink_faults sink_faults' answer fault k read (inr (inl failed)) empty = inr (inr (inr (inl (record {
+fault-answer command before after held held' faults faults' sink_faults sink_faults' answer fault k taken read (inr (inl failed)) empty = inr (inr (inr (inl (record {
   text = fault_text fault;
   of = inr (record { input = k.input; fault = fault; all = k.all; end = k.end; past = k.past; is = k.is; text_is = refl }, empty);
   front = failed.1;
@@ -71,8 +71,10 @@ fault-answer command before after held held' faults faults' sink_faults sink_fau
   still = read;
   status = failed.0;
 }))))
-fault-answer command before after held held' faults faults' sink_faults sink_faults' answer fault k read (inr (inr lacks)) empty = inr (inr (inr (inr (record {
+fault-answer command before after held held' faults faults' sink_faults sink_faults' answer fault k taken read (inr (inr lacks)) empty = inr (inr (inr (inr (record {
+  taken = taken;
   kept = lacks.1;
   still = (read, lacks.2);
   status = lacks.0;
+  empty = empty;
 }))))

@@ -8,7 +8,7 @@ use Rattle.gaspi_types.specs.declared.events.Event.{Event}
 use Rattle.gaspi_texts.specs.Lines.{fed_lines}
 use Rattle.gaspi_io.specs.Faults.{HasCause}
 use Rattle.gaspi_io.specs.Sink.{with_more, AddsFront}
-use Rattle.gaspi_io.specs.Source.{without}
+use Rattle.gaspi_io.specs.Source.{without, TakesAtMost}
 use Rattle.gaspi_model.specs.Step.{is_legal}
 use Rattle.gaspi_model.specs.declared.states.Why.{Why}
 use Rattle.gaspi_model.specs.declared.states.Why.TheVariants as whys
@@ -213,10 +213,11 @@ pub record IsFaulty (command : Command) (before after held held' : Option (List 
   pub status : answer.status ≡ 2
   pub empty : answer.journal ≡ []
 
--- the input could not be read: status 5; nothing was written
-pub record CouldNotRead (held held' : Option (List ℕ)) (faults faults' sink_faults sink_faults' : ℕ) (answer : Answer) : Type 0 where
+-- the input could not be read: status 5; nothing was written, and at most one byte more was taken than an input may have
+pub record CouldNotRead (before after held held' : Option (List ℕ)) (faults faults' sink_faults sink_faults' : ℕ) (answer : Answer) : Type 0 where
   pub cause : HasCause faults faults'
   pub still : sink_faults' ≡ sink_faults
+  pub taken : TakesAtMost 268435457 before after
   pub kept : held' ≡ held
   pub status : answer.status ≡ 5
   pub empty : answer.journal ≡ []
@@ -230,20 +231,22 @@ pub record CouldNotWrite (command : Command) (before after held held' : Option (
   pub still : faults' ≡ faults
   pub status : answer.status ≡ 6
 
--- want of memory, and nothing else: status 7; nothing was written
-pub record LacksMemory (held held' : Option (List ℕ)) (faults faults' sink_faults sink_faults' : ℕ) (answer : Answer) : Type 0 where
+-- want of memory, and nothing else: status 7; nothing was written, and at most one byte more was taken than an input may have
+pub record LacksMemory (before after held held' : Option (List ℕ)) (faults faults' sink_faults sink_faults' : ℕ) (answer : Answer) : Type 0 where
+  pub taken : TakesAtMost 268435457 before after
   pub kept : held' ≡ held
   pub still : NothingFailed faults faults' sink_faults sink_faults'
   pub status : answer.status ≡ 7
+  pub empty : answer.journal ≡ []
 
 -- the answer of a command
 abbrev pub Answers : Command → Option (List ℕ) → Option (List ℕ) → ℕ → ℕ → Option (List ℕ) → Option (List ℕ) → ℕ → ℕ → Answer → Type 0
 Answers command before after faults faults' held held' sink_faults sink_faults' answer =
     HasTold command before after held held' faults faults' sink_faults sink_faults' answer
     ⊎ (IsFaulty command before after held held' faults faults' sink_faults sink_faults' answer
-    ⊎ (CouldNotRead held held' faults faults' sink_faults sink_faults' answer
+    ⊎ (CouldNotRead before after held held' faults faults' sink_faults sink_faults' answer
     ⊎ (CouldNotWrite command before after held held' faults faults' sink_faults sink_faults' answer
-    ⊎ LacksMemory held held' faults faults' sink_faults sink_faults' answer)))
+    ⊎ LacksMemory before after held held' faults faults' sink_faults sink_faults' answer)))
 
 -- the answer to words that are refused: status 1, or 6 where that could not be written, or 7 where memory is wanting
 pub record Refuses (held held' : Option (List ℕ)) (faults faults' : ℕ) (answer : Answer) : Type 0 where

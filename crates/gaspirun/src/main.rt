@@ -1,6 +1,9 @@
 //! The program: the command's words are those after its name, and it reads standard input and writes standard output.
 #![tactic(auto)]
 
+ghost use Rattle.std.specs.Prelude.{◌≡◌, map, drop, IfOk, string_bytes};
+ghost use Rattle.std.specs.Process.{exit_status};
+
 use gaspi_io::{StdSink, StdSource};
 use gaspi_run::gaspirun;
 use std::alloc::{AllocError, Global};
@@ -12,11 +15,12 @@ use std::rt::Env;
 /// The status where there is no memory.
 const NO_MEMORY: u8 = 7;
 
-/// The words after the program's name. Where one of them is no text there are none, which the command refuses.
+/// All words that the program was given, its name first. Where one of them is no text there are none, which the command
+/// refuses.
 fn given_words<R: Env + Alloc<A = Global>>(rt: &R) -> Result<Vec<String>, AllocError> {
     let alloc = rt.alloc();
     match env::args(rt) {
-        Ok(words) => words.skip(1).collect(alloc),
+        Ok(words) => words.collect(alloc),
         Err(error) => {
             if error.kind() == ErrorKind::OutOfMemory {
                 Err(AllocError)
@@ -27,8 +31,10 @@ fn given_words<R: Env + Alloc<A = Global>>(rt: &R) -> Result<Vec<String>, AllocE
     }
 }
 
-/// The words as the command takes them.
-fn spelled(alloc: Global, words: &[String]) -> Result<Vec<&str>, AllocError> {
+/// The words as the command takes them: all of them, in order, each as it was given.
+fn spelled(alloc: Global, words: &[String]) -> Result<Vec<&str>, AllocError>
+    ensures { IfOk result (λ spelled. map (λ word. word.now) spelled.items ≡ map string_bytes words.now) }
+{
     let mut spelled = Vec::new(alloc);
     for word in words {
         spelled.push(word.as_str())?;
@@ -36,15 +42,32 @@ fn spelled(alloc: Global, words: &[String]) -> Result<Vec<&str>, AllocError> {
     Ok(spelled)
 }
 
+/// The words after the program's name, of all that it was given.
+fn after_name(alloc: Global, words: &[String]) -> Result<Vec<&str>, AllocError>
+    ensures { IfOk result (λ spelled. map (λ word. word.now) spelled.items ≡ map string_bytes (drop 1 words.now)) }
+{
+    match words {
+        [] => Ok(Vec::new(alloc)),
+        [_name, rest @ ..] => spelled(alloc, rest),
+    }
+}
+
+/// A status as the process gives it.
+fn exit_code(status: u8) -> ExitCode
+    ensures { exit_status result ≡ status }
+{
+    ExitCode::from(status)
+}
+
 fn main(rt: HostRuntime) -> ExitCode {
-    let Ok(words) = given_words(&rt) else {
-        return ExitCode::from(NO_MEMORY);
+    let Ok(given) = given_words(&rt) else {
+        return exit_code(NO_MEMORY);
     };
-    let Ok(words) = spelled(rt.alloc(), words.as_slice()) else {
-        return ExitCode::from(NO_MEMORY);
+    let Ok(words) = after_name(rt.alloc(), given.as_slice()) else {
+        return exit_code(NO_MEMORY);
     };
     let mut source = StdSource::new(rt.reader());
     let mut sink = StdSink::new(io::writer(&rt));
     let answer = gaspirun(&rt, rt.alloc(), words.as_slice(), &mut source, &mut sink);
-    ExitCode::from(answer.status)
+    exit_code(answer.status)
 }
