@@ -23,7 +23,7 @@ use Rattle.gaspi_model.specs.Posting.{with_post, counted}
 use Rattle.gaspi_types.specs.Tables.{changed_at}
 use Rattle.gaspi_types.specs.Queues.{with_entries}
 use Rattle.gaspi_model.specs.Calls.{posts_done, plain_done, call_asks}
-use Rattle.gaspi_model.specs.Transfers.{Found, find_entry, with_phase, taken_bytes}
+use Rattle.gaspi_model.specs.Transfers.{Found, find_entry, taken_bytes}
 use Rattle.gaspi_model.specs.State.{opening}
 use Rattle.gaspi_model.specs.Step.{step, after, reached, is_legal}
 use Rattle.gaspi_model.specs.Order.{IsWriteStanding, IsNotificationStanding}
@@ -36,10 +36,11 @@ use Rattle.gaspi_model.specs.declared.states.State.{State}
 use Rattle.gaspi_model.specs.declared.states.Why.{Why}
 use Rattle.gaspi_model.specs.declared.states.Why.TheVariants as whys
 use Rattle.gaspi_model.proofs.Chains.{both}
-use Rattle.gaspi_model.proofs.Made.{IsFound, find_entry-ok, found-again, step-called, step-take, step-put}
+use Rattle.gaspi_model.proofs.Made.{step-called, step-take, step-put}
 use Rattle.gaspi_types.proofs.Items.{slice_get-set_same, slice_get-set_other, same-or-not}
 use Rattle.gaspi_model.proofs.Told.{IsTold, told, told-get}
 use Rattle.gaspi_model.proofs.Histories.{after-first, after-both, leads}
+use Rattle.gaspi_model.proofs.FoundEntries.{IsFound, find_entry-ok, found-again, with_phase}
 
 one-more : (n : ℕ) → 1 + n ≡ suc n
 one-more n = omega arith

@@ -3,10 +3,10 @@
 ghost use Rattle.std.specs.Prelude.{◌≡◌, ◌≢◌, ◌+◌, ◌<◌, ◌^◌, IfOk, Err};
 ghost use Rattle.gaspi_types.specs.declared.entries.Phase.TheVariants.{Carried};
 ghost use Rattle.gaspi_model.specs.Posting.{counted};
-ghost use Rattle.gaspi_model.specs.Transfers.{same_outcome, find_entry, put_outcome, target_segment, target_generation, taken_bytes, carried_bytes, memory_put};
+ghost use Rattle.gaspi_model.specs.Transfers.{same_outcome, find_entry, lane_phase, queue_phase, posts_phase, taken_bytes, bytes_taken, target_segment, target_generation, put_outcome, carried_bytes, memory_put, memory_after_put, queue_without, posts_without, queue_failed, posts_failed, posts_after_put};
 ghost use Rattle.gaspi_model.specs.Step.{Steps};
 ghost use Rattle.gaspi_model.specs.declared.states.Memory.{Memory};
-ghost use Rattle.plain_machine.specs.Entries.{Finds, Gives, found_at, bytes_taken, memory_after_put, posts_after_put, lane_phase, queue_phase, posts_phase, queue_failed, posts_failed_at, queue_without, posts_without};
+ghost use Rattle.plain_machine.specs.Entries.{Finds, Gives, found_at};
 
 use crate::standing::LaneId;
 use gaspi_model::{Memory, Posts, StepFault, Why};
@@ -110,7 +110,7 @@ fn fail_queue_entry(q: &mut Queue, target: RankId, place: usize)
 
 /// An entry that failed also marks its target as corrupt. (GASPI: state vector)
 fn fail_entry(posts: &mut Posts, id: &LaneId, place: usize)
-    ensures { posts.new ≡ posts_failed_at posts.old id.now.queue id.now.target place }
+    ensures { posts.new ≡ posts_failed posts.old id.now.queue id.now.target place }
 {
     let q = id.queue.index();
     if q < posts.queues.len() {
