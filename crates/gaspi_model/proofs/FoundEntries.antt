@@ -1,5 +1,4 @@
--- An entry that was found, and what stands in its lane's place: the definitions change the entry at a place, and most proofs
--- speak of its lane.
+-- An entry that was found. The definitions change the entry at its place; most proofs speak of its lane, replaced.
 use Rattle.std.proofs.Common.{◌≡◌, ℕ, true, List, Some, Ok, refl, subst, remove}
 use Rattle.std.specs.List.{slice_get, slice_set}
 use Rattle.gaspi_types.specs.Lanes.{place_of}

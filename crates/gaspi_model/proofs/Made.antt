@@ -50,12 +50,12 @@ pub record IsTake (limits : Limits) (posts : Posts) (memory : Memory) (queue tar
 pub take-ok : (limits : Limits) (posts : Posts) (memory : Memory) (queue target number : ℕ) (outcome : Outcome) (after : Posts)
     → take limits posts memory queue target number outcome ≡ Ok after → (at : Found) × IsTake limits posts memory queue target number outcome after at
 take-ok limits posts memory queue target number outcome after h =
-    bind_then (find_entry posts queue target number whys.Take) _ after h (λ at hf h1.
+    bind_then (find_entry posts queue target number _) _ after h (λ at hf h1.
     bind_then (bytes_taken limits memory at outcome) _ after h1 (λ bytes given h2.
-    check_then (is_none at.queue.broken) whys.Take _ bytes given (λ whole h3.
-    check_then (may_take limits.depth at.lane at.entry) whys.Take _ bytes h3 (λ permitted h4.
-    check_then (same_outcome outcome Applied) whys.Take _ bytes h4 (λ applied h5.
-    let is = find_entry-ok posts queue target number whys.Take at hf in
+    check_then (is_none at.queue.broken) _ _ bytes given (λ whole h3.
+    check_then (may_take limits.depth at.lane at.entry) _ _ bytes h3 (λ permitted h4.
+    check_then (same_outcome outcome Applied) _ _ bytes h4 (λ applied h5.
+    let is = find_entry-ok posts queue target number _ at hf in
     let leaves = sym (same_Ok _ _ h2) ∙ ap counted (phase-found posts queue target number at (phases.Carried bytes) is) in
     (at, record { is = is; whole = whole; permitted = permitted; applied = applied; leaves = rw (same_Ok _ _ h5) leaves }))))))
 
@@ -70,12 +70,12 @@ pub record IsPut (posts : Posts) (memory : Memory) (queue target number : ℕ) (
 pub put-ok : (posts : Posts) (memory : Memory) (queue target number : ℕ) (outcome : Outcome) (after : Worked)
     → put posts memory queue target number outcome ≡ Ok after → (at : Found) × IsPut posts memory queue target number outcome after at
 put-ok posts memory queue target number outcome after h =
-    bind_then (find_entry posts queue target number whys.Put) _ after h (λ at hf h1.
+    bind_then (find_entry posts queue target number _) _ after h (λ at hf h1.
     bind_then (memory_after_put memory at outcome) _ after h1 (λ left given h2.
-    check_then (is_none at.queue.broken) whys.Put _ left given (λ whole h3.
-    check_then (may_put at.lane at.entry) whys.Put _ left h3 (λ permitted h4.
-    check_then (same_outcome outcome (put_outcome memory at.entry.kind)) whys.Put _ left h4 (λ fits h5.
-    let is = find_entry-ok posts queue target number whys.Put at hf in
+    check_then (is_none at.queue.broken) _ _ left given (λ whole h3.
+    check_then (may_put at.lane at.entry) _ _ left h3 (λ permitted h4.
+    check_then (same_outcome outcome (put_outcome memory at.entry.kind)) _ _ left h4 (λ fits h5.
+    let is = find_entry-ok posts queue target number _ at hf in
     let leaves = sym (same_Ok _ _ h2) ∙ ap (λ (p : Posts). record { posts = p; memory = left }) (put-found posts queue target number at outcome is) in
     (at, record { is = is; whole = whole; permitted = permitted; fits = fits; leaves = rw (same_Ok _ _ h5) leaves }))))))
 
@@ -246,7 +246,7 @@ part-same table (Some place) = go (slice_get table place) refl
 pub step-take : (s t : State) (origin queue target number : ℕ) (outcome : Outcome) → step s (Take origin queue target number outcome) ≡ Ok t
     → (posts : Posts) × (memory : Memory) × (after : Posts) × (at : Found) × IsTakeStep s t origin queue target number outcome posts memory after at
 step-take s t origin queue target number outcome h =
-    found_then (slice_get s.posts origin) whys.Take _ t h (λ posts hp h1.
+    found_then (slice_get s.posts origin) _ _ t h (λ posts hp h1.
     bind_then (on_parts s.limits (reach posts) (Take origin queue target number outcome) (parts_of s posts (touched_of origin (reach posts)))) _ t h1 (λ parts hl h2.
     bind_then (take s.limits posts (worked_memory (reach posts) (parts_of s posts (touched_of origin (reach posts)))) queue target number outcome) _ parts hl (λ after ha h3.
     let taken = take-ok s.limits posts (worked_memory (reach posts) (parts_of s posts (touched_of origin (reach posts)))) queue target number outcome after ha in
@@ -288,7 +288,7 @@ step-take s t origin queue target number outcome h =
 pub step-put : (s t : State) (origin queue target number : ℕ) (outcome : Outcome) → step s (Put origin queue target number outcome) ≡ Ok t
     → (posts : Posts) × (memory : Memory) × (after : Worked) × (at : Found) × IsPutStep s t origin queue target number outcome posts memory after at
 step-put s t origin queue target number outcome h =
-    found_then (slice_get s.posts origin) whys.Put _ t h (λ posts hp h1.
+    found_then (slice_get s.posts origin) _ _ t h (λ posts hp h1.
     bind_then (on_parts s.limits (reach posts) (Put origin queue target number outcome) (parts_of s posts (touched_of origin (reach posts)))) _ t h1 (λ parts hl h2.
     bind_then (put posts (worked_memory (reach posts) (parts_of s posts (touched_of origin (reach posts)))) queue target number outcome) _ parts hl (λ after ha h3.
     let made = put-ok posts _ queue target number outcome after ha in

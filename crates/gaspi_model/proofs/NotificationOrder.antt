@@ -338,7 +338,7 @@ standing-at s origin queue target number e h = with-posts (slice_get s.posts ori
 write-stands : (s : State) (origin queue target m : ℕ) (e : Entry) → standing s origin queue target m ≡ Some e → is_write e ≡ true → Stands s origin queue target m
 write-stands s origin queue target m e h writes =
     let i = standing-at s origin queue target m e h in
-    let f = find_entry-ok i.posts queue target m whys.Put i.at i.found in
+    let f = find_entry-ok i.posts queue target m _ i.at i.found in
     record {
       posts = i.posts;
       posts_there = i.posts_there;
@@ -367,10 +367,10 @@ no-put t u origin queue target m n e stands h kind less put =
     let made = step-put t u origin queue target n Applied put in
     let f = made.4 in
     let i = standing-at t origin queue target n e h in
-    let fi = find_entry-ok i.posts queue target n whys.Put i.at i.found in
+    let fi = find_entry-ok i.posts queue target n _ i.at i.found in
     let posts : i.posts ≡ made.0 = (let some : ◌≡◌ {A = Option Posts} (Some i.posts) (Some made.0) = sym i.posts_there ∙ f.posts_there in cc) in
     let found : find_entry made.0 queue target n whys.Put ≡ Ok i.at = rw (sym posts) i.found in
-    let same : i.at ≡ made.3 = (let ok : ◌≡◌ {A = Result Found Why} (Ok i.at) (Ok made.3) = sym found ∙ found-again made.0 queue target n made.3 whys.Put f.is.is in cc) in
+    let same : i.at ≡ made.3 = (let ok : ◌≡◌ {A = Result Found Why} (Ok i.at) (Ok made.3) = sym found ∙ found-again made.0 queue target n made.3 _ f.is.is in cc) in
     let entry : made.3.entry ≡ e = ap (λ (x : Found). x.entry) (sym same) ∙ i.is in
     let has = stands.in_queues.in_queue.has in
     let posts' : stands.posts ≡ made.0 = (let some : ◌≡◌ {A = Option Posts} (Some stands.posts) (Some made.0) = sym stands.posts_there ∙ f.posts_there in cc) in

@@ -112,6 +112,7 @@ memory_put memory entry = of_kind entry.kind
         with_bytes memory target.segment (with_range (bytes_of memory target.segment) target.offset (carried_bytes entry.phase))
     of_kind (Notify target value) = with_slots memory target.segment (slice_set (slots_of memory target.segment) target.note value)
 
+-- a put that failed changes nothing there
 abbrev pub memory_with : Memory → Found → Outcome → Memory
 memory_with memory at Applied = memory_put memory at.entry
 memory_with memory at Failed = memory
@@ -143,7 +144,7 @@ posts_failed posts queue target place = record posts {
   corrupt = slice_set posts.corrupt target true;
 }
 
--- the posts of an origin after a put: an entry that was put goes
+-- the posts of an origin after a put: the entry goes, unless the put failed
 abbrev pub posts_after_put : Posts → ℕ → ℕ → ℕ → Outcome → Posts
 posts_after_put posts queue target place Applied = counted (posts_without posts queue target place)
 posts_after_put posts queue target place Failed = counted (posts_failed posts queue target place)
@@ -153,7 +154,7 @@ pub record Worked : Type 0 where
   pub posts : Posts
   pub memory : Memory
 
--- A put: its target's memory and its origin's posts, after it.
+-- A put: the posts of its origin and the memory that it works on, after it.
 abbrev pub put : Posts → Memory → ℕ → ℕ → ℕ → Outcome → Result Worked Why
 put posts memory queue target number outcome = do
   at ← find_entry posts queue target number whys.Put

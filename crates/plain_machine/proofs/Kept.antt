@@ -18,7 +18,6 @@ use Rattle.gaspi_types.specs.declared.entries.Queue.{Queue}
 use Rattle.gaspi_model.specs.declared.states.Posts.{Posts}
 use Rattle.gaspi_model.specs.declared.states.Memory.{Memory}
 use Rattle.gaspi_model.specs.declared.states.Why.{Why}
-use Rattle.gaspi_model.specs.declared.states.Why.TheVariants as whys
 use Rattle.plain_calls.proofs.Chains.{passed, found_there, check_holds, changed_there}
 use Rattle.plain_calls.proofs.Owed.{sum_by-put, sum_by-taken}
 
@@ -85,7 +84,7 @@ first_holds false b is = cc
 pub take_keeps : (limits : Limits) (posts : Posts) (memory : Memory) (queue target number : ℕ) (outcome : Outcome) (after : Posts)
     → take limits posts memory queue target number outcome ≡ Ok after → IsKept posts after
 take_keeps limits posts memory queue target number outcome after is =
-    passed (find_entry posts queue target number whys.Take) _ _ is (λ at found_it more.
+    passed (find_entry posts queue target number _) _ _ is (λ at found_it more.
     passed (bytes_taken limits memory at outcome) _ _ more (λ bytes given left.
     passed (check (is_none at.queue.broken) _) _ _ given (λ u whole more.
     passed (check (may_take limits.depth at.lane at.entry) _) _ _ more (λ u permitted more.
@@ -103,7 +102,7 @@ take_keeps limits posts memory queue target number outcome after is =
 pub put_keeps : (posts : Posts) (memory : Memory) (queue target number : ℕ) (outcome : Outcome) (after : Worked)
     → put posts memory queue target number outcome ≡ Ok after → IsKept posts after.posts
 put_keeps posts memory queue target number outcome after is =
-    passed (find_entry posts queue target number whys.Put) _ _ is (λ at found_it more.
+    passed (find_entry posts queue target number _) _ _ is (λ at found_it more.
     passed (memory_after_put memory at outcome) _ _ more (λ m given left.
     passed (check (is_none at.queue.broken) _) _ _ given (λ u whole more.
     passed (check (may_put at.lane at.entry) _) _ _ more (λ u permitted more.

@@ -231,7 +231,7 @@ pub record IsTaken (s t : State) (origin queue target number : ℕ) (outcome : O
 
 pub taken_back : (s t : State) (origin queue target number : ℕ) (outcome : Outcome) → step s (Take origin queue target number outcome) ≡ Ok t → IsTaken s t origin queue target number outcome
 taken_back s t origin queue target number outcome is =
-    passed (found (slice_get s.posts origin) whys.Take) _ _ is (λ p p_there more. by_posts p (found_there _ _ _ p_there))
+    passed (found (slice_get s.posts origin) _) _ _ is (λ p p_there more. by_posts p (found_there _ _ _ p_there))
   where
     same : (p after : Posts) (memory : Memory) → ◌≡◌ {A = Result State Why} (Ok (record s { posts = slice_set s.posts origin after })) (Ok t)
         → slice_get s.posts origin ≡ Some p → take s.limits p memory queue target number outcome ≡ Ok after → IsTaken s t origin queue target number outcome
@@ -257,7 +257,7 @@ pub record IsPut (s t : State) (origin queue target number : ℕ) (outcome : Out
 
 pub put_back : (s t : State) (origin queue target number : ℕ) (outcome : Outcome) → step s (Put origin queue target number outcome) ≡ Ok t → IsPut s t origin queue target number outcome
 put_back s t origin queue target number outcome is =
-    passed (found (slice_get s.posts origin) whys.Put) _ _ is (λ p p_there more. by_posts p (found_there _ _ _ p_there))
+    passed (found (slice_get s.posts origin) _) _ _ is (λ p p_there more. by_posts p (found_there _ _ _ p_there))
   where
     same : (p : Posts) (reach : Reach) (after : Worked)
         → ◌≡◌ {A = Result State Why} (Ok (record s { posts = slice_set s.posts origin after.posts; memories = with_memory_at s.memories origin reach after.memory })) (Ok t)

@@ -40,7 +40,6 @@ use Rattle.gaspi_model.specs.declared.states.State.{State}
 use Rattle.gaspi_model.specs.declared.states.StepFault.{StepFault}
 use Rattle.gaspi_model.specs.declared.states.StepFault.TheVariants as faults
 use Rattle.gaspi_model.specs.declared.states.Why.{Why}
-use Rattle.gaspi_model.specs.declared.states.Why.TheVariants as whys
 use Rattle.plain_machine.specs.Machine.{IsFitting}
 use Rattle.plain_machine.specs.Reaching.{call_reach, with_peer_at}
 use Rattle.plain_machine.specs.Standing.{lane_id, lane_named, queue_named, rank_named, standing_lanes, lane_entries, is_before, post_lane, posting_lane, call_lane, event_lane, is_put}
@@ -109,7 +108,7 @@ relaned posts p' queue target at change lane' there changed lanes = record {
 take_names : (ps : List Posts) (o : ℕ) (limits : Limits) (posts : Posts) (memory : Memory) (queue target number : ℕ) (outcome : Outcome) (after : Posts) → slice_get ps o ≡ Some posts
     → take limits posts memory queue target number outcome ≡ Ok after → standing_lanes (slice_set ps o after) ≡ standing_lanes ps
 take_names ps o limits posts memory queue target number outcome after o_there is =
-    passed (find_entry posts queue target number whys.Take) _ _ is (λ at found_it more.
+    passed (find_entry posts queue target number _) _ _ is (λ at found_it more.
     passed (bytes_taken limits memory at outcome) _ _ more (λ bytes given left.
     done at (phases.Carried bytes) after (found_at _ _ _ _ _ at found_it) left))
   where
@@ -130,7 +129,7 @@ put_names : (ps : List Posts) (o : ℕ) (posts : Posts) (memory : Memory) (queue
     → put posts memory queue target number outcome ≡ Ok after
     → IsParted (lane_id o queue target) (standing_lanes ps) (standing_lanes (slice_set ps o after.posts)) (lane_id o queue target ∷ []) (lane_named o queue (target, lane_entries (slice_set ps o after.posts) (lane_id o queue target)))
 put_names ps o posts memory queue target number outcome after o_there is =
-    passed (find_entry posts queue target number whys.Put) _ _ is (λ at found_it more.
+    passed (find_entry posts queue target number _) _ _ is (λ at found_it more.
     passed (memory_after_put memory at outcome) _ _ more (λ m given left.
     done at outcome m after (found_at _ _ _ _ _ at found_it) left))
   where
@@ -277,8 +276,6 @@ lane_of_post false x id is = absurd (let no : ⊥ = cc in no)
 -- a post that is done
 pub posting : (s t : State) (e : Event) (id : LaneId) → IsSound s → event_lane e ≡ Some id → is_put e ≡ false → step s e ≡ Ok t
     → IsParted id (standing_lanes s.posts) (standing_lanes t.posts) (lane_named id.origin id.queue (id.target, lane_entries s.posts id)) (id ∷ [])
-posting s t (Take origin queue target number outcome) id sound lane puts is = absurd (let no : ⊥ = cc in no)
-posting s t (Put origin queue target number outcome) id sound lane puts is = absurd (let no : ⊥ = cc in no)
 posting s t (Called c call reply) id sound lane puts is =
     let l = some_lane (is_idle reply) (call_lane c.rank call) id lane in of_posting (row_of call).posting refl l.0 l.1 (call_posts s t c call reply is)
   where
@@ -293,16 +290,16 @@ posting s t (Called c call reply) id sound lane puts is =
         let after : counted (with_post done.p posting.queue posting.rank (call_asks s.limits c.rank done.p call)) ≡ done.p' = ap counted (sym (p.leaves c.thread)) ∙ (rw busy at done.by.1.after_is) in
         rw (← lane_of_post (nat_lt posting.rank 16 && nat_lt posting.queue 8) (lane_id c.rank posting.queue posting.rank) id lane, done.is, ← after)
         (post_names s.posts c.rank s.limits done.p posting.queue posting.rank (call_asks s.limits c.rank done.p call) f.reply_found posting.entries done.there (sound.posts c.rank done.p done.there) post p.long p.some)
+posting s t transfer id sound lane puts is = absurd (let no : ⊥ = cc in no)
 
 -- a put
 pub leaving : (s t : State) (e : Event) (id : LaneId) → event_lane e ≡ Some id → is_put e ≡ true → step s e ≡ Ok t
     → IsParted id (standing_lanes s.posts) (standing_lanes t.posts) (id ∷ []) (lane_named id.origin id.queue (id.target, lane_entries t.posts id))
-leaving s t (Called c call reply) id lane puts is = absurd (let no : ⊥ = cc in no)
-leaving s t (Take origin queue target number outcome) id lane puts is = absurd (let no : ⊥ = cc in no)
 leaving s t (Put origin queue target number outcome) id lane puts is =
     let b = put_back s t origin queue target number outcome is in
     let at : lane_id origin queue target ≡ id = cc in
     rw (← at, ← b.posts) (put_names s.posts origin b.p b.memory queue target number outcome b.after b.there b.steps)
+leaving s t other id lane puts is = absurd (let no : ⊥ = cc in no)
 
 -- any other event keeps the names
 pub quiet : (s t : State) (e : Event) → IsSound s → IsFitting s → event_lane e ≡ None → step s e ≡ Ok t → standing_lanes t.posts ≡ standing_lanes s.posts
