@@ -24,7 +24,7 @@ use Rattle.gaspi_types.specs.Queues.{queue_owed}
 use Rattle.gaspi_model.specs.Posting.{counted}
 use Rattle.gaspi_types.specs.Tables.{changed_at}
 use Rattle.gaspi_model.specs.PostCalls.{asked_finds}
-use Rattle.gaspi_model.specs.Transfers.{Found, with_lane, with_phase, taken_bytes, Worked}
+use Rattle.gaspi_model.specs.Transfers.{Found, taken_bytes, Worked}
 use Rattle.gaspi_types.specs.declared.entries.Queue.{Queue}
 use Rattle.gaspi_model.specs.declared.states.Posts.{Posts}
 use Rattle.gaspi_model.specs.declared.states.Memory.{Memory}
@@ -37,8 +37,9 @@ use Rattle.gaspi_types.specs.declared.replies.Reply.TheVariants as replies
 use Rattle.gaspi_types.specs.declared.replies.Refusal.{Refusal}
 use Rattle.gaspi_types.specs.declared.replies.Refusal.TheVariants.{BadRank, BadQueue, QueueBroken}
 use Rattle.gaspi_model.proofs.Chains.{both, bind_then, check_then, found_then, absent_then, same_Ok}
-use Rattle.gaspi_model.proofs.Made.{IsFound, IsTake, IsPut}
+use Rattle.gaspi_model.proofs.Made.{IsTake, IsPut}
 use Rattle.gaspi_types.proofs.Items.{sum_by-changed, changed_at-found}
+use Rattle.gaspi_model.proofs.FoundEntries.{IsFound, with_lane, with_phase}
 
 -- a queue of a rank changed
 pub entries_owed-queue : (queues : List Queue) (queue : ℕ) (q : Queue) (change : Queue → Queue) → slice_get queues queue ≡ Some q

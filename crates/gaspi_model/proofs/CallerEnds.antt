@@ -12,7 +12,7 @@ use Rattle.gaspi_types.specs.declared.replies.Reply.TheVariants as replies
 use Rattle.gaspi_types.specs.declared.replies.Refusal.TheVariants.{CallerEnded}
 use Rattle.gaspi_types.specs.declared.replies.Ready.TheVariants as ready
 use Rattle.gaspi_types.specs.declared.events.Event.{Event}
-use Rattle.gaspi_types.specs.declared.events.Event.TheVariants.{Called, Take, Put}
+use Rattle.gaspi_types.specs.declared.events.Event.TheVariants.{Called}
 use Rattle.gaspi_model.specs.State.{opening, opening_posts, opening_thread, thread_at, is_running}
 use Rattle.gaspi_model.specs.Posting.{counted}
 use Rattle.gaspi_model.specs.Calls.{recorded_reply, posts_after}
@@ -96,8 +96,7 @@ after-active s t (e ∷ events) rank thread h is =
         by-caller : (b : Bool) → is_caller rank thread c ≡ b → HasNoEnd (own_calls rank thread (Called c call reply ∷ events))
         by-caller true mine = rw mine (head (rw mine at ends))
         by-caller false foreign = rw foreign none
-    other s1 (Take origin queue target number outcome) made ends is1 none = (sym (active s s1 (Take origin queue target number outcome) rank thread made ends) ∙ is1, none)
-    other s1 (Put origin queue target number outcome) made ends is1 none = (sym (active s s1 (Put origin queue target number outcome) rank thread made ends) ∙ is1, none)
+    other s1 transfer made ends is1 none = (sym (active s s1 transfer rank thread made ends) ∙ is1, none)
 
     -- its end
     end : (s1 : State) (x : Event) → step s x ≡ Ok s1 → ends_caller rank thread x ≡ true → is_active s1 rank thread ≡ true → ⊥
@@ -114,8 +113,7 @@ after-active s t (e ∷ events) rank thread h is =
             let here : is_active s1 rank thread ≡ false = subst (λ (n : ℕ). is_active s1 rank n ≡ false) is_t (subst (λ (n : ℕ). is_active s1 n c.thread ≡ false) is_r none) in
             cc
         by-call other ending made is_r is_t = cc
-    end s1 (Take origin queue target number outcome) made ends is1 = cc
-    end s1 (Put origin queue target number outcome) made ends is1 = cc
+    end s1 transfer made ends is1 = cc
 
     by-end : (s1 : State) (x : Event) → step s x ≡ Ok s1 → (b : Bool) → ends_caller rank thread x ≡ b → is_active s1 rank thread ≡ true → HasNoEnd (own_calls rank thread events)
         → (is_active s rank thread ≡ true) × HasNoEnd (own_calls rank thread (x ∷ events))

@@ -13,7 +13,7 @@ use Rattle.gaspi_types.specs.declared.events.Outcome.TheVariants.{Applied, Faile
 use Rattle.gaspi_types.specs.declared.events.Event.{Event}
 use Rattle.gaspi_types.specs.declared.events.Event.TheVariants.{Called, Take, Put}
 use Rattle.gaspi_types.specs.Tables.{changed_at}
-use Rattle.gaspi_model.specs.Transfers.{Found, Worked, with_phase, taken_bytes}
+use Rattle.gaspi_model.specs.Transfers.{Found, Worked, taken_bytes}
 use Rattle.gaspi_model.specs.Step.{step}
 use Rattle.gaspi_model.specs.Coherence.{counts_of, HasSlots, Tables, tables_of, all_tables, HasSource, AreMade, AllFit, Knows, IsCoherent}
 use Rattle.gaspi_types.specs.Segments.{extents_of}
@@ -32,6 +32,7 @@ use Rattle.gaspi_model.proofs.Layouts.{HaveSameLayout, same-layout, put-layout}
 use Rattle.gaspi_model.proofs.Successors.{Succeeds, Follow, made-stays, knows-follows, all-fit-follows}
 use Rattle.gaspi_model.proofs.FittingEntries.{MayPost, fits-lane, lane-phase, lane-remove, taken-source}
 use Rattle.gaspi_model.proofs.CallTables.{KeepsFit, KeepsTables, fits-itself, fits-requeued, counted-fits, called-fits, called-tables, told-knows}
+use Rattle.gaspi_model.proofs.FoundEntries.{with_phase}
 
 -- what a state has of each rank was there before it, with tables that come after the old ones
 record ComesFrom (s t : State) : Type 0 where

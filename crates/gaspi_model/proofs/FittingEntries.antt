@@ -29,7 +29,7 @@ use Rattle.gaspi_types.specs.Segments.{bytes_in, extents_of}
 use Rattle.gaspi_model.specs.Posting.{with_post}
 use Rattle.gaspi_types.specs.Tables.{changed_at}
 use Rattle.gaspi_types.specs.Queues.{with_entries}
-use Rattle.gaspi_model.specs.Transfers.{with_phase, taken_bytes}
+use Rattle.gaspi_model.specs.Transfers.{taken_bytes}
 use Rattle.gaspi_model.specs.Coherence.{Tables, WasMade, AreMade, LiesInIfThere, HasSource, Fits, AllFit, Knows}
 use Rattle.gaspi_types.specs.declared.entries.Queue.{Queue}
 use Rattle.gaspi_model.specs.declared.states.Posts.{Posts}
@@ -38,6 +38,7 @@ use Rattle.gaspi_model.proofs.Chains.{check_then, found_then, same_Ok}
 use Rattle.gaspi_types.proofs.Items.{slice_get-set, append-parts, remove-part}
 use Rattle.gaspi_types.proofs.Extents.{extent-at}
 use Rattle.gaspi_types.proofs.Written.{range_of-length, segment-behind}
+use Rattle.gaspi_model.proofs.FoundEntries.{with_phase}
 
 -- the entries of one lane fit
 abbrev pub LaneFits : ℕ → Tables → Tables → List Entry → Type 0

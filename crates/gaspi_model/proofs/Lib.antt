@@ -1,5 +1,6 @@
 pub mod Chains
 pub mod Told
+pub mod FoundEntries
 pub mod Made
 pub mod Same
 pub mod FoundReplies

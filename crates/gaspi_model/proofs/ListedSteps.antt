@@ -13,10 +13,11 @@ use Rattle.gaspi_model.specs.Step.{step}
 use Rattle.gaspi_model.specs.declared.states.Posts.{Posts}
 use Rattle.gaspi_model.specs.declared.states.State.{State}
 use Rattle.gaspi_model.proofs.Chains.{both}
-use Rattle.gaspi_model.proofs.Made.{IsFound, step-take, step-put}
+use Rattle.gaspi_model.proofs.Made.{step-take, step-put}
 use Rattle.gaspi_model.proofs.NotificationOrder.{found-number}
 use Rattle.gaspi_types.proofs.Items.{front-of-joined, behind-of-joined}
 use Rattle.std.proofs.lemmas.Option.{slice_get_within}
+use Rattle.gaspi_model.proofs.FoundEntries.{IsFound}
 
 -- an item of a part is one of the whole
 flat_map-there : {A B : Type 0} (f : A → List B) (xs : List A) (i j : ℕ) (x : A) (y : B) → slice_get xs i ≡ Some x → slice_get (f x) j ≡ Some y → (k : ℕ) × (slice_get (flat_map f xs) k ≡ Some y)

@@ -1,7 +1,7 @@
 -- What a transfer that was made says, and what a call that was recorded says.
 use Rattle.std.proofs.Common.{◌≡◌, ℕ, zero, suc, ◌+◌, true, List, [], ◌∷◌, Option, None, Some, Ok, refl, sym, ap, ◌∙◌, subst, is_none, length, nat_le}
 use Rattle.std.specs.List.{slice_get, slice_set}
-use Rattle.gaspi_types.specs.Lanes.{may_take, may_put, place_of}
+use Rattle.gaspi_types.specs.Lanes.{may_take, may_put}
 use Rattle.gaspi_types.specs.Replies.{same_reply}
 use Rattle.gaspi_types.specs.declared.entries.Phase.TheVariants as phases
 use Rattle.std.specs.Option.{option_map}
@@ -27,35 +27,17 @@ use Rattle.gaspi_model.specs.State.{owed, thread_at}
 use Rattle.gaspi_model.specs.Posting.{counted}
 use Rattle.gaspi_types.specs.Tables.{changed_at}
 use Rattle.gaspi_model.specs.Calls.{answer, recorded_reply, charge, posts_after, memory_after, peer_after}
-use Rattle.gaspi_model.specs.Transfers.{Found, find_entry, with_lane, with_phase, take, put, put_with, taken_bytes, put_outcome, same_outcome, entry_in, Worked}
+use Rattle.gaspi_model.specs.Transfers.{Found, find_entry, bytes_taken, take, put, taken_bytes, memory_with, memory_after_put, put_outcome, same_outcome, entry_in, Worked}
 use Rattle.gaspi_model.specs.Step.{step, called, is_there, on_parts, entry_touch}
 use Rattle.gaspi_model.specs.Parts.{memory_or_none, no_memory, part_at, with_part, parts_of, with_parts, touched_of, worked_memory, with_worked_memory}
 use Rattle.gaspi_model.specs.declared.states.Posts.{Posts}
 use Rattle.gaspi_model.specs.declared.states.Memory.{Memory}
 use Rattle.gaspi_model.specs.declared.states.State.{State}
-use Rattle.gaspi_model.specs.declared.states.Why.{Why}
 use Rattle.gaspi_model.specs.declared.states.Why.TheVariants as whys
 use Rattle.gaspi_types.proofs.Items.{set-there, slice_get-set_other}
 use Rattle.gaspi_model.proofs.Told.{told, told_at, changed_peer, peer-touched}
 use Rattle.gaspi_model.proofs.Chains.{bind_then, check_then, found_then, same_Ok}
-
--- where an entry was found
-pub record IsFound (posts : Posts) (queue target number : ℕ) (at : Found) : Type 0 where
-  pub in_posts : slice_get posts.queues queue ≡ Some at.queue
-  pub in_queue : slice_get at.queue.lanes target ≡ Some at.lane
-  pub numbered : place_of at.lane number ≡ Some at.place
-  pub in_lane : slice_get at.lane at.place ≡ Some at.entry
-
-pub find_entry-ok : (posts : Posts) (queue target number : ℕ) (why : Why) (at : Found) → find_entry posts queue target number why ≡ Ok at → IsFound posts queue target number at
-find_entry-ok posts queue target number why at h =
-    found_then (slice_get posts.queues queue) why _ at h (λ q hq h1.
-    found_then (slice_get q.lanes target) why _ at h1 (λ lane hl h2.
-    found_then (place_of lane number) why _ at h2 (λ place hp h3.
-    found_then (slice_get lane place) why _ at h3 (λ e he h4.
-    subst (λ (f : Found). IsFound posts queue target number f) (same_Ok _ _ h4) (record { in_posts = hq; in_queue = hl; numbered = hp; in_lane = he })))))
-
-pub found-again : (posts : Posts) (queue target number : ℕ) (at : Found) (why : Why) → IsFound posts queue target number at → find_entry posts queue target number why ≡ Ok at
-found-again posts queue target number at why is = rw (is.in_posts, is.in_queue, is.numbered, is.in_lane) refl
+use Rattle.gaspi_model.proofs.FoundEntries.{IsFound, find_entry-ok, with_lane, with_phase, put_with, phase-found, put-found}
 
 -- a take that was made
 pub record IsTake (limits : Limits) (posts : Posts) (memory : Memory) (queue target number : ℕ) (outcome : Outcome) (after : Posts) (at : Found) : Type 0 where
@@ -68,11 +50,14 @@ pub record IsTake (limits : Limits) (posts : Posts) (memory : Memory) (queue tar
 pub take-ok : (limits : Limits) (posts : Posts) (memory : Memory) (queue target number : ℕ) (outcome : Outcome) (after : Posts)
     → take limits posts memory queue target number outcome ≡ Ok after → (at : Found) × IsTake limits posts memory queue target number outcome after at
 take-ok limits posts memory queue target number outcome after h =
-    bind_then (find_entry posts queue target number whys.Take) _ after h (λ at hf h1.
-    check_then (is_none at.queue.broken) whys.Take _ after h1 (λ whole h2.
-    check_then (may_take limits.depth at.lane at.entry) whys.Take _ after h2 (λ permitted h3.
-    check_then (same_outcome outcome Applied) whys.Take _ after h3 (λ applied h4.
-    (at, record { is = find_entry-ok posts queue target number whys.Take at hf; whole = whole; permitted = permitted; applied = applied; leaves = sym (same_Ok _ _ h4) })))))
+    bind_then (find_entry posts queue target number _) _ after h (λ at hf h1.
+    bind_then (bytes_taken limits memory at outcome) _ after h1 (λ bytes given h2.
+    check_then (is_none at.queue.broken) _ _ bytes given (λ whole h3.
+    check_then (may_take limits.depth at.lane at.entry) _ _ bytes h3 (λ permitted h4.
+    check_then (same_outcome outcome Applied) _ _ bytes h4 (λ applied h5.
+    let is = find_entry-ok posts queue target number _ at hf in
+    let leaves = sym (same_Ok _ _ h2) ∙ ap counted (phase-found posts queue target number at (phases.Carried bytes) is) in
+    (at, record { is = is; whole = whole; permitted = permitted; applied = applied; leaves = rw (same_Ok _ _ h5) leaves }))))))
 
 -- a put that was made
 pub record IsPut (posts : Posts) (memory : Memory) (queue target number : ℕ) (outcome : Outcome) (after : Worked) (at : Found) : Type 0 where
@@ -80,16 +65,19 @@ pub record IsPut (posts : Posts) (memory : Memory) (queue target number : ℕ) (
   pub whole : is_none at.queue.broken ≡ true
   pub permitted : may_put at.lane at.entry ≡ true
   pub fits : same_outcome outcome (put_outcome memory at.entry.kind) ≡ true
-  pub leaves : after ≡ put_with posts memory queue target at outcome
+  pub leaves : after ≡ record { posts = put_with posts queue target at outcome; memory = memory_with memory at outcome }
 
 pub put-ok : (posts : Posts) (memory : Memory) (queue target number : ℕ) (outcome : Outcome) (after : Worked)
     → put posts memory queue target number outcome ≡ Ok after → (at : Found) × IsPut posts memory queue target number outcome after at
 put-ok posts memory queue target number outcome after h =
-    bind_then (find_entry posts queue target number whys.Put) _ after h (λ at hf h1.
-    check_then (is_none at.queue.broken) whys.Put _ after h1 (λ whole h2.
-    check_then (may_put at.lane at.entry) whys.Put _ after h2 (λ permitted h3.
-    check_then (same_outcome outcome (put_outcome memory at.entry.kind)) whys.Put _ after h3 (λ fits h4.
-    (at, record { is = find_entry-ok posts queue target number whys.Put at hf; whole = whole; permitted = permitted; fits = fits; leaves = sym (same_Ok _ _ h4) })))))
+    bind_then (find_entry posts queue target number _) _ after h (λ at hf h1.
+    bind_then (memory_after_put memory at outcome) _ after h1 (λ left given h2.
+    check_then (is_none at.queue.broken) _ _ left given (λ whole h3.
+    check_then (may_put at.lane at.entry) _ _ left h3 (λ permitted h4.
+    check_then (same_outcome outcome (put_outcome memory at.entry.kind)) _ _ left h4 (λ fits h5.
+    let is = find_entry-ok posts queue target number _ at hf in
+    let leaves = sym (same_Ok _ _ h2) ∙ ap (λ (p : Posts). record { posts = p; memory = left }) (put-found posts queue target number at outcome is) in
+    (at, record { is = is; whole = whole; permitted = permitted; fits = fits; leaves = rw (same_Ok _ _ h5) leaves }))))))
 
 -- a call that was recorded
 pub record IsCalled (limits : Limits) (me : ℕ) (posts : Posts) (memory : Memory) (thread : ℕ) (call : Call) (reply : Reply) (after : Worked) : Type 0 where
@@ -258,7 +246,7 @@ part-same table (Some place) = go (slice_get table place) refl
 pub step-take : (s t : State) (origin queue target number : ℕ) (outcome : Outcome) → step s (Take origin queue target number outcome) ≡ Ok t
     → (posts : Posts) × (memory : Memory) × (after : Posts) × (at : Found) × IsTakeStep s t origin queue target number outcome posts memory after at
 step-take s t origin queue target number outcome h =
-    found_then (slice_get s.posts origin) whys.Take _ t h (λ posts hp h1.
+    found_then (slice_get s.posts origin) _ _ t h (λ posts hp h1.
     bind_then (on_parts s.limits (reach posts) (Take origin queue target number outcome) (parts_of s posts (touched_of origin (reach posts)))) _ t h1 (λ parts hl h2.
     bind_then (take s.limits posts (worked_memory (reach posts) (parts_of s posts (touched_of origin (reach posts)))) queue target number outcome) _ parts hl (λ after ha h3.
     let taken = take-ok s.limits posts (worked_memory (reach posts) (parts_of s posts (touched_of origin (reach posts)))) queue target number outcome after ha in
@@ -300,7 +288,7 @@ step-take s t origin queue target number outcome h =
 pub step-put : (s t : State) (origin queue target number : ℕ) (outcome : Outcome) → step s (Put origin queue target number outcome) ≡ Ok t
     → (posts : Posts) × (memory : Memory) × (after : Worked) × (at : Found) × IsPutStep s t origin queue target number outcome posts memory after at
 step-put s t origin queue target number outcome h =
-    found_then (slice_get s.posts origin) whys.Put _ t h (λ posts hp h1.
+    found_then (slice_get s.posts origin) _ _ t h (λ posts hp h1.
     bind_then (on_parts s.limits (reach posts) (Put origin queue target number outcome) (parts_of s posts (touched_of origin (reach posts)))) _ t h1 (λ parts hl h2.
     bind_then (put posts (worked_memory (reach posts) (parts_of s posts (touched_of origin (reach posts)))) queue target number outcome) _ parts hl (λ after ha h3.
     let made = put-ok posts _ queue target number outcome after ha in

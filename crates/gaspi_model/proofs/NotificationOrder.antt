@@ -23,7 +23,7 @@ use Rattle.gaspi_model.specs.Posting.{with_post, counted}
 use Rattle.gaspi_types.specs.Tables.{changed_at}
 use Rattle.gaspi_types.specs.Queues.{with_entries}
 use Rattle.gaspi_model.specs.Calls.{posts_done, plain_done, call_asks}
-use Rattle.gaspi_model.specs.Transfers.{Found, find_entry, with_phase, taken_bytes}
+use Rattle.gaspi_model.specs.Transfers.{Found, find_entry, taken_bytes}
 use Rattle.gaspi_model.specs.State.{opening}
 use Rattle.gaspi_model.specs.Step.{step, after, reached, is_legal}
 use Rattle.gaspi_model.specs.Order.{IsWriteStanding, IsNotificationStanding}
@@ -36,10 +36,11 @@ use Rattle.gaspi_model.specs.declared.states.State.{State}
 use Rattle.gaspi_model.specs.declared.states.Why.{Why}
 use Rattle.gaspi_model.specs.declared.states.Why.TheVariants as whys
 use Rattle.gaspi_model.proofs.Chains.{both}
-use Rattle.gaspi_model.proofs.Made.{IsFound, find_entry-ok, found-again, step-called, step-take, step-put}
+use Rattle.gaspi_model.proofs.Made.{step-called, step-take, step-put}
 use Rattle.gaspi_types.proofs.Items.{slice_get-set_same, slice_get-set_other, same-or-not}
 use Rattle.gaspi_model.proofs.Told.{IsTold, told, told-get}
 use Rattle.gaspi_model.proofs.Histories.{after-first, after-both, leads}
+use Rattle.gaspi_model.proofs.FoundEntries.{IsFound, find_entry-ok, found-again, with_phase}
 
 one-more : (n : ℕ) → 1 + n ≡ suc n
 one-more n = omega arith
@@ -337,7 +338,7 @@ standing-at s origin queue target number e h = with-posts (slice_get s.posts ori
 write-stands : (s : State) (origin queue target m : ℕ) (e : Entry) → standing s origin queue target m ≡ Some e → is_write e ≡ true → Stands s origin queue target m
 write-stands s origin queue target m e h writes =
     let i = standing-at s origin queue target m e h in
-    let f = find_entry-ok i.posts queue target m whys.Put i.at i.found in
+    let f = find_entry-ok i.posts queue target m _ i.at i.found in
     record {
       posts = i.posts;
       posts_there = i.posts_there;
@@ -366,10 +367,10 @@ no-put t u origin queue target m n e stands h kind less put =
     let made = step-put t u origin queue target n Applied put in
     let f = made.4 in
     let i = standing-at t origin queue target n e h in
-    let fi = find_entry-ok i.posts queue target n whys.Put i.at i.found in
+    let fi = find_entry-ok i.posts queue target n _ i.at i.found in
     let posts : i.posts ≡ made.0 = (let some : ◌≡◌ {A = Option Posts} (Some i.posts) (Some made.0) = sym i.posts_there ∙ f.posts_there in cc) in
     let found : find_entry made.0 queue target n whys.Put ≡ Ok i.at = rw (sym posts) i.found in
-    let same : i.at ≡ made.3 = (let ok : ◌≡◌ {A = Result Found Why} (Ok i.at) (Ok made.3) = sym found ∙ found-again made.0 queue target n made.3 whys.Put f.is.is in cc) in
+    let same : i.at ≡ made.3 = (let ok : ◌≡◌ {A = Result Found Why} (Ok i.at) (Ok made.3) = sym found ∙ found-again made.0 queue target n made.3 _ f.is.is in cc) in
     let entry : made.3.entry ≡ e = ap (λ (x : Found). x.entry) (sym same) ∙ i.is in
     let has = stands.in_queues.in_queue.has in
     let posts' : stands.posts ≡ made.0 = (let some : ◌≡◌ {A = Option Posts} (Some stands.posts) (Some made.0) = sym stands.posts_there ∙ f.posts_there in cc) in

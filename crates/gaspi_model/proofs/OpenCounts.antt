@@ -10,10 +10,10 @@ use Rattle.gaspi_types.specs.declared.entries.Kind.{Kind}
 use Rattle.gaspi_types.specs.declared.entries.Phase.{Phase}
 use Rattle.gaspi_types.specs.declared.entries.Phase.TheVariants as phases
 use Rattle.gaspi_types.specs.Queues.{with_entries}
-use Rattle.gaspi_model.specs.Transfers.{with_phase}
 use Rattle.gaspi_model.specs.Sound.{AreRising, lane_from, queue_from, lane_failed, queue_failed, failures, IsSoundQueue}
 use Rattle.gaspi_types.specs.declared.entries.Queue.{Queue}
 use Rattle.gaspi_types.proofs.Items.{slice_get-set, sum_by-changed, remove-part, append-parts}
+use Rattle.gaspi_model.proofs.FoundEntries.{with_phase}
 
 -- Counts over a list after a change.
 

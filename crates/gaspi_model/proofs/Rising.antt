@@ -8,7 +8,7 @@ use Rattle.gaspi_types.specs.declared.entries.Entry.{Entry}
 use Rattle.gaspi_types.specs.declared.entries.Kind.{Kind}
 use Rattle.gaspi_types.specs.declared.entries.Phase.{Phase}
 use Rattle.gaspi_model.specs.Sound.{AreAbove, AreRising}
-use Rattle.gaspi_model.specs.Transfers.{with_phase}
+use Rattle.gaspi_model.proofs.FoundEntries.{with_phase}
 
 -- the first number is above no later one: what is above it is above what is below it
 AreAbove-less : (m n : ℕ) (lane : List Entry) → m ≤ n → AreAbove n lane → AreAbove m lane

@@ -26,7 +26,7 @@ use Rattle.gaspi_model.specs.Posting.{with_post, counted}
 use Rattle.gaspi_types.specs.Tables.{changed_at}
 use Rattle.gaspi_types.specs.Queues.{with_entries}
 use Rattle.gaspi_model.specs.Calls.{posts_done, plain_done, call_asks}
-use Rattle.gaspi_model.specs.Transfers.{Found, with_lane, with_phase, put_with, taken_bytes, Worked}
+use Rattle.gaspi_model.specs.Transfers.{Found, taken_bytes, Worked}
 use Rattle.gaspi_model.specs.Step.{step}
 use Rattle.gaspi_model.specs.Coherence.{IsCoherent}
 use Rattle.gaspi_model.specs.Sound.{failures, HasTables, IsSoundPosts, IsSound, AreRising, events_left}
@@ -41,13 +41,14 @@ use Rattle.gaspi_model.proofs.Told.{told, told-length, told-from, told-sum}
 use Rattle.gaspi_model.proofs.TableLengths.{after-tables, take-tables, put-tables, told-tables}
 use Rattle.gaspi_types.proofs.Extents.{generation-within}
 use Rattle.gaspi_model.proofs.Same.{same_reply-same}
-use Rattle.gaspi_model.proofs.Made.{IsFound, IsTake, IsPut, IsCalled, step-called, step-take, step-put}
+use Rattle.gaspi_model.proofs.Made.{IsTake, IsPut, IsCalled, step-called, step-take, step-put}
 use Rattle.gaspi_model.proofs.Accounts.{take-owed, put-owed, asks-counted, few-posted}
 use Rattle.gaspi_model.proofs.CallAccounts.{HasLanes, with_post-events, call-grows}
 use Rattle.gaspi_model.proofs.Chains.{both}
 use Rattle.gaspi_model.proofs.OpenCounts.{posted-unfailed, carried-unfailed, queue-phase, queue-remove, carried-more, carried-failed}
 use Rattle.gaspi_model.proofs.CoherentSteps.{steps-coherent}
 use Rattle.gaspi_model.proofs.CallQueues.{queues-changed, called-queues}
+use Rattle.gaspi_model.proofs.FoundEntries.{IsFound, with_lane, with_phase, put_with}
 
 -- queues keep their lanes when one is changed and keeps its own
 pub lanes-changed : (ranks : ℕ) (queues : List Queue) (queue : ℕ) (change : Queue → Queue) → ((q : Queue) → length (change q).lanes ≡ length q.lanes)
@@ -301,7 +302,7 @@ put-sound limits posts memory queue target number Failed after at sound h =
     let rises = sound.rising queue at.queue h.is.in_posts target at.lane h.is.in_queue in
     let lane = with_phase at.lane at.place at.entry phases.Failed in
     let change = λ (q : Queue). record q { broken = Some target; lanes = slice_set q.lanes target lane } in
-    let made : IsSoundPosts limits (put_with posts memory queue target at Failed).posts = record {
+    let made : IsSoundPosts limits (put_with posts queue target at Failed) = record {
       tables = subst (λ (w : Worked). HasTables limits w.posts) h.leaves (put-tables limits posts memory queue target number Failed after at h sound.tables);
       lanes = lanes-changed limits.ranks posts.queues queue change (λ q. length-set q.lanes target lane) sound.lanes;
       room = (let same = ap (λ (p : Worked). p.posts.events + owed p.posts) h.leaves in omega arith);

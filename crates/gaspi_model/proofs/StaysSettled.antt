@@ -19,9 +19,10 @@ use Rattle.gaspi_model.specs.declared.states.Posts.{Posts}
 use Rattle.gaspi_model.specs.declared.states.State.{State}
 use Rattle.gaspi_model.proofs.Activity.{active-changed}
 use Rattle.gaspi_model.proofs.Histories.{after-first, only-counted}
-use Rattle.gaspi_model.proofs.Made.{IsFound, step-called, step-take, step-put}
+use Rattle.gaspi_model.proofs.Made.{step-called, step-take, step-put}
 use Rattle.gaspi_model.proofs.Same.{same_reply-same}
 use Rattle.gaspi_types.proofs.Items.{slice_get-set}
+use Rattle.gaspi_model.proofs.FoundEntries.{IsFound}
 
 -- an entry that stands in a lane that is empty
 no-entry : (s : State) (posts : Posts) (origin queue target number : ℕ) (at : Found) → AreLanesEmpty s → slice_get s.posts origin ≡ Some posts → IsFound posts queue target number at

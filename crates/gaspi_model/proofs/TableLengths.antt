@@ -20,7 +20,7 @@ use Rattle.gaspi_types.specs.declared.shapes.Limits.{Limits}
 use Rattle.gaspi_model.specs.Posting.{with_post, counted}
 use Rattle.gaspi_model.specs.SegmentCalls.{with_known}
 use Rattle.gaspi_model.specs.Calls.{plain_done, posts_done, call_asks}
-use Rattle.gaspi_model.specs.Transfers.{Found, Worked, with_lane}
+use Rattle.gaspi_model.specs.Transfers.{Found, Worked}
 use Rattle.gaspi_types.specs.Segments.{extent_of, extents_of}
 use Rattle.gaspi_model.specs.Sound.{HasTables, IsSound}
 use Rattle.gaspi_model.specs.declared.states.State.{State}
@@ -30,6 +30,7 @@ use Rattle.gaspi_model.specs.declared.states.Memory.{Memory}
 use Rattle.gaspi_model.proofs.Made.{IsTake, IsPut}
 use Rattle.gaspi_types.proofs.Items.{length-changed_at, there-within}
 use Rattle.gaspi_model.proofs.Told.{changed_at-get, told, told-cases}
+use Rattle.gaspi_model.proofs.FoundEntries.{with_lane}
 
 -- the same tables with the queues, or with the known segments, replaced
 requeued-tables : (limits : Limits) (posts : Posts) (queues : List Queue) (next : ℕ) → length queues ≡ length posts.queues → HasTables limits posts → HasTables limits (record posts { queues = queues; next = next })

@@ -16,7 +16,7 @@ use Rattle.gaspi_types.specs.declared.entries.Kind.TheVariants.{Write, Notify}
 use Rattle.gaspi_model.specs.State.{segment_at}
 use Rattle.gaspi_model.specs.Posting.{counted}
 use Rattle.gaspi_model.specs.Memories.{slots_of}
-use Rattle.gaspi_model.specs.Transfers.{with_lane, carried_bytes, target_segment, target_generation}
+use Rattle.gaspi_model.specs.Transfers.{carried_bytes, target_segment, target_generation}
 use Rattle.gaspi_types.specs.declared.entries.Queue.{Queue}
 use Rattle.gaspi_model.specs.declared.states.Posts.{Posts}
 use Rattle.gaspi_types.specs.declared.segments.Segment.{Segment}
@@ -105,7 +105,9 @@ pub record IsPutDone (s t : State) (origin queue target number : ℕ) : Type 0 w
   pub numbered : entry.number ≡ number
   pub carried : is_carried entry ≡ true
   pub whole : q.broken ≡ None
-  pub posts_after : t.posts ≡ slice_set s.posts origin (counted (with_lane posts queue target (remove lane place)))
+  pub posts_after : t.posts ≡ slice_set s.posts origin (record (counted posts) {
+    queues = slice_set posts.queues queue (record q { lanes = slice_set q.lanes target (remove lane place) });
+  })
   pub old : Memory
   pub new : Memory
   pub old_there : slice_get s.memories target ≡ Some old

@@ -114,8 +114,7 @@ abbrev pub own_calls : ℕ → ℕ → List Event → List (Call × Reply)
 own_calls rank thread [] = []
 own_calls rank thread (Called c call reply ∷ events) =
     if is_caller rank thread c then (call, reply) ∷ own_calls rank thread events else own_calls rank thread events
-own_calls rank thread (Take origin queue target number outcome ∷ events) = own_calls rank thread events
-own_calls rank thread (Put origin queue target number outcome ∷ events) = own_calls rank thread events
+own_calls rank thread (transfer ∷ events) = own_calls rank thread events
 
 -- What a function that steps has done: at Ok the step's state stands; an illegal event is none, for that cause, and
 -- changed nothing; without memory nothing changed.
@@ -179,5 +178,4 @@ transfer_event s t = if t.put then Put t.origin t.queue t.target t.number (outco
 -- the end of a caller
 abbrev pub ends_caller : ℕ → ℕ → Event → Bool
 ends_caller rank thread (Called c call reply) = is_caller rank thread c && is_end call
-ends_caller rank thread (Take origin queue target number outcome) = false
-ends_caller rank thread (Put origin queue target number outcome) = false
+ends_caller rank thread transfer = false

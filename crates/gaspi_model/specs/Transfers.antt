@@ -53,29 +53,36 @@ entry_in posts queue target number = of_found (find_entry posts queue target num
     of_found (Ok at) = Some at.entry
     of_found (Err why) = None
 
--- the posts with a lane replaced
-abbrev pub with_lane : Posts → ℕ → ℕ → List Entry → Posts
-with_lane posts queue target lane =
-    record posts { queues = changed_at posts.queues queue (λ (q : Queue). record q { lanes = slice_set q.lanes target lane }) }
+-- the posts of an origin with the entry at a place of a lane in another phase
+abbrev pub lane_phase : List Entry → ℕ → Phase → List Entry
+lane_phase lane place phase = changed_at lane place (λ (e : Entry). record e { phase = phase })
 
-abbrev pub with_phase : List Entry → ℕ → Entry → Phase → List Entry
-with_phase lane place entry phase = slice_set lane place (record entry { phase = phase })
+abbrev pub queue_phase : ℕ → ℕ → Phase → Queue → Queue
+queue_phase target place phase q = record q { lanes = changed_at q.lanes target (λ (lane : List Entry). lane_phase lane place phase) }
+
+abbrev pub posts_phase : Posts → ℕ → ℕ → ℕ → Phase → Posts
+posts_phase posts queue target place phase = record posts { queues = changed_at posts.queues queue (queue_phase target place phase) }
 
 -- what an entry takes: a write the bytes that its source has now, a notification nothing
 abbrev pub taken_bytes : Memory → Kind → List ℕ
 taken_bytes memory (Write own target) = range_of (bytes_of memory own.segment) own.offset own.size
 taken_bytes memory (Notify target value) = []
 
--- A take: the entry is posted, its queue is not broken, and fewer than DEPTH entries of its lane have taken their
--- bytes. No write and no notification fails here.
-abbrev pub take : Limits → Posts → Memory → ℕ → ℕ → ℕ → Outcome → Result Posts Why
-take limits posts memory queue target number outcome = do
-  at ← find_entry posts queue target number whys.Take
+-- The bytes of an entry that may be taken: it is posted, its queue is not broken, and fewer than DEPTH entries of its lane
+-- have taken their bytes. No write and no notification fails here.
+abbrev pub bytes_taken : Limits → Memory → Found → Outcome → Result (List ℕ) Why
+bytes_taken limits memory at outcome = do
   whole ← check (is_none at.queue.broken) whys.Take
   permitted ← check (may_take limits.depth at.lane at.entry) whys.Take
   applied ← check (same_outcome outcome Applied) whys.Take
-  Ok (counted (with_lane posts queue target
-      (with_phase at.lane at.place at.entry (phases.Carried (taken_bytes memory at.entry.kind)))))
+  Ok (taken_bytes memory at.entry.kind)
+
+-- A take: the entry stays in its place, with its bytes.
+abbrev pub take : Limits → Posts → Memory → ℕ → ℕ → ℕ → Outcome → Result Posts Why
+take limits posts memory queue target number outcome = do
+  at ← find_entry posts queue target number whys.Take
+  bytes ← bytes_taken limits memory at outcome
+  Ok (counted (posts_phase posts queue target at.place (phases.Carried bytes)))
 
 -- the segment and the generation to which an entry puts
 abbrev pub target_segment : Kind → ℕ
@@ -105,37 +112,54 @@ memory_put memory entry = of_kind entry.kind
         with_bytes memory target.segment (with_range (bytes_of memory target.segment) target.offset (carried_bytes entry.phase))
     of_kind (Notify target value) = with_slots memory target.segment (slice_set (slots_of memory target.segment) target.note value)
 
--- the origin's posts after a put that failed: the entry stays in its place, the queue is broken with that target, and
--- the target is corrupt for the origin (state vector)
-abbrev pub posts_failed : Posts → ℕ → ℕ → Found → Posts
-posts_failed posts queue target at = record posts {
-  queues = changed_at posts.queues queue (λ (q : Queue). record q {
-    broken = Some target;
-    lanes = slice_set q.lanes target (with_phase at.lane at.place at.entry phases.Failed);
-  });
+-- a put that failed changes nothing there
+abbrev pub memory_with : Memory → Found → Outcome → Memory
+memory_with memory at Applied = memory_put memory at.entry
+memory_with memory at Failed = memory
+
+-- The memory that a put works on, after it. An entry may be put that has taken its bytes, whose queue is not broken, and,
+-- for a notification, before which no write with a smaller number stands in its lane. It stores the bytes or sets the slot.
+abbrev pub memory_after_put : Memory → Found → Outcome → Result Memory Why
+memory_after_put memory at outcome = do
+  whole ← check (is_none at.queue.broken) whys.Put
+  permitted ← check (may_put at.lane at.entry) whys.Put
+  fits ← check (same_outcome outcome (put_outcome memory at.entry.kind)) whys.Put
+  Ok (memory_with memory at outcome)
+
+-- the posts of an origin without the entry at a place of a lane
+abbrev pub queue_without : ℕ → ℕ → Queue → Queue
+queue_without target place q = record q { lanes = changed_at q.lanes target (λ (lane : List Entry). remove lane place) }
+
+abbrev pub posts_without : Posts → ℕ → ℕ → ℕ → Posts
+posts_without posts queue target place = record posts { queues = changed_at posts.queues queue (queue_without target place) }
+
+-- The posts of an origin after a put that failed: the entry stays in its place, the queue is broken with that target, and
+-- the target is corrupt for the origin. (state vector)
+abbrev pub queue_failed : ℕ → ℕ → Queue → Queue
+queue_failed target place q = record (queue_phase target place phases.Failed q) { broken = Some target }
+
+abbrev pub posts_failed : Posts → ℕ → ℕ → ℕ → Posts
+posts_failed posts queue target place = record posts {
+  queues = changed_at posts.queues queue (queue_failed target place);
   corrupt = slice_set posts.corrupt target true;
 }
+
+-- the posts of an origin after a put: the entry goes, unless the put failed
+abbrev pub posts_after_put : Posts → ℕ → ℕ → ℕ → Outcome → Posts
+posts_after_put posts queue target place Applied = counted (posts_without posts queue target place)
+posts_after_put posts queue target place Failed = counted (posts_failed posts queue target place)
 
 -- the posts of an event's owner, and the memory that it works on
 pub record Worked : Type 0 where
   pub posts : Posts
   pub memory : Memory
 
-abbrev pub put_with : Posts → Memory → ℕ → ℕ → Found → Outcome → Worked
-put_with posts memory queue target at Applied =
-    record { posts = counted (with_lane posts queue target (remove at.lane at.place)); memory = memory_put memory at.entry }
-put_with posts memory queue target at Failed =
-    record { posts = counted (posts_failed posts queue target at); memory = memory }
-
--- A put: the entry has taken its bytes, its queue is not broken, and, for a notification, no write with a smaller
--- number stands in its lane. It stores the bytes or sets the slot, and the entry goes.
+-- A put: the posts of its origin and the memory that it works on, after it.
 abbrev pub put : Posts → Memory → ℕ → ℕ → ℕ → Outcome → Result Worked Why
 put posts memory queue target number outcome = do
   at ← find_entry posts queue target number whys.Put
-  whole ← check (is_none at.queue.broken) whys.Put
-  permitted ← check (may_put at.lane at.entry) whys.Put
-  fits ← check (same_outcome outcome (put_outcome memory at.entry.kind)) whys.Put
-  Ok (put_with posts memory queue target at outcome)
+  after ← memory_after_put memory at outcome
+  Ok (record { posts = posts_after_put posts queue target at.place outcome; memory = after })
 
 -- The transfers that may come next, by queue, target and number.
 

@@ -141,8 +141,7 @@ uncalled-table table history e none is = record {
 
     same : (e : Event) (rank thread : ℕ) → ((c : CallerId) (call : Call) (reply : Reply) → e ≡ Called c call reply → ⊥) → own_calls rank thread history ≡ own_calls rank thread (history ++ e ∷ [])
     same (Called c call reply) rank thread none = absurd (none c call reply refl)
-    same (Take origin queue target number outcome) rank thread none = nothing (Take origin queue target number outcome) rank thread refl
-    same (Put origin queue target number outcome) rank thread none = nothing (Put origin queue target number outcome) rank thread refl
+    same transfer rank thread none = nothing transfer rank thread refl
 
 -- the front part of a history, with its next event
 pub front-more : (table : List (List (List OwnCall))) (history : List Event) (i : ℕ) (e : Event) → i < length history → e ≡ get_or history i e

@@ -40,8 +40,7 @@ own_calls-append rank thread (Called c call reply ∷ a) b = go (is_caller rank 
         ≡ (if x then (call, reply) ∷ own_calls rank thread a else own_calls rank thread a) ++ own_calls rank thread b
     go true rest = ap (λ (ps : List (Call × Reply)). (call, reply) ∷ ps) rest
     go false rest = rest
-own_calls-append rank thread (Take origin queue target number outcome ∷ a) b = own_calls-append rank thread a b
-own_calls-append rank thread (Put origin queue target number outcome ∷ a) b = own_calls-append rank thread a b
+own_calls-append rank thread (transfer ∷ a) b = own_calls-append rank thread a b
 
 pub own-same : (c : CallerId) (call : Call) (reply : Reply) → own_of c.rank c.thread (Called c call reply) ≡ (call, reply) ∷ []
 own-same c call reply = rw (eq-eqb c.rank c.rank refl, eq-eqb c.thread c.thread refl) refl

@@ -179,25 +179,14 @@ fn caller_turn(turns: &mut Turns, alloc: Global, limit: u32, place: usize) -> Re
 fn transfer_turn(turns: &mut Turns, alloc: Global, transfer: &Transfer) -> Result<(), NoMemory>
     ensures { OnOk result (turns.new ≡ made turns.old (transfer_event turns.old.state transfer.now)) }
 {
-    let outcome = turns.state.outcome(transfer);
-    let event = if transfer.put {
-        Event::Put(
-            transfer.origin,
-            transfer.queue,
-            transfer.target,
-            transfer.number,
-            outcome,
-        )
-    } else {
-        Event::Take(
-            transfer.origin,
-            transfer.queue,
-            transfer.target,
-            transfer.number,
-            outcome,
-        )
-    };
-    make(turns, alloc, event)
+    match turns.state.make(alloc, transfer) {
+        Ok(event) => {
+            turns.journal.push(event)?;
+            Ok(())
+        }
+        Err(StepFault::Illegal(_)) => Ok(()),
+        Err(StepFault::NoMemory) => Err(NoMemory),
+    }
 }
 
 /// The turn of a candidate: the callers that wait come first, then the transfers that may come next.

@@ -1,5 +1,5 @@
 -- What a take and a put keep of the posts of their origin: the room taken, and how many queues there are.
-use Rattle.std.proofs.Common.{◌≡◌, ℕ, ◌+◌, Bool, true, false, ◌&&◌, List, Some, Result, Ok, length, sum_by, slice_get, slice_set, is_none, refl, ap, ◌∙◌, arith}
+use Rattle.std.proofs.Common.{◌≡◌, ℕ, ◌+◌, Bool, true, false, ◌&&◌, List, Some, Result, Ok, length, sum_by, slice_get, slice_set, remove, is_none, refl, ap, arith}
 use Rattle.std.proofs.lemmas.List.{length-set}
 use Rattle.gaspi_types.specs.Checks.{check, found}
 use Rattle.gaspi_types.specs.Lanes.{place_of, may_take, may_put, lane_owed, entry_owed, phase_owed, is_posted, is_carried, is_posted_phase, is_carried_phase}
@@ -13,12 +13,11 @@ use Rattle.gaspi_model.specs.State.{owed}
 use Rattle.gaspi_types.specs.Queues.{queue_owed}
 use Rattle.gaspi_model.specs.Posting.{counted}
 use Rattle.gaspi_types.specs.Tables.{changed_at}
-use Rattle.gaspi_model.specs.Transfers.{Found, find_entry, take, put, put_with, put_outcome, same_outcome, with_phase, with_lane, Worked}
+use Rattle.gaspi_model.specs.Transfers.{Found, find_entry, bytes_taken, queue_phase, posts_phase, take, memory_after_put, queue_without, queue_failed, posts_after_put, put, Worked}
 use Rattle.gaspi_types.specs.declared.entries.Queue.{Queue}
 use Rattle.gaspi_model.specs.declared.states.Posts.{Posts}
 use Rattle.gaspi_model.specs.declared.states.Memory.{Memory}
 use Rattle.gaspi_model.specs.declared.states.Why.{Why}
-use Rattle.gaspi_model.specs.declared.states.Why.TheVariants as whys
 use Rattle.plain_calls.proofs.Chains.{passed, found_there, check_holds, changed_there}
 use Rattle.plain_calls.proofs.Owed.{sum_by-put, sum_by-taken}
 
@@ -47,16 +46,24 @@ found_at posts queue target number why at is =
         let same : record { queue = q; lane = lane; place = place; entry = entry } ≡ at = cc in
         rw (← same) (record { q = a; lane = b; entry = c })
 
+-- the lanes of the queue of an entry that was found, with it in another phase, and without it
+pub phase_lanes : (posts : Posts) (queue target : ℕ) (at : Found) (phase : Phase) → IsAt posts queue target at
+    → (queue_phase target at.place phase at.queue).lanes ≡ slice_set at.queue.lanes target (slice_set at.lane at.place (record at.entry { phase = phase }))
+phase_lanes posts queue target at phase there = rw there.lane rw there.entry refl
+
+pub lanes_without : (posts : Posts) (queue target : ℕ) (at : Found) → IsAt posts queue target at
+    → (queue_without target at.place at.queue).lanes ≡ slice_set at.queue.lanes target (remove at.lane at.place)
+lanes_without posts queue target at there = rw there.lane refl
+
 -- a lane replaced by one that owes one event less
-kept_lane : (posts : Posts) (queue target : ℕ) (at : Found) (q' : Queue) (lane' : List Entry) (corrupt : List Bool) → IsAt posts queue target at
-    → q'.lanes ≡ slice_set at.queue.lanes target lane' → lane_owed lane' + 1 ≡ lane_owed at.lane
-    → (change : Queue → Queue) → change at.queue ≡ q'
-    → IsKept posts (record posts { queues = changed_at posts.queues queue change; corrupt = corrupt; events = posts.events + 1 })
-kept_lane posts queue target at q' lane' corrupt there lanes less change is =
+kept_lane : (posts : Posts) (queue target : ℕ) (at : Found) (change : Queue → Queue) (lane : List Entry) (corrupt : List Bool) → IsAt posts queue target at
+    → (change at.queue).lanes ≡ slice_set at.queue.lanes target lane → lane_owed lane + 1 ≡ lane_owed at.lane
+    → IsKept posts (counted (record posts { queues = changed_at posts.queues queue change; corrupt = corrupt }))
+kept_lane posts queue target at change lane corrupt there lanes less =
     let at_queue = changed_there posts.queues queue change at.queue there.q in
     let all = sum_by-put queue_owed posts.queues queue at.queue (change at.queue) there.q in
-    let own = sum_by-put lane_owed at.queue.lanes target at.lane lane' there.lane in
-    let same : queue_owed (change at.queue) ≡ sum_by lane_owed (slice_set at.queue.lanes target lane') = ap queue_owed is ∙ ap (sum_by lane_owed) lanes in
+    let own = sum_by-put lane_owed at.queue.lanes target at.lane lane there.lane in
+    let same : queue_owed (change at.queue) ≡ sum_by lane_owed (slice_set at.queue.lanes target lane) = ap (sum_by lane_owed) lanes in
     rw at_queue (record { taken = omega (arith, all, own, same, less); queues = length-set posts.queues queue (change at.queue) })
 
 posted_owes : (p : Phase) → is_posted_phase p ≡ true → phase_owed p ≡ 2
@@ -77,42 +84,42 @@ first_holds false b is = cc
 pub take_keeps : (limits : Limits) (posts : Posts) (memory : Memory) (queue target number : ℕ) (outcome : Outcome) (after : Posts)
     → take limits posts memory queue target number outcome ≡ Ok after → IsKept posts after
 take_keeps limits posts memory queue target number outcome after is =
-    passed (find_entry posts queue target number whys.Take) _ _ is (λ at found_it more.
-    passed (check (is_none at.queue.broken) _) _ _ more (λ u whole more.
+    passed (find_entry posts queue target number _) _ _ is (λ at found_it more.
+    passed (bytes_taken limits memory at outcome) _ _ more (λ bytes given left.
+    passed (check (is_none at.queue.broken) _) _ _ given (λ u whole more.
     passed (check (may_take limits.depth at.lane at.entry) _) _ _ more (λ u permitted more.
-    passed (check (same_outcome outcome Applied) _) _ _ more (λ u applied more.
-    taken at _ after (found_at _ _ _ _ _ at found_it) (first_holds _ _ (check_holds _ _ _ permitted)) more))))
+    taken at bytes after (found_at _ _ _ _ _ at found_it) (first_holds _ _ (check_holds _ _ _ permitted)) left))))
   where
     taken : (at : Found) (bytes : List ℕ) (after : Posts) → IsAt posts queue target at → is_posted at.entry ≡ true
-        → ◌≡◌ {A = Result Posts Why} (Ok (counted (with_lane posts queue target (with_phase at.lane at.place at.entry (phases.Carried bytes))))) (Ok after) → IsKept posts after
+        → ◌≡◌ {A = Result Posts Why} (Ok (counted (posts_phase posts queue target at.place (phases.Carried bytes)))) (Ok after) → IsKept posts after
     taken at bytes after there posted is =
-        let same : counted (with_lane posts queue target (with_phase at.lane at.place at.entry (phases.Carried bytes))) ≡ after = cc in
+        let same : counted (posts_phase posts queue target at.place (phases.Carried bytes)) ≡ after = cc in
         let put = sum_by-put entry_owed at.lane at.place at.entry (record at.entry { phase = phases.Carried bytes }) there.entry in
         let owes = posted_owes at.entry.phase posted in
-        rw (← same) (kept_lane posts queue target at _ _ posts.corrupt there refl (omega (arith, put, owes)) _ refl)
+        rw (← same) (kept_lane posts queue target at (queue_phase target at.place (phases.Carried bytes)) _ posts.corrupt there (phase_lanes posts queue target at (phases.Carried bytes) there) (omega (arith, put, owes)))
 
 -- a put keeps it too, also one that failed
 pub put_keeps : (posts : Posts) (memory : Memory) (queue target number : ℕ) (outcome : Outcome) (after : Worked)
     → put posts memory queue target number outcome ≡ Ok after → IsKept posts after.posts
 put_keeps posts memory queue target number outcome after is =
-    passed (find_entry posts queue target number whys.Put) _ _ is (λ at found_it more.
-    passed (check (is_none at.queue.broken) _) _ _ more (λ u whole more.
+    passed (find_entry posts queue target number _) _ _ is (λ at found_it more.
+    passed (memory_after_put memory at outcome) _ _ more (λ m given left.
+    passed (check (is_none at.queue.broken) _) _ _ given (λ u whole more.
     passed (check (may_put at.lane at.entry) _) _ _ more (λ u permitted more.
-    passed (check (same_outcome outcome (put_outcome memory at.entry.kind)) _) _ _ more (λ u fits more.
-    done at outcome (found_at _ _ _ _ _ at found_it) (first_holds _ _ (check_holds _ _ _ permitted)) more))))
+    done at outcome m (found_at _ _ _ _ _ at found_it) (first_holds _ _ (check_holds _ _ _ permitted)) left))))
   where
-    kept_with : (at : Found) (outcome : Outcome) → IsAt posts queue target at → is_carried at.entry ≡ true → IsKept posts (put_with posts memory queue target at outcome).posts
+    kept_with : (at : Found) (outcome : Outcome) → IsAt posts queue target at → is_carried at.entry ≡ true → IsKept posts (posts_after_put posts queue target at.place outcome)
     kept_with at Applied there carried =
         let put = sum_by-taken entry_owed at.lane at.place at.entry there.entry in
         let owes = carried_owes at.entry.phase carried in
-        kept_lane posts queue target at _ _ posts.corrupt there refl (omega (arith, put, owes)) _ refl
+        kept_lane posts queue target at (queue_without target at.place) _ posts.corrupt there (lanes_without posts queue target at there) (omega (arith, put, owes))
     kept_with at Failed there carried =
         let put = sum_by-put entry_owed at.lane at.place at.entry (record at.entry { phase = phases.Failed }) there.entry in
         let owes = carried_owes at.entry.phase carried in
-        kept_lane posts queue target at _ _ _ there refl (omega (arith, put, owes)) _ refl
+        kept_lane posts queue target at (queue_failed target at.place) _ (slice_set posts.corrupt target true) there (phase_lanes posts queue target at phases.Failed there) (omega (arith, put, owes))
 
-    done : (at : Found) (outcome : Outcome) → IsAt posts queue target at → is_carried at.entry ≡ true
-        → ◌≡◌ {A = Result Worked Why} (Ok (put_with posts memory queue target at outcome)) (Ok after) → IsKept posts after.posts
-    done at outcome there carried is =
-        let same : put_with posts memory queue target at outcome ≡ after = cc in
+    done : (at : Found) (outcome : Outcome) (m : Memory) → IsAt posts queue target at → is_carried at.entry ≡ true
+        → ◌≡◌ {A = Result Worked Why} (Ok (record { posts = posts_after_put posts queue target at.place outcome; memory = m })) (Ok after) → IsKept posts after.posts
+    done at outcome m there carried is =
+        let same : record { posts = posts_after_put posts queue target at.place outcome; memory = m } ≡ after = cc in
         rw (← same) (kept_with at outcome there carried)

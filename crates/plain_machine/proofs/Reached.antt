@@ -25,7 +25,7 @@ use Rattle.gaspi_model.specs.declared.states.State.{State}
 use Rattle.gaspi_model.specs.declared.states.Why.{Why}
 use Rattle.gaspi_model.specs.declared.states.Why.TheVariants as whys
 use Rattle.gaspi_types.proofs.Items.{slice_get-set_other}
-use Rattle.plain_machine.specs.Reaching.{call_reach, entry_reach, memory_at, with_memory_at, with_peer_at, Lent, call_lent, put_lent}
+use Rattle.plain_machine.specs.Reaching.{call_reach, entry_reach, memory_at, with_memory_at, with_peer_at, Lent, call_lent}
 use Rattle.plain_calls.proofs.Chains.{passed, found_there}
 use Rattle.plain_calls.proofs.Items.{set_there}
 use Rattle.plain_calls.proofs.Queues.{peer_queues}
@@ -154,15 +154,15 @@ take_as s origin queue target number outcome p reach there is = by_reach reach i
 pub put_as : (s : State) (origin queue target number : ℕ) (outcome : Outcome) (p : Posts) (reach : Reach) → slice_get s.posts origin ≡ Some p
     → entry_reach s.limits origin (put_touch target) p queue target number ≡ reach
     → step s (Put origin queue target number outcome)
-    ≡ (put_lent s.posts (memory_at s.memories origin reach) origin queue target number outcome
-    >>= (λ w. Ok (record s { posts = w.posts; memories = with_memory_at s.memories origin reach w.memory })))
+    ≡ (put p (memory_at s.memories origin reach) queue target number outcome
+    >>= (λ after. Ok (record s { posts = slice_set s.posts origin after.posts; memories = with_memory_at s.memories origin reach after.memory })))
 put_as s origin queue target number outcome p reach there is = by_reach reach is (put p (memory_at s.memories origin reach) queue target number outcome) refl
   where
     by_reach : (reach : Reach) → entry_reach s.limits origin (put_touch target) p queue target number ≡ reach
         → (r : Result Worked Why) → put p (memory_at s.memories origin reach) queue target number outcome ≡ r
         → step s (Put origin queue target number outcome)
-        ≡ (put_lent s.posts (memory_at s.memories origin reach) origin queue target number outcome
-        >>= (λ w. Ok (record s { posts = w.posts; memories = with_memory_at s.memories origin reach w.memory })))
+        ≡ (put p (memory_at s.memories origin reach) queue target number outcome
+        >>= (λ after. Ok (record s { posts = slice_set s.posts origin after.posts; memories = with_memory_at s.memories origin reach after.memory })))
     by_reach Alone is (Ok w) steps = rw (there, is) rw steps refl
     by_reach Alone is (Err why) steps = rw (there, is) rw steps refl
     by_reach OwnMemory is (Ok w) steps = rw (there, is) rw steps refl
@@ -231,7 +231,7 @@ pub record IsTaken (s t : State) (origin queue target number : ℕ) (outcome : O
 
 pub taken_back : (s t : State) (origin queue target number : ℕ) (outcome : Outcome) → step s (Take origin queue target number outcome) ≡ Ok t → IsTaken s t origin queue target number outcome
 taken_back s t origin queue target number outcome is =
-    passed (found (slice_get s.posts origin) whys.Take) _ _ is (λ p p_there more. by_posts p (found_there _ _ _ p_there))
+    passed (found (slice_get s.posts origin) _) _ _ is (λ p p_there more. by_posts p (found_there _ _ _ p_there))
   where
     same : (p after : Posts) (memory : Memory) → ◌≡◌ {A = Result State Why} (Ok (record s { posts = slice_set s.posts origin after })) (Ok t)
         → slice_get s.posts origin ≡ Some p → take s.limits p memory queue target number outcome ≡ Ok after → IsTaken s t origin queue target number outcome
@@ -257,31 +257,29 @@ pub record IsPut (s t : State) (origin queue target number : ℕ) (outcome : Out
 
 pub put_back : (s t : State) (origin queue target number : ℕ) (outcome : Outcome) → step s (Put origin queue target number outcome) ≡ Ok t → IsPut s t origin queue target number outcome
 put_back s t origin queue target number outcome is =
-    passed (found (slice_get s.posts origin) whys.Put) _ _ is (λ p p_there more. by_posts p (found_there _ _ _ p_there))
+    passed (found (slice_get s.posts origin) _) _ _ is (λ p p_there more. by_posts p (found_there _ _ _ p_there))
   where
-    same : (p : Posts) (reach : Reach) (after : Worked) (w : Lent) → ◌≡◌ {A = Result Lent Why} (Ok (record { posts = slice_set s.posts origin after.posts; memory = after.memory })) (Ok w)
-        → ◌≡◌ {A = Result State Why} (Ok (record s { posts = w.posts; memories = with_memory_at s.memories origin reach w.memory })) (Ok t)
+    same : (p : Posts) (reach : Reach) (after : Worked)
+        → ◌≡◌ {A = Result State Why} (Ok (record s { posts = slice_set s.posts origin after.posts; memories = with_memory_at s.memories origin reach after.memory })) (Ok t)
         → slice_get s.posts origin ≡ Some p → put p (memory_at s.memories origin reach) queue target number outcome ≡ Ok after → IsPut s t origin queue target number outcome
-    same p reach after w lent is there steps =
-        let a : record { posts = slice_set s.posts origin after.posts; memory = after.memory } ≡ w = cc in
-        let b : record s { posts = w.posts; memories = with_memory_at s.memories origin reach w.memory } ≡ t = cc in
+    same p reach after is there steps =
+        let a : record s { posts = slice_set s.posts origin after.posts; memories = with_memory_at s.memories origin reach after.memory } ≡ t = cc in
         record {
           p = p;
           there = there;
           memory = memory_at s.memories origin reach;
           after = after;
           steps = steps;
-          posts = ap (λ (x : Lent). x.posts) a ∙ ap (λ (x : State). x.posts) b;
-          memories = ap (λ (x : State). length x.memories) (sym b) ∙ length-with s.memories origin reach w.memory;
+          posts = ap (λ (x : State). x.posts) a;
+          memories = ap (λ (x : State). length x.memories) (sym a) ∙ length-with s.memories origin reach after.memory;
         }
 
     by_posts : (p : Posts) → slice_get s.posts origin ≡ Some p → IsPut s t origin queue target number outcome
     by_posts p there =
         let reach = entry_reach s.limits origin (put_touch target) p queue target number in
-        passed (put p (memory_at s.memories origin reach) queue target number outcome >>= (λ after. Ok (record { posts = slice_set s.posts origin after.posts; memory = after.memory }))) _ _
-        (rw there at (sym (put_as s origin queue target number outcome p reach there refl) ∙ is)) (λ w lent more.
-        passed (put p (memory_at s.memories origin reach) queue target number outcome) _ _ lent (λ after steps done.
-        same p reach after w done more there steps))
+        passed (put p (memory_at s.memories origin reach) queue target number outcome) _ _
+        (sym (put_as s origin queue target number outcome p reach there refl) ∙ is) (λ after steps more.
+        same p reach after more there steps)
 
 -- what holds of the posts of all ranks, and with a peer's so changed that its queues stay, holds where a call has told its peer
 pub told_by : (P : List Posts → Type 0) (reach : Reach) (me : ℕ) (p : Posts) (call : Call) (reply : Reply) (all : List Posts) → P all

@@ -1,18 +1,19 @@
 -- What a step does to the names of the lanes that have an entry.
-use Rattle.std.proofs.Common.{◌≡◌, ℕ, zero, suc, ◌+◌, ◌<◌, ◌≤◌, Bool, true, false, ◌&&◌, nat_le, nat_lt, List, [], ◌∷◌, ◌++◌, Option, None, Some, Result, Ok, Err, length, slice_get, slice_set, remove, is_none, refl, sym, ap, inl, inr, ◌∙◌, arith, if◌then◌else◌}
+use Rattle.std.proofs.Common.{◌≡◌, ℕ, zero, suc, ◌+◌, ◌<◌, ◌≤◌, Bool, true, false, ◌&&◌, nat_le, nat_lt, List, [], ◌∷◌, ◌++◌, Option, None, Some, Result, Ok, Err, length, slice_get, slice_set, remove, refl, sym, ap, inl, inr, ◌∙◌, arith, if◌then◌else◌}
 use Rattle.std.specs.List.{flat_map, enumerate_from, prefix_len, insert}
 use Rattle.std.proofs.lemmas.Bool.{lt-ltb}
 use Rattle.std.proofs.lemmas.Bool.Decides.{nat_tests}
 use Rattle.std.proofs.lemmas.Option.{slice_get_within}
 use Rattle.gaspi_types.specs.CallRows.{row_of}
 use Rattle.gaspi_types.specs.Checks.{check}
-use Rattle.gaspi_types.specs.Lanes.{may_take, may_put, posted_entries}
+use Rattle.gaspi_types.specs.Lanes.{posted_entries}
 use Rattle.gaspi_types.specs.Replies.{same_reply, is_idle}
 use Rattle.gaspi_types.specs.World.{are_limits}
 use Rattle.gaspi_types.specs.declared.calls.Call.{Call}
 use Rattle.gaspi_types.specs.declared.call_rows.Posting.{Posting}
 use Rattle.gaspi_types.specs.declared.entries.Entry.{Entry}
 use Rattle.gaspi_types.specs.declared.entries.Kind.{Kind}
+use Rattle.gaspi_types.specs.declared.entries.Phase.{Phase}
 use Rattle.gaspi_types.specs.declared.entries.Phase.TheVariants as phases
 use Rattle.gaspi_types.specs.declared.events.Event.{Event}
 use Rattle.gaspi_types.specs.declared.events.Event.TheVariants.{Called, Take, Put}
@@ -28,9 +29,10 @@ use Rattle.gaspi_model.specs.State.{owed, thread_at}
 use Rattle.gaspi_model.specs.Calls.{call_asks, answer, recorded_reply, charge, posts_done, posts_after, memory_after, peer_after}
 use Rattle.gaspi_model.specs.Posting.{with_post, counted}
 use Rattle.gaspi_types.specs.Queues.{with_entries}
+use Rattle.gaspi_types.specs.Tables.{changed_at}
 use Rattle.gaspi_model.specs.Sound.{IsSound, IsSoundPosts}
 use Rattle.gaspi_model.specs.Step.{step, called, is_there, Steps}
-use Rattle.gaspi_model.specs.Transfers.{Found, find_entry, take, put, put_with, put_outcome, same_outcome, with_lane, with_phase, Worked}
+use Rattle.gaspi_model.specs.Transfers.{Found, find_entry, bytes_taken, queue_phase, posts_phase, take, memory_after_put, queue_without, queue_failed, posts_after_put, put, Worked}
 use Rattle.gaspi_types.specs.declared.entries.Queue.{Queue}
 use Rattle.gaspi_model.specs.declared.states.Posts.{Posts}
 use Rattle.gaspi_model.specs.declared.states.Memory.{Memory}
@@ -38,13 +40,12 @@ use Rattle.gaspi_model.specs.declared.states.State.{State}
 use Rattle.gaspi_model.specs.declared.states.StepFault.{StepFault}
 use Rattle.gaspi_model.specs.declared.states.StepFault.TheVariants as faults
 use Rattle.gaspi_model.specs.declared.states.Why.{Why}
-use Rattle.gaspi_model.specs.declared.states.Why.TheVariants as whys
 use Rattle.plain_machine.specs.Machine.{IsFitting}
 use Rattle.plain_machine.specs.Reaching.{call_reach, with_peer_at}
 use Rattle.plain_machine.specs.Standing.{lane_id, lane_named, queue_named, rank_named, standing_lanes, lane_entries, is_before, post_lane, posting_lane, call_lane, event_lane, is_put}
 use Rattle.plain_machine.specs.declared.standing.LaneId.{LaneId}
 use Rattle.plain_calls.proofs.Chains.{passed, check_holds, changed_there}
-use Rattle.plain_machine.proofs.Kept.{IsAt, found_at}
+use Rattle.plain_machine.proofs.Kept.{IsAt, found_at, phase_lanes, lanes_without}
 use Rattle.plain_calls.proofs.CallRoom.{found_by, posted}
 use Rattle.plain_calls.proofs.Postings.{HasLength, IsPost, posting_of}
 use Rattle.plain_calls.proofs.Queues.{plain_queues}
@@ -91,46 +92,46 @@ named_more o queue target [] [] some = absurd (let no : ⊥ = omega (arith, some
 named_more o queue target [] (y ∷ more) some = refl
 named_more o queue target (x ∷ lane) more some = refl
 
--- posts with a lane of theirs replaced
-relaned : (posts : Posts) (queue target : ℕ) (at : Found) (lane' : List Entry) → IsAt posts queue target at → IsRelaned posts (counted (with_lane posts queue target lane')) queue target at.lane lane'
-relaned posts queue target at lane' there = record {
+-- posts with the lane of an entry that was found replaced
+relaned : (posts p' : Posts) (queue target : ℕ) (at : Found) (change : Queue → Queue) (lane' : List Entry) → IsAt posts queue target at → p'.queues ≡ changed_at posts.queues queue change
+    → (change at.queue).lanes ≡ slice_set at.queue.lanes target lane' → IsRelaned posts p' queue target at.lane lane'
+relaned posts p' queue target at change lane' there changed lanes = record {
   q = at.queue;
-  q' = record at.queue { lanes = slice_set at.queue.lanes target lane' };
+  q' = change at.queue;
   q_there = there.q;
   there = there.lane;
-  queues = changed_there posts.queues queue _ at.queue there.q;
-  lanes = refl;
+  queues = changed ∙ changed_there posts.queues queue change at.queue there.q;
+  lanes = lanes;
 }
 
 -- a take keeps the names
 take_names : (ps : List Posts) (o : ℕ) (limits : Limits) (posts : Posts) (memory : Memory) (queue target number : ℕ) (outcome : Outcome) (after : Posts) → slice_get ps o ≡ Some posts
     → take limits posts memory queue target number outcome ≡ Ok after → standing_lanes (slice_set ps o after) ≡ standing_lanes ps
 take_names ps o limits posts memory queue target number outcome after o_there is =
-    passed (find_entry posts queue target number whys.Take) _ _ is (λ at found_it more.
-    passed (check (is_none at.queue.broken) _) _ _ more (λ u whole more.
-    passed (check (may_take limits.depth at.lane at.entry) _) _ _ more (λ u permitted more.
-    passed (check (same_outcome outcome Applied) _) _ _ more (λ u applied more.
-    done at _ after (found_at _ _ _ _ _ at found_it) more))))
+    passed (find_entry posts queue target number _) _ _ is (λ at found_it more.
+    passed (bytes_taken limits memory at outcome) _ _ more (λ bytes given left.
+    done at (phases.Carried bytes) after (found_at _ _ _ _ _ at found_it) left))
   where
-    done : (at : Found) (bytes : List ℕ) (after : Posts) → IsAt posts queue target at
-        → ◌≡◌ {A = Result Posts Why} (Ok (counted (with_lane posts queue target (with_phase at.lane at.place at.entry (phases.Carried bytes))))) (Ok after) → standing_lanes (slice_set ps o after) ≡ standing_lanes ps
-    done at bytes after there is =
-        let same : counted (with_lane posts queue target (with_phase at.lane at.place at.entry (phases.Carried bytes))) ≡ after = cc in
-        let lane' : List Entry = with_phase at.lane at.place at.entry (phases.Carried bytes) in
-        let parts = parted ps o queue target posts (counted (with_lane posts queue target lane')) at.lane lane' o_there (relaned posts queue target at lane' there) in
+    done : (at : Found) (phase : Phase) (after : Posts) → IsAt posts queue target at
+        → ◌≡◌ {A = Result Posts Why} (Ok (counted (posts_phase posts queue target at.place phase))) (Ok after) → standing_lanes (slice_set ps o after) ≡ standing_lanes ps
+    done at phase after there is =
+        let p' : Posts = counted (posts_phase posts queue target at.place phase) in
+        let same : p' ≡ after = cc in
+        let lane' : List Entry = slice_set at.lane at.place (record at.entry { phase = phase }) in
+        let parts =
+        parted ps o queue target posts p' at.lane lane' o_there
+        (relaned posts p' queue target at (queue_phase target at.place phase) lane' there refl (phase_lanes posts queue target at phase there)) in
         rw (← same) (kept_by (lane_id o queue target) _ _ (lane_named o queue (target, at.lane))
-        (rw (named_set o queue target at.place at.lane (record at.entry { phase = phases.Carried bytes })) at parts))
+        (rw (named_set o queue target at.place at.lane (record at.entry { phase = phase })) at parts))
 
 -- a put may take the name of its lane away
 put_names : (ps : List Posts) (o : ℕ) (posts : Posts) (memory : Memory) (queue target number : ℕ) (outcome : Outcome) (after : Worked) → slice_get ps o ≡ Some posts
     → put posts memory queue target number outcome ≡ Ok after
     → IsParted (lane_id o queue target) (standing_lanes ps) (standing_lanes (slice_set ps o after.posts)) (lane_id o queue target ∷ []) (lane_named o queue (target, lane_entries (slice_set ps o after.posts) (lane_id o queue target)))
 put_names ps o posts memory queue target number outcome after o_there is =
-    passed (find_entry posts queue target number whys.Put) _ _ is (λ at found_it more.
-    passed (check (is_none at.queue.broken) _) _ _ more (λ u whole more.
-    passed (check (may_put at.lane at.entry) _) _ _ more (λ u permitted more.
-    passed (check (same_outcome outcome (put_outcome memory at.entry.kind)) _) _ _ more (λ u fits more.
-    done at outcome after (found_at _ _ _ _ _ at found_it) more))))
+    passed (find_entry posts queue target number _) _ _ is (λ at found_it more.
+    passed (memory_after_put memory at outcome) _ _ more (λ m given left.
+    done at outcome m after (found_at _ _ _ _ _ at found_it) left))
   where
     of_lane : (at : Found) (p' : Posts) (lane' : List Entry) → IsAt posts queue target at → IsRelaned posts p' queue target at.lane lane'
         → IsParted (lane_id o queue target) (standing_lanes ps) (standing_lanes (slice_set ps o p')) (lane_id o queue target ∷ []) (lane_named o queue (target, lane_entries (slice_set ps o p') (lane_id o queue target)))
@@ -139,24 +140,19 @@ put_names ps o posts memory queue target number outcome after o_there is =
         rw (entries_new ps o queue target posts p' at.lane lane' o_there r)
         (rw (named_at o queue target at.place at.lane at.entry there.entry) at parts)
 
-    of_outcome : (at : Found) (outcome : Outcome) → IsAt posts queue target at
-        → IsParted (lane_id o queue target) (standing_lanes ps) (standing_lanes (slice_set ps o (put_with posts memory queue target at outcome).posts)) (lane_id o queue target ∷ []) (lane_named o queue (target, lane_entries (slice_set ps o (put_with posts memory queue target at outcome).posts) (lane_id o queue target)))
-    of_outcome at Applied there = of_lane at _ (remove at.lane at.place) there (relaned posts queue target at (remove at.lane at.place) there)
-    of_outcome at Failed there = of_lane at _ (with_phase at.lane at.place at.entry phases.Failed) there (record {
-      q = at.queue;
-      q' = record at.queue { broken = Some target; lanes = slice_set at.queue.lanes target (with_phase at.lane at.place at.entry phases.Failed) };
-      q_there = there.q;
-      there = there.lane;
-      queues = changed_there posts.queues queue _ at.queue there.q;
-      lanes = refl;
-    })
+    of_outcome : (at : Found) (outcome : Outcome) → IsAt posts queue target at → (p' : Posts) → p' ≡ posts_after_put posts queue target at.place outcome
+        → IsParted (lane_id o queue target) (standing_lanes ps) (standing_lanes (slice_set ps o p')) (lane_id o queue target ∷ []) (lane_named o queue (target, lane_entries (slice_set ps o p') (lane_id o queue target)))
+    of_outcome at Applied there p' is =
+        of_lane at p' _ there (relaned posts p' queue target at (queue_without target at.place) _ there (ap (λ (p : Posts). p.queues) is) (lanes_without posts queue target at there))
+    of_outcome at Failed there p' is =
+        of_lane at p' _ there (relaned posts p' queue target at (queue_failed target at.place) _ there (ap (λ (p : Posts). p.queues) is) (phase_lanes posts queue target at phases.Failed there))
 
-    done : (at : Found) (outcome : Outcome) (after : Worked) → IsAt posts queue target at
-        → ◌≡◌ {A = Result Worked Why} (Ok (put_with posts memory queue target at outcome)) (Ok after)
+    done : (at : Found) (outcome : Outcome) (m : Memory) (after : Worked) → IsAt posts queue target at
+        → ◌≡◌ {A = Result Worked Why} (Ok (record { posts = posts_after_put posts queue target at.place outcome; memory = m })) (Ok after)
         → IsParted (lane_id o queue target) (standing_lanes ps) (standing_lanes (slice_set ps o after.posts)) (lane_id o queue target ∷ []) (lane_named o queue (target, lane_entries (slice_set ps o after.posts) (lane_id o queue target)))
-    done at outcome after there is =
-        let same : put_with posts memory queue target at outcome ≡ after = cc in
-        rw (← same) (of_outcome at outcome there)
+    done at outcome m after there is =
+        let same : after ≡ record { posts = posts_after_put posts queue target at.place outcome; memory = m } = cc in
+        of_outcome at outcome there after.posts (ap (λ (w : Worked). w.posts) same)
 
 -- a post that is done gives its lane a name
 post_names : (ps : List Posts) (o : ℕ) (limits : Limits) (posts : Posts) (queue target : ℕ) (finds : Result (List Kind) Refusal) (reply : Reply) (entries : ℕ) → slice_get ps o ≡ Some posts
@@ -280,8 +276,6 @@ lane_of_post false x id is = absurd (let no : ⊥ = cc in no)
 -- a post that is done
 pub posting : (s t : State) (e : Event) (id : LaneId) → IsSound s → event_lane e ≡ Some id → is_put e ≡ false → step s e ≡ Ok t
     → IsParted id (standing_lanes s.posts) (standing_lanes t.posts) (lane_named id.origin id.queue (id.target, lane_entries s.posts id)) (id ∷ [])
-posting s t (Take origin queue target number outcome) id sound lane puts is = absurd (let no : ⊥ = cc in no)
-posting s t (Put origin queue target number outcome) id sound lane puts is = absurd (let no : ⊥ = cc in no)
 posting s t (Called c call reply) id sound lane puts is =
     let l = some_lane (is_idle reply) (call_lane c.rank call) id lane in of_posting (row_of call).posting refl l.0 l.1 (call_posts s t c call reply is)
   where
@@ -296,16 +290,16 @@ posting s t (Called c call reply) id sound lane puts is =
         let after : counted (with_post done.p posting.queue posting.rank (call_asks s.limits c.rank done.p call)) ≡ done.p' = ap counted (sym (p.leaves c.thread)) ∙ (rw busy at done.by.1.after_is) in
         rw (← lane_of_post (nat_lt posting.rank 16 && nat_lt posting.queue 8) (lane_id c.rank posting.queue posting.rank) id lane, done.is, ← after)
         (post_names s.posts c.rank s.limits done.p posting.queue posting.rank (call_asks s.limits c.rank done.p call) f.reply_found posting.entries done.there (sound.posts c.rank done.p done.there) post p.long p.some)
+posting s t transfer id sound lane puts is = absurd (let no : ⊥ = cc in no)
 
 -- a put
 pub leaving : (s t : State) (e : Event) (id : LaneId) → event_lane e ≡ Some id → is_put e ≡ true → step s e ≡ Ok t
     → IsParted id (standing_lanes s.posts) (standing_lanes t.posts) (id ∷ []) (lane_named id.origin id.queue (id.target, lane_entries t.posts id))
-leaving s t (Called c call reply) id lane puts is = absurd (let no : ⊥ = cc in no)
-leaving s t (Take origin queue target number outcome) id lane puts is = absurd (let no : ⊥ = cc in no)
 leaving s t (Put origin queue target number outcome) id lane puts is =
     let b = put_back s t origin queue target number outcome is in
     let at : lane_id origin queue target ≡ id = cc in
     rw (← at, ← b.posts) (put_names s.posts origin b.p b.memory queue target number outcome b.after b.there b.steps)
+leaving s t other id lane puts is = absurd (let no : ⊥ = cc in no)
 
 -- any other event keeps the names
 pub quiet : (s t : State) (e : Event) → IsSound s → IsFitting s → event_lane e ≡ None → step s e ≡ Ok t → standing_lanes t.posts ≡ standing_lanes s.posts

@@ -1,12 +1,12 @@
 -- The machine: a sound state, the room that each rank has taken, and the lanes that have an entry.
-use Rattle.std.specs.Prelude.{◌≡◌, ℕ, ◌+◌, ◌≤◌, List, map, length, slice_get, Some, if◌then◌else◌}
+use Rattle.std.specs.Prelude.{◌≡◌, ℕ, ◌+◌, ◌≤◌, List, map, length, slice_get, Option, None, Some, true}
 use Rattle.gaspi_types.specs.declared.shapes.Limits.{Limits}
 use Rattle.gaspi_types.specs.declared.events.Event.{Event}
-use Rattle.gaspi_types.specs.declared.events.Event.TheVariants.{Take, Put}
+use Rattle.gaspi_types.specs.declared.events.Event.TheVariants.{Put}
 use Rattle.gaspi_types.specs.declared.events.Outcome.{Outcome}
-use Rattle.gaspi_types.specs.declared.events.Transfer.{Transfer}
 use Rattle.gaspi_model.specs.State.{owed}
 use Rattle.gaspi_model.specs.Sound.{IsSound}
+use Rattle.gaspi_model.specs.Step.{transfer_event}
 use Rattle.gaspi_model.specs.declared.states.Posts.{Posts}
 use Rattle.gaspi_model.specs.declared.states.Memory.{Memory}
 use Rattle.gaspi_model.specs.declared.states.State.{State}
@@ -44,6 +44,7 @@ pub record IsMachine (s : State) (rooms : List ℕ) (standing : List LaneId) : T
   pub taken : rooms ≡ map taken_of s.posts
   pub named : standing ≡ standing_lanes s.posts
 
--- the event of a transfer with an outcome
-abbrev pub event_of : Transfer → Outcome → Event
-event_of t outcome = if t.put then Put t.origin t.queue t.target t.number outcome else Take t.origin t.queue t.target t.number outcome
+-- the event of an entry's put: with the outcome that is given, or else the machine's
+abbrev pub put_event : State → LaneId → ℕ → Option Outcome → Event
+put_event s id number (Some outcome) = Put id.origin id.queue id.target number outcome
+put_event s id number None = transfer_event s (record { origin = id.origin; queue = id.queue; target = id.target; number = number; put = true })

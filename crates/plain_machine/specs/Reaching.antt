@@ -6,7 +6,6 @@ use Rattle.gaspi_types.specs.Touches.{reach_of}
 use Rattle.gaspi_types.specs.World.{are_limits}
 use Rattle.gaspi_types.specs.declared.calls.Call.{Call}
 use Rattle.gaspi_types.specs.declared.entries.Kind.{Kind}
-use Rattle.gaspi_types.specs.declared.events.Outcome.{Outcome}
 use Rattle.gaspi_types.specs.declared.replies.Reply.{Reply}
 use Rattle.gaspi_types.specs.declared.shapes.CallerId.{CallerId}
 use Rattle.gaspi_types.specs.declared.shapes.Limits.{Limits}
@@ -17,7 +16,7 @@ use Rattle.gaspi_model.specs.Parts.{no_memory, memory_or_none}
 use Rattle.gaspi_types.specs.Tables.{changed_at}
 use Rattle.gaspi_model.specs.Sound.{IsSoundPosts}
 use Rattle.gaspi_model.specs.Step.{called, entry_touch}
-use Rattle.gaspi_model.specs.Transfers.{put, entry_in}
+use Rattle.gaspi_model.specs.Transfers.{entry_in}
 use Rattle.gaspi_model.specs.declared.states.Posts.{Posts}
 use Rattle.gaspi_model.specs.declared.states.Memory.{Memory}
 use Rattle.gaspi_model.specs.declared.states.Why.{Why}
@@ -57,18 +56,12 @@ pub record Lent : Type 0 where
   pub posts : List Posts
   pub memory : Memory
 
--- a call, and a put, on those
+-- a call on those
 abbrev pub call_lent : Limits → List Posts → Memory → CallerId → Call → Reply → Result Lent Why
 call_lent limits all memory c call reply = do
   posts ← found (slice_get all c.rank) whys.Caller
   after ← called limits c.rank posts memory c.thread call reply
   Ok (record { posts = slice_set all c.rank after.posts; memory = after.memory })
-
-abbrev pub put_lent : List Posts → Memory → ℕ → ℕ → ℕ → ℕ → Outcome → Result Lent Why
-put_lent all memory origin queue target number outcome = do
-  posts ← found (slice_get all origin) whys.Put
-  after ← put posts memory queue target number outcome
-  Ok (record { posts = slice_set all origin after.posts; memory = after.memory })
 
 -- the posts of all ranks are sound
 pub record AreRanks (limits : Limits) (all : List Posts) : Type 0 where

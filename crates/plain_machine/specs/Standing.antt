@@ -103,9 +103,8 @@ event_lane (Take origin queue target number outcome) = None
 event_lane (Put origin queue target number outcome) = Some (lane_id origin queue target)
 
 abbrev pub is_put : Event → Bool
-is_put (Called c call reply) = false
-is_put (Take origin queue target number outcome) = false
 is_put (Put origin queue target number outcome) = true
+is_put other = false
 
 -- a number is over another, if there is one
 abbrev pub is_over : Option ℕ → ℕ → Bool

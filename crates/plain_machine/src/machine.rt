@@ -16,12 +16,9 @@ use crate::looking::{has_section, look_in, record_named};
 use crate::opening::{all_memories, all_posts, all_taken};
 use crate::ranks::Ranks;
 use crate::standing::LaneId;
-use crate::steps::step;
-use crate::transfers::{find_entry, put_outcome};
-use gaspi_model::{Memory, StepFault, Why, soundness};
-use gaspi_types::{
-    Call, CallerId, Event, NoMemory, Outcome, RankId, Ready, Reply, Rows, Shape, Transfer,
-};
+use crate::steps::{make, step};
+use gaspi_model::{Memory, StepFault, soundness};
+use gaspi_types::{Call, CallerId, Event, NoMemory, RankId, Ready, Reply, Rows, Shape, Transfer};
 use plain_calls::{Finding, is_running, thread_at};
 use std::alloc::Global;
 use std::marker::Model;
@@ -51,8 +48,6 @@ impl Model for Machine {
 }
 
 impl Machine {
-    ghost use Rattle.plain_machine.specs.Machine.{event_of};
-
     /// The machine at the start: the shape's segments and callers, all else zero or empty. (GASPI: segments)
     pub fn start(alloc: Global, shape: &Shape) -> Result<Machine, NoMemory>
         ensures { IfOk result (λ machine. machine ≡ opening shape.now) }
@@ -157,28 +152,22 @@ impl Machine {
         transfer_at(&self.ranks.limits, &self.ranks.posts, &self.standing, place)
     }
 
-    /// The outcome of a transfer that may come next.
-    pub fn outcome(&self, transfer: &Transfer) -> Outcome
-        ensures { transfer_event self.now transfer.now ≡ event_of transfer.now result }
+    /// Makes a transfer that may come next: the step by its take or put, with the machine's outcome. It gives the event. Its
+    /// entry is found once. A transfer that may not come is none, for that cause, and changed nothing; without memory nothing
+    /// changed. Only a take wants memory.
+    pub fn make(&mut self, alloc: Global, transfer: &Transfer) -> Result<Event, StepFault>
+        ensures event { IfOk result (λ event. event ≡ transfer_event self.old transfer.now) }
+        ensures step { Steps (made_of result) self.old self.new (step self.old (transfer_event self.old transfer.now)) }
+        ensures ample { transfer.now.put ≡ true → result ≢ Err StepFault.NoMemory }
     {
-        if !transfer.put {
-            return Outcome::Applied;
-        }
-        let Some(posts) = self.ranks.posts.get(transfer.origin.index()) else {
-            return Outcome::Failed;
-        };
-        let Some(memory) = self.memories.get(transfer.target.index()) else {
-            return Outcome::Failed;
-        };
-        let id = LaneId {
-            origin: transfer.origin,
-            queue: transfer.queue,
-            target: transfer.target,
-        };
-        match find_entry(posts, &id, transfer.number, Why::Put) {
-            Ok(at) => put_outcome(memory, &at.entry.kind),
-            Err(_) => Outcome::Failed,
-        }
+        soundness();
+        make(
+            &mut self.ranks,
+            &mut self.memories,
+            &mut self.standing,
+            alloc,
+            transfer,
+        )
     }
 
     /// How many events of a rank have room yet, none for what it owes.

@@ -1,13 +1,14 @@
 //! The step of the machine, on the ranks, their memories and the lanes that have an entry.
 
-ghost use Rattle.std.specs.Prelude.{◌≡◌, ◌≢◌, ◌<◌, ℕ, List, length, map, Err, false};
+ghost use Rattle.std.specs.Prelude.{◌≡◌, ◌≢◌, ◌<◌, ℕ, List, length, map, IfOk, Err, true, false};
 ghost use Rattle.gaspi_types.specs.declared.events.Event.TheVariants.{Take, Put};
 ghost use Rattle.gaspi_types.specs.declared.touches.Reach.TheVariants.{PeerMemory};
-ghost use Rattle.gaspi_model.specs.Step.{step, Steps};
+ghost use Rattle.gaspi_model.specs.Step.{step, Steps, transfer_event};
 ghost use Rattle.gaspi_model.specs.declared.states.Memory.{Memory};
+ghost use Rattle.plain_calls.specs.Looks.{made_of};
 ghost use Rattle.plain_calls.specs.Memory.{takes_memory};
-ghost use Rattle.plain_machine.specs.Machine.{AreWhole, IsMachine, state_in, taken_of};
-ghost use Rattle.plain_machine.specs.Entries.{found_at, memories_after_put};
+ghost use Rattle.plain_machine.specs.Machine.{AreWhole, IsMachine, state_in, taken_of, put_event};
+ghost use Rattle.plain_machine.specs.Entries.{found_at, reached_outcome, memories_after_put};
 ghost use Rattle.plain_machine.specs.Standing.{standing_lanes};
 
 use crate::looking::step_called;
@@ -16,7 +17,7 @@ use crate::reaching::{no_memory, worked_memory};
 use crate::standing::{LaneId, has_entry, unname_lane};
 use crate::transfers::{FoundEntry, find_entry, put_bytes, set_put, set_taken, take_bytes};
 use gaspi_model::{Memory, StepFault, Why};
-use gaspi_types::{Event, Outcome, RankId, Reach, Rows};
+use gaspi_types::{Event, Outcome, RankId, Reach, Rows, Transfer};
 use std::alloc::Global;
 
 /// Steps by a take: a write takes its bytes from its origin's memory.
@@ -53,41 +54,45 @@ fn step_take(
     Ok(())
 }
 
-/// Puts an entry that was found into the memory that it reaches. It takes no memory.
+/// Puts an entry that was found into the memory that it reaches, with the outcome that is given, or else the machine's. It
+/// gives the outcome, and takes no memory.
 fn put_reached(
     memories: &mut Rows<Memory>,
     alloc: Global,
     me: RankId,
     reach: Reach,
     at: &FoundEntry<'_>,
-    outcome: Outcome,
-) -> Result<(), StepFault>
+    given: Option<Outcome>,
+) -> Result<Outcome, StepFault>
     requires own { me < length memories.old }
     requires peer { (rank : ℕ) → reach ≡ PeerMemory rank → rank < length memories.old }
-    ensures step { Steps {S = List Memory} result memories.old memories.new (memories_after_put memories.old me reach (found_at at.now) outcome) }
+    ensures outcome { IfOk result (λ outcome. outcome ≡ reached_outcome given memories.old me reach (found_at at.now)) }
+    ensures step { Steps {S = List Memory} (made_of result) memories.old memories.new (memories_after_put memories.old me reach (found_at at.now) (reached_outcome given memories.old me reach (found_at at.now))) }
     ensures ample { result ≢ Err StepFault.NoMemory }
 {
     match reach {
-        Reach::OwnMemory => put_bytes(memories.at_mut(me.index()), at, outcome),
-        Reach::PeerMemory(peer) => put_bytes(memories.at_mut(peer.index()), at, outcome),
+        Reach::OwnMemory => put_bytes(memories.at_mut(me.index()), at, given),
+        Reach::PeerMemory(peer) => put_bytes(memories.at_mut(peer.index()), at, given),
         Reach::Alone | Reach::PeerPosts(_) => {
             let mut none = no_memory(alloc);
-            put_bytes(&mut none, at, outcome)
+            put_bytes(&mut none, at, given)
         }
     }
 }
 
-/// Steps by a put, on the memory of its target. It takes no memory.
+/// Steps by a put, on the memory of its target, with the outcome that is given, or else the machine's. It gives the outcome,
+/// and takes no memory.
 fn step_put(
     ranks: &mut Ranks,
     memories: &mut Rows<Memory>,
     alloc: Global,
     id: &LaneId,
     number: u32,
-    outcome: Outcome,
-) -> Result<(), StepFault>
+    given: Option<Outcome>,
+) -> Result<Outcome, StepFault>
     requires { AreWhole ranks.old memories.old }
-    ensures step { Steps result (state_in ranks.old memories.old) (state_in ranks.new memories.new) (step (state_in ranks.old memories.old) (Put id.now.origin id.now.queue id.now.target number outcome)) }
+    ensures outcome { IfOk result (λ outcome. put_event (state_in ranks.old memories.old) id.now number given ≡ Put id.now.origin id.now.queue id.now.target number outcome) }
+    ensures step { Steps (made_of result) (state_in ranks.old memories.old) (state_in ranks.new memories.new) (step (state_in ranks.old memories.old) (put_event (state_in ranks.old memories.old) id.now number given)) }
     ensures taken { ranks.new.taken ≡ map taken_of ranks.new.posts }
     ensures ample { result ≢ Err StepFault.NoMemory }
 {
@@ -104,17 +109,18 @@ fn step_put(
         .kind
         .put_touch(id.target)
         .reach(ranks.limits.ranks, id.origin);
-    match put_reached(memories, alloc, id.origin, reach, &at, outcome) {
-        Ok(()) => {
+    match put_reached(memories, alloc, id.origin, reach, &at, given) {
+        Ok(outcome) => {
             let place = at.place;
             set_put(ranks.posts.at_mut(rank), id, place, outcome);
-            Ok(())
+            Ok(outcome)
         }
         Err(fault) => Err(fault),
     }
 }
 
-/// Steps by a put. Where it empties its lane, that is named no more. It takes no memory.
+/// Steps by a put, with the outcome that is given, or else the machine's. Where it empties its lane, that is named no more.
+/// It gives the outcome, and takes no memory.
 fn step_leaving(
     ranks: &mut Ranks,
     memories: &mut Rows<Memory>,
@@ -122,19 +128,20 @@ fn step_leaving(
     alloc: Global,
     id: &LaneId,
     number: u32,
-    outcome: Outcome,
-) -> Result<(), StepFault>
+    given: Option<Outcome>,
+) -> Result<Outcome, StepFault>
     requires { IsMachine (state_in ranks.old memories.old) ranks.old.taken standing.old.items }
-    ensures step { Steps result (state_in ranks.old memories.old) (state_in ranks.new memories.new) (step (state_in ranks.old memories.old) (Put id.now.origin id.now.queue id.now.target number outcome)) }
+    ensures outcome { IfOk result (λ outcome. put_event (state_in ranks.old memories.old) id.now number given ≡ Put id.now.origin id.now.queue id.now.target number outcome) }
+    ensures step { Steps (made_of result) (state_in ranks.old memories.old) (state_in ranks.new memories.new) (step (state_in ranks.old memories.old) (put_event (state_in ranks.old memories.old) id.now number given)) }
     ensures taken { ranks.new.taken ≡ map taken_of ranks.new.posts }
     ensures named { standing.new.items ≡ standing_lanes ranks.new.posts }
     ensures ample { result ≢ Err StepFault.NoMemory }
 {
-    step_put(ranks, memories, alloc, id, number, outcome)?;
+    let outcome = step_put(ranks, memories, alloc, id, number, given)?;
     if !has_entry(&ranks.posts, id) {
         unname_lane(standing, id);
     }
-    Ok(())
+    Ok(outcome)
 }
 
 /// Steps by an event, and names the lanes that have an entry then: at Ok the step's state stands; an illegal event is
@@ -170,7 +177,39 @@ pub fn step(
                 queue: *queue,
                 target: *target,
             };
-            step_leaving(ranks, memories, standing, alloc, &id, *number, *outcome)
+            let given = Some(*outcome);
+            let _outcome = step_leaving(ranks, memories, standing, alloc, &id, *number, given)?;
+            Ok(())
         }
     }
+}
+
+/// Makes a transfer, with the machine's outcome, as a step by its take or put. It gives the event.
+pub fn make(
+    ranks: &mut Ranks,
+    memories: &mut Rows<Memory>,
+    standing: &mut Vec<LaneId>,
+    alloc: Global,
+    transfer: &Transfer,
+) -> Result<Event, StepFault>
+    requires { IsMachine (state_in ranks.old memories.old) ranks.old.taken standing.old.items }
+    ensures event { IfOk result (λ event. event ≡ transfer_event (state_in ranks.old memories.old) transfer.now) }
+    ensures step { Steps (made_of result) (state_in ranks.old memories.old) (state_in ranks.new memories.new) (step (state_in ranks.old memories.old) (transfer_event (state_in ranks.old memories.old) transfer.now)) }
+    ensures taken { ranks.new.taken ≡ map taken_of ranks.new.posts }
+    ensures named { standing.new.items ≡ standing_lanes ranks.new.posts }
+    ensures ample { transfer.now.put ≡ true → result ≢ Err StepFault.NoMemory }
+{
+    let id = LaneId {
+        origin: transfer.origin,
+        queue: transfer.queue,
+        target: transfer.target,
+    };
+    let number = transfer.number;
+    if transfer.put {
+        let outcome = step_leaving(ranks, memories, standing, alloc, &id, number, None)?;
+        return Ok(Event::Put(id.origin, id.queue, id.target, number, outcome));
+    }
+    let outcome = Outcome::Applied;
+    step_take(ranks, memories, alloc, &id, number, outcome)?;
+    Ok(Event::Take(id.origin, id.queue, id.target, number, outcome))
 }

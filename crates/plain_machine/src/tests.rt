@@ -99,17 +99,8 @@ fn calls(rt: &impl Abort, alloc: Global, machine: &mut Machine, rank: u32, call:
 }
 
 fn moves(rt: &impl Abort, alloc: Global, machine: &mut Machine, number: u32, put: bool) {
-    let outcome = machine.outcome(&transfer(number, put));
-    let origin = RankId::of(0);
-    let queue = QueueId::of(0);
-    let target = RankId::of(1);
-    let event = if put {
-        Event::Put(origin, queue, target, number, outcome)
-    } else {
-        Event::Take(origin, queue, target, number, outcome)
-    };
-    let stepped = machine.step(alloc, &event);
-    assert!(rt; stepped.is_ok());
+    let made = machine.make(alloc, &transfer(number, put));
+    assert!(rt; made.is_ok());
 }
 
 fn answers(

@@ -1,12 +1,14 @@
 //! Takes and puts: what a transfer may do, and what it leaves. (GASPI: one-sided communication, notification order)
 
 ghost use Rattle.std.specs.Prelude.{◌≡◌, ◌≢◌, ◌+◌, ◌<◌, ◌^◌, IfOk, Err};
+ghost use Rattle.std.specs.Option.{unwrap_or};
 ghost use Rattle.gaspi_types.specs.declared.entries.Phase.TheVariants.{Carried};
 ghost use Rattle.gaspi_model.specs.Posting.{counted};
-ghost use Rattle.gaspi_model.specs.Transfers.{same_outcome, find_entry, put_outcome, target_segment, target_generation, taken_bytes, carried_bytes, memory_put};
+ghost use Rattle.gaspi_model.specs.Transfers.{same_outcome, find_entry, lane_phase, queue_phase, posts_phase, taken_bytes, bytes_taken, target_segment, target_generation, put_outcome, carried_bytes, memory_put, memory_after_put, queue_without, posts_without, queue_failed, posts_failed, posts_after_put};
 ghost use Rattle.gaspi_model.specs.Step.{Steps};
+ghost use Rattle.plain_calls.specs.Looks.{made_of};
 ghost use Rattle.gaspi_model.specs.declared.states.Memory.{Memory};
-ghost use Rattle.plain_machine.specs.Entries.{Finds, Gives, found_at, bytes_taken, memory_after_put, posts_after_put, lane_phase, queue_phase, posts_phase, queue_failed, posts_failed_at, queue_without, posts_without};
+ghost use Rattle.plain_machine.specs.Entries.{Finds, Gives, found_at};
 
 use crate::standing::LaneId;
 use gaspi_model::{Memory, Posts, StepFault, Why};
@@ -110,7 +112,7 @@ fn fail_queue_entry(q: &mut Queue, target: RankId, place: usize)
 
 /// An entry that failed also marks its target as corrupt. (GASPI: state vector)
 fn fail_entry(posts: &mut Posts, id: &LaneId, place: usize)
-    ensures { posts.new ≡ posts_failed_at posts.old id.now.queue id.now.target place }
+    ensures { posts.new ≡ posts_failed posts.old id.now.queue id.now.target place }
 {
     let q = id.queue.index();
     if q < posts.queues.len() {
@@ -189,7 +191,7 @@ fn target_of(kind: &Kind) -> (u32, u32)
 }
 
 /// How a put ends: it fails where the target's segment of the entry's generation is gone. (GASPI: state vector)
-pub fn put_outcome(memory: &Memory, kind: &Kind) -> Outcome
+fn put_outcome(memory: &Memory, kind: &Kind) -> Outcome
     ensures { result ≡ put_outcome memory.now kind.now }
 {
     let (segment, generation) = target_of(kind);
@@ -233,25 +235,26 @@ fn memory_put(memory: &mut Memory, entry: &Entry)
 }
 
 /// Puts an entry that was found, into the memory: it has taken its bytes, its queue is not broken, and, for a notification,
-/// no earlier write stands in its lane. It takes no memory.
+/// no earlier write stands in its lane. The outcome is the one that is given, which has to be the machine's, or else the
+/// machine's. It takes no memory.
 pub fn put_bytes(
     memory: &mut Memory,
     at: &FoundEntry<'_>,
-    outcome: Outcome,
-) -> Result<(), StepFault>
-    ensures step { Steps {S = Memory} result memory.old memory.new (memory_after_put memory.old (found_at at.now) outcome) }
+    given: Option<Outcome>,
+) -> Result<Outcome, StepFault>
+    ensures outcome { IfOk result (λ outcome. outcome ≡ unwrap_or given (put_outcome memory.old (found_at at.now).entry.kind)) }
+    ensures step { Steps {S = Memory} (made_of result) memory.old memory.new (memory_after_put memory.old (found_at at.now) (unwrap_or given (put_outcome memory.old (found_at at.now).entry.kind))) }
     ensures ample { result ≢ Err StepFault.NoMemory }
 {
-    if at.queue.broken.is_some()
-        || !may_put(at.lane, at.entry)
-        || !same_outcome(outcome, put_outcome(memory, &at.entry.kind))
-    {
+    let fitting = put_outcome(memory, &at.entry.kind);
+    let outcome = given.unwrap_or(fitting);
+    if at.queue.broken.is_some() || !may_put(at.lane, at.entry) || !same_outcome(outcome, fitting) {
         return Err(StepFault::Illegal(Why::Put));
     }
     if matches!(outcome, Outcome::Applied) {
         memory_put(memory, at.entry);
     }
-    Ok(())
+    Ok(outcome)
 }
 
 /// Takes the entry at a place out of its lane, or marks it as failed, and counts the event.

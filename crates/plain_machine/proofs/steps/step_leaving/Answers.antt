@@ -1,24 +1,23 @@
 use Rattle.std.proofs.Common.{◌∙◌, sym, refl}
-use Rattle.gaspi_types.specs.declared.events.Event.TheVariants.{Put}
-use Rattle.plain_machine.specs.Machine.{state_in}
+use Rattle.plain_machine.specs.Machine.{state_in, put_event}
 use Rattle.plain_machine.proofs.Renamed.{leaving_none, leaving_some}
 use Rattle.plain_machine.proofs.steps.step_leaving.Goals as goal
 
 pub unname_lane-requires : goal.unname_lane-requires
 unname_lane-requires c =
     rw c.requires.named
-    (leaving_none (state_in c.args.ranks.now c.args.memories.now) (state_in c.step_put.new.ranks c.step_put.new.memories) (Put c.args.id.now.origin c.args.id.now.queue c.args.id.now.target c.args.number c.args.outcome) c.args.id.now
-    refl refl (c.has_entry.ensures.none c.if-not-has_entry.true) c.in_ok-step_put.ensures.step).0
+    (leaving_none (state_in c.args.ranks.now c.args.memories.now) (state_in c.step_put.new.ranks c.step_put.new.memories) (put_event (state_in c.args.ranks.now c.args.memories.now) c.args.id.now c.args.number c.args.given) c.args.id.now
+    (rw c.in_ok-outcome.ensures.outcome refl) (rw c.in_ok-outcome.ensures.outcome refl) (c.has_entry.ensures.none c.if-not-has_entry.true) c.in_ok-outcome.ensures.step).0
 
 pub returns-then-not-has_entry-clause-named : goal.returns-then-not-has_entry-clause-named
 returns-then-not-has_entry-clause-named c =
     c.unname_lane.ensures
     ∙ (rw c.requires.named
-    (leaving_none (state_in c.args.ranks.now c.args.memories.now) (state_in c.step_put.new.ranks c.step_put.new.memories) (Put c.args.id.now.origin c.args.id.now.queue c.args.id.now.target c.args.number c.args.outcome) c.args.id.now
-    refl refl (c.has_entry.ensures.none c.if-not-has_entry.true) c.in_ok-step_put.ensures.step).1)
+    (leaving_none (state_in c.args.ranks.now c.args.memories.now) (state_in c.step_put.new.ranks c.step_put.new.memories) (put_event (state_in c.args.ranks.now c.args.memories.now) c.args.id.now c.args.number c.args.given) c.args.id.now
+    (rw c.in_ok-outcome.ensures.outcome refl) (rw c.in_ok-outcome.ensures.outcome refl) (c.has_entry.ensures.none c.if-not-has_entry.true) c.in_ok-outcome.ensures.step).1)
 
 pub returns-else-not-has_entry-clause-named : goal.returns-else-not-has_entry-clause-named
 returns-else-not-has_entry-clause-named c =
     c.requires.named
-    ∙ sym (leaving_some (state_in c.args.ranks.now c.args.memories.now) (state_in c.step_put.new.ranks c.step_put.new.memories) (Put c.args.id.now.origin c.args.id.now.queue c.args.id.now.target c.args.number c.args.outcome) c.args.id.now
-    refl refl (c.has_entry.ensures.some c.if-not-has_entry.false) c.in_ok-step_put.ensures.step)
+    ∙ sym (leaving_some (state_in c.args.ranks.now c.args.memories.now) (state_in c.step_put.new.ranks c.step_put.new.memories) (put_event (state_in c.args.ranks.now c.args.memories.now) c.args.id.now c.args.number c.args.given) c.args.id.now
+    (rw c.in_ok-outcome.ensures.outcome refl) (rw c.in_ok-outcome.ensures.outcome refl) (c.has_entry.ensures.some c.if-not-has_entry.false) c.in_ok-outcome.ensures.step)

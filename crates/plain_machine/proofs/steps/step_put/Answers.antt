@@ -1,16 +1,25 @@
 use Rattle.std.proofs.Common.{◌≡◌, Ok, slice_set, sym, ap, subst, ◌∙◌}
 use Rattle.gaspi_types.specs.Touches.{reach_of}
+use Rattle.gaspi_types.specs.declared.events.Event.{Event}
+use Rattle.gaspi_model.specs.Step.{step}
 use Rattle.gaspi_model.specs.Transfers.{find_entry}
 use Rattle.gaspi_model.specs.declared.states.Posts.{Posts}
 use Rattle.gaspi_model.specs.declared.states.Why.TheVariants as whys
 use Rattle.plain_machine.specs.Entries.{found_at}
 use Rattle.plain_machine.specs.Machine.{state_in}
 use Rattle.plain_machine.proofs.Lifted.{events_fit}
-use Rattle.plain_machine.proofs.Moved.{put_done, put_fault, put_keeps_taken}
+use Rattle.plain_machine.proofs.Moved.{event_found, put_done, put_fault, put_keeps_taken}
 use Rattle.plain_machine.proofs.steps.step_put.Goals as goal
 
 pub set_put-requires : goal.set_put-requires
 set_put-requires c = events_fit c.args.ranks.now.limits _ c.requires.sound.limits (c.requires.sound.posts _ _ c.at_mut.ensures.value)
+
+pub returns-in-Ok-put_reached-clause-outcome : goal.returns-in-Ok-put_reached-clause-outcome
+returns-in-Ok-put_reached-clause-outcome c =
+    let read = rw c.index-rank.ensures.value at c.at.ensures in
+    let reach = c.reach-reach.ensures ∙ ap (reach_of c.args.ranks.now.limits.ranks c.args.id.now.origin) c.put_touch.ensures in
+    rw c.in-Ok-put_reached.ensures.outcome
+    (event_found (state_in c.args.ranks.now c.args.memories.now) c.args.id.now c.args.number c.args.given c.at.result.now (found_at c.in-Ok.at) c.reach-reach.result c.requires.sound.memories read c.in-Ok.ensures reach)
 
 pub returns-in-Ok-put_reached-clause-step : goal.returns-in-Ok-put_reached-clause-step
 returns-in-Ok-put_reached-clause-step c =
@@ -21,18 +30,19 @@ returns-in-Ok-put_reached-clause-step c =
     subst (λ (p : Posts). find_entry p c.args.id.now.queue c.args.id.now.target c.args.number whys.Put ≡ Ok (found_at c.in-Ok.at)) same c.in-Ok.ensures in
     let reach = c.reach-reach.ensures ∙ ap (reach_of c.args.ranks.now.limits.ranks c.args.id.now.origin) c.put_touch.ensures in
     rw c.index-rank.ensures.value
-    (put_done (state_in c.args.ranks.now c.args.memories.now) c.args.id.now.origin c.args.id.now.queue c.args.id.now.target c.args.number c.args.outcome c.at_mut.result.now c.set_put.new.posts (found_at c.in-Ok.at) c.reach-reach.result c.put_reached.new.memories
-    there found reach c.in-Ok-put_reached.ensures.step c.set_put.ensures)
+    (put_done (state_in c.args.ranks.now c.args.memories.now) c.args.id.now c.args.number c.args.given c.in-Ok-put_reached.outcome c.at_mut.result.now c.set_put.new.posts (found_at c.in-Ok.at) c.reach-reach.result c.put_reached.new.memories
+    c.requires.sound.memories there found reach c.in-Ok-put_reached.ensures.outcome c.in-Ok-put_reached.ensures.step c.set_put.ensures)
 
 pub returns-in-Ok-put_reached-clause-taken : goal.returns-in-Ok-put_reached-clause-taken
 returns-in-Ok-put_reached-clause-taken c =
-    c.requires.taken
-    ∙ sym (put_keeps_taken (state_in c.args.ranks.now c.args.memories.now) (state_in (record c.args.ranks.now { posts = slice_set c.args.ranks.now.posts c.index-rank.result c.set_put.new.posts }) c.put_reached.new.memories)
-    c.args.id.now.origin c.args.id.now.queue c.args.id.now.target c.args.number c.args.outcome (returns-in-Ok-put_reached-clause-step c))
+    let old = state_in c.args.ranks.now c.args.memories.now in
+    let new = state_in (record c.args.ranks.now { posts = slice_set c.args.ranks.now.posts c.index-rank.result c.set_put.new.posts }) c.put_reached.new.memories in
+    let made = subst (λ (e : Event). step old e ≡ Ok new) (returns-in-Ok-put_reached-clause-outcome c) (returns-in-Ok-put_reached-clause-step c) in
+    c.requires.taken ∙ sym (put_keeps_taken old new c.args.id.now.origin c.args.id.now.queue c.args.id.now.target c.args.number c.in-Ok-put_reached.outcome made)
 
 pub returns-in-Err-put_reached-clause-step : goal.returns-in-Err-put_reached-clause-step
 returns-in-Err-put_reached-clause-step c =
     let read = rw c.index-rank.ensures.value at c.at.ensures in
     let reach = c.reach-reach.ensures ∙ ap (reach_of c.args.ranks.now.limits.ranks c.args.id.now.origin) c.put_touch.ensures in
-    put_fault (state_in c.args.ranks.now c.args.memories.now) c.args.id.now.origin c.args.id.now.queue c.args.id.now.target c.args.number c.args.outcome c.at.result.now (found_at c.in-Ok.at) c.reach-reach.result c.put_reached.new.memories c.in-Err-put_reached.fault
-    read c.in-Ok.ensures reach c.in-Err-put_reached.ensures.step
+    put_fault (state_in c.args.ranks.now c.args.memories.now) c.args.id.now c.args.number c.args.given c.at.result.now (found_at c.in-Ok.at) c.reach-reach.result c.put_reached.new.memories c.in-Err-put_reached.fault
+    c.requires.sound.memories read c.in-Ok.ensures reach c.in-Err-put_reached.ensures.step

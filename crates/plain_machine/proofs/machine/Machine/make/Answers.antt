@@ -1,0 +1,10 @@
+use Rattle.gaspi_model.specs.Step.{transfer_event}
+use Rattle.plain_calls.specs.Looks.{made_of}
+use Rattle.plain_machine.proofs.Running.{stepped}
+use Rattle.plain_machine.specs.Machine.{state_in}
+use Rattle.plain_machine.proofs.machine.Machine.make.Goals as goal
+
+pub invariant_of-self : goal.invariant_of-self
+invariant_of-self c =
+    stepped (state_in c.self.inside.ranks c.self.inside.memories) _ (transfer_event (state_in c.self.inside.ranks c.self.inside.memories) c.args.transfer.now) _ _ _ _ (made_of c.make.result)
+    c.soundness.ensures.steps c.self.invariant c.make.ensures.step c.make.ensures.taken c.make.ensures.named
