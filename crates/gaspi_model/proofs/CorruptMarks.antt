@@ -27,7 +27,7 @@ use Rattle.gaspi_model.specs.declared.states.State.{State}
 use Rattle.gaspi_model.specs.declared.states.Why.{Why}
 use Rattle.gaspi_model.proofs.Made.{IsPut, step-called, step-take, step-put}
 use Rattle.gaspi_types.proofs.Items.{slice_get-set_same, slice_get-set_other, same-or-not}
-use Rattle.gaspi_model.proofs.Told.{IsTold, told, told-get}
+use Rattle.gaspi_model.proofs.Sound.Told.{IsTold, told, told-get}
 use Rattle.gaspi_model.proofs.Histories.{after-first, after-both}
 
 -- the posts of a rank for which another is corrupt

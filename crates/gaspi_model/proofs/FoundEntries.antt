@@ -13,7 +13,7 @@ use Rattle.gaspi_model.specs.Posting.{counted}
 use Rattle.gaspi_model.specs.Transfers.{Found, find_entry, posts_phase, posts_after_put}
 use Rattle.gaspi_model.specs.declared.states.Posts.{Posts}
 use Rattle.gaspi_model.specs.declared.states.Why.{Why}
-use Rattle.gaspi_model.proofs.Chains.{found_then, same_Ok}
+use Rattle.gaspi_types.proofs.Chains.{found_then, same_Ok}
 
 -- where an entry was found
 pub record IsFound (posts : Posts) (queue target number : ℕ) (at : Found) : Type 0 where

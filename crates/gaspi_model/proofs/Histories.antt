@@ -18,9 +18,9 @@ use Rattle.gaspi_model.specs.declared.states.Memory.{Memory}
 use Rattle.gaspi_model.specs.declared.states.State.{State}
 use Rattle.gaspi_model.specs.declared.states.Why.{Why}
 use Rattle.gaspi_model.proofs.Made.{memories_at, call_reach, memories-same, step-called}
-use Rattle.gaspi_model.proofs.Told.{told-idle}
-use Rattle.gaspi_model.proofs.SoundOpening.{opens}
-use Rattle.gaspi_model.proofs.SoundSteps.{steps}
+use Rattle.gaspi_model.proofs.Sound.Told.{told-idle}
+use Rattle.gaspi_model.proofs.Sound.Opening.{opens}
+use Rattle.gaspi_model.proofs.Sound.Steps.{steps}
 
 -- the state after one event and the others
 pub after-step : (s t : State) (e : Event) (events : List Event) → step s e ≡ Ok t → after s (e ∷ events) ≡ after t events

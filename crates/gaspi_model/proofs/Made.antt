@@ -35,8 +35,8 @@ use Rattle.gaspi_model.specs.declared.states.Memory.{Memory}
 use Rattle.gaspi_model.specs.declared.states.State.{State}
 use Rattle.gaspi_model.specs.declared.states.Why.TheVariants as whys
 use Rattle.gaspi_types.proofs.Items.{set-there, slice_get-set_other}
-use Rattle.gaspi_model.proofs.Told.{told, told_at, changed_peer, peer-touched}
-use Rattle.gaspi_model.proofs.Chains.{bind_then, check_then, found_then, same_Ok}
+use Rattle.gaspi_model.proofs.Sound.Told.{told, told_at, changed_peer, peer-touched}
+use Rattle.gaspi_types.proofs.Chains.{bind_then, check_then, found_then, same_Ok}
 use Rattle.gaspi_model.proofs.FoundEntries.{IsFound, find_entry-ok, with_lane, with_phase, put_with, phase-found, put-found}
 
 -- a take that was made

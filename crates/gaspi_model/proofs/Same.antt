@@ -21,7 +21,7 @@ use Rattle.gaspi_types.specs.declared.replies.Reply.TheVariants as replies
 use Rattle.gaspi_types.specs.declared.events.Outcome.{Outcome}
 use Rattle.gaspi_types.specs.declared.events.Outcome.TheVariants.{Applied, Failed}
 use Rattle.gaspi_model.specs.Transfers.{same_outcome}
-use Rattle.gaspi_model.proofs.Chains.{both}
+use Rattle.gaspi_types.proofs.Chains.{both}
 
 pub pointwise-same : (a b : List ℕ) → pointwise nat_eq a b ≡ true → a ≡ b
 pointwise-same [] [] h = refl

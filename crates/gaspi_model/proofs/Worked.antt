@@ -29,7 +29,7 @@ use Rattle.gaspi_model.specs.declared.states.State.{State}
 use Rattle.gaspi_model.proofs.FoundReplies.{found-reply}
 use Rattle.gaspi_model.proofs.Same.{same_reply-same}
 use Rattle.gaspi_types.proofs.Items.{set-there, there-within}
-use Rattle.gaspi_model.proofs.Told.{told}
+use Rattle.gaspi_model.proofs.Sound.Told.{told}
 use Rattle.gaspi_model.proofs.Made.{IsTake, IsPut, IsCalled, memory_at, memories_at, call_reach, put_reach, IsCalledStep, IsTakeStep, IsPutStep, step-called, step-take, step-put}
 
 -- there is a memory for each rank

@@ -1,3 +1,4 @@
+pub mod Chains
 pub mod Declarations
 pub mod Items
 pub mod Extents

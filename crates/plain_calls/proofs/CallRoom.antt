@@ -34,7 +34,8 @@ use Rattle.gaspi_model.specs.declared.states.Memory.{Memory}
 use Rattle.gaspi_model.specs.declared.states.ThreadState.{ThreadState}
 use Rattle.gaspi_model.specs.declared.states.ThreadState.TheVariants as threads
 use Rattle.plain_calls.specs.Room.{IsRoom, HasPostingRoom, HasAllocRoom, HasPlainRoom, HasCallRoom}
-use Rattle.plain_calls.proofs.Chains.{passed, check_holds, changed_there}
+use Rattle.gaspi_types.proofs.Chains.{bind_then, check_holds}
+use Rattle.gaspi_types.proofs.Items.{changed_at-found}
 use Rattle.plain_calls.proofs.Owed.{sum_by-put, lane_owed-posted}
 use Rattle.plain_calls.proofs.Postings.{IsPost, post_by, HasLength, IsPosting, posting_of}
 
@@ -109,9 +110,9 @@ post_room limits posts rank queue asked reply entries few limited sound p long =
 alloc_room : (limits : Limits) (posts : Posts) (call : alloc.Alloc) (reply : Reply) → are_limits limits ≡ true → IsSoundPosts limits posts
     → alloc_finds posts call ≡ Ok (Some reply) → HasAllocRoom posts call
 alloc_room limits posts call reply limited sound is =
-    passed (alloc_checks posts.segments.own call.seg call.size) _ _ is (λ u fits more.
-    passed (check (nat_lt call.seg 32) _) _ _ fits (λ u numbered more.
-    passed (absent (extent_in posts.segments.own call.seg) _) _ _ more (λ u free more.
+    bind_then (alloc_checks posts.segments.own call.seg call.size) _ _ is (λ u fits more.
+    bind_then (check (nat_lt call.seg 32) _) _ _ fits (λ u numbered more.
+    bind_then (absent (extent_in posts.segments.own call.seg) _) _ _ more (λ u free more.
     let sized = check_holds _ _ _ more in
     let below = check_holds _ _ _ numbered in
     let long = sound.numbered in
@@ -184,7 +185,7 @@ owed-changed queues queue change same = by_item (slice_get queues queue) refl
     by_item (Some q) there =
         let put = sum_by-put queue_owed queues queue q (change q) there in
         let kept = same q in
-        let is = changed_there queues queue change q there in
+        let is = changed_at-found queues queue q change there in
         rw is (omega arith)
 
 -- a lane with entries added
@@ -193,7 +194,7 @@ owed-entries : (q : Queue) (rank number : ℕ) (kinds : List Kind) → rank < le
 owed-entries q rank number kinds within =
     let there : slice_get q.lanes rank ≡ Some (get_or q.lanes rank []) = slice_get-get_or q.lanes rank [] within in
     let lane = get_or q.lanes rank [] in
-    let is = changed_there q.lanes rank (λ (lane : List Entry). lane ++ posted_entries number kinds) lane there in
+    let is = changed_at-found q.lanes rank lane (λ (lane : List Entry). lane ++ posted_entries number kinds) there in
     let put = sum_by-put lane_owed q.lanes rank lane (lane ++ posted_entries number kinds) there in
     let more = sum_by-append entry_owed lane (posted_entries number kinds) in
     let posted = lane_owed-posted number kinds in
@@ -203,7 +204,7 @@ owed-entries q rank number kinds within =
 owed-post : (posts : Posts) (queue rank : ℕ) (q : Queue) (kinds : List Kind) → slice_get posts.queues queue ≡ Some q → rank < length q.lanes
     → owed (with_post posts queue rank (Ok kinds)) ≡ owed posts + 2 * length kinds
 owed-post posts queue rank q kinds there within =
-    let is = changed_there posts.queues queue (with_entries rank (posted_entries posts.next kinds)) q there in
+    let is = changed_at-found posts.queues queue q (with_entries rank (posted_entries posts.next kinds)) there in
     let put = sum_by-put queue_owed posts.queues queue q (with_entries rank (posted_entries posts.next kinds) q) there in
     let more = owed-entries q rank posts.next kinds within in
     rw is (omega arith)

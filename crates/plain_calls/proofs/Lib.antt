@@ -1,7 +1,6 @@
 pub mod Both
 pub mod CallRoom
-pub mod Chains
-pub mod Items
+pub mod PostedEntries
 pub mod Looked
 pub mod Owed
 pub mod Postings

@@ -20,7 +20,7 @@ use Rattle.gaspi_model.specs.declared.states.StepFault.{StepFault}
 use Rattle.gaspi_model.specs.declared.states.ThreadState.{ThreadState}
 use Rattle.gaspi_model.specs.declared.states.Why.{Why}
 use Rattle.gaspi_model.specs.declared.states.Why.TheVariants as whys
-use Rattle.gaspi_model.proofs.EnabledEvents.{same_reply-refl}
+use Rattle.gaspi_model.proofs.Listed.Enabled.{same_reply-refl}
 use Rattle.plain_calls.specs.Looks.{IsFinding, kinds_of, found_done, found_after, made_of}
 use Rattle.plain_calls.specs.Room.{HasCallRoom}
 use Rattle.plain_calls.specs.declared.looks.Finding.{Finding}

@@ -25,7 +25,7 @@ use Rattle.gaspi_types.specs.declared.entries.Queue.{Queue}
 use Rattle.gaspi_model.specs.declared.states.Posts.{Posts}
 use Rattle.gaspi_model.specs.declared.states.Memory.{Memory}
 use Rattle.gaspi_model.specs.declared.states.ThreadState.{ThreadState}
-use Rattle.plain_calls.proofs.Chains.{passed, found_there, check_holds}
+use Rattle.gaspi_types.proofs.Chains.{bind_then, found_there, check_holds}
 
 -- what an accepted post stands on
 pub record IsPost (limits : Limits) (posts : Posts) (rank queue : ℕ) (finds : Result (List Kind) Refusal) (reply : Reply) : Type 0 where
@@ -40,11 +40,11 @@ pub record IsPost (limits : Limits) (posts : Posts) (rank queue : ℕ) (finds : 
 pub post_by : (limits : Limits) (posts : Posts) (rank queue : ℕ) (asked : Result (List Kind) Refusal) (reply : Reply)
     → asked_finds limits posts rank queue asked ≡ Ok (Some reply) → IsPost limits posts rank queue asked reply
 post_by limits posts rank queue asked reply is =
-    passed (check (nat_lt rank limits.ranks) _) _ _ is (λ u ranked more.
-    passed (found (slice_get posts.queues queue) _) _ _ more (λ q there more.
-    passed asked _ _ more (λ kinds made more.
-    passed (absent q.broken _) _ _ more (λ v whole more.
-    passed (check (nat_le (q.open_count + length kinds) limits.depth) _) _ _ more (λ w room more.
+    bind_then (check (nat_lt rank limits.ranks) _) _ _ is (λ u ranked more.
+    bind_then (found (slice_get posts.queues queue) _) _ _ more (λ q there more.
+    bind_then asked _ _ more (λ kinds made more.
+    bind_then (absent q.broken _) _ _ more (λ v whole more.
+    bind_then (check (nat_le (q.open_count + length kinds) limits.depth) _) _ _ more (λ w room more.
     record { replied = done_reply reply more; ranked = check_holds _ _ _ ranked; q = q; there = found_there _ _ _ there; kinds = kinds; made = made; room = check_holds _ _ _ room })))))
   where
     done_reply : (reply : Reply) → ◌≡◌ {A = Result (Option Reply) Refusal} (Ok (Some replies.Done)) (Ok (Some reply)) → is_done reply ≡ true
@@ -60,29 +60,29 @@ same_length those kinds is = let same : those ≡ kinds = cc in sym (ap length s
 -- a write
 one_write : (me : ℕ) (table : SegmentTable) (call : write.Write) → HasLength (write_kinds me table call) 1
 one_write me table call kinds is =
-    passed (found (extent_in table.own call.seg) _) _ _ is (λ mine a more.
-    passed (found (known_extent me table call.rank call.rseg) _) _ _ more (λ theirs a more.
-    passed (check (is_transfer_size call.size) _) _ _ more (λ u a more.
-    passed (check (is_within call.offset call.size mine.size) _) _ _ more (λ u a more.
-    passed (check (is_within call.roffset call.size theirs.size) _) _ _ more (λ u a more. same_length (_ ∷ []) kinds more)))))
+    bind_then (found (extent_in table.own call.seg) _) _ _ is (λ mine a more.
+    bind_then (found (known_extent me table call.rank call.rseg) _) _ _ more (λ theirs a more.
+    bind_then (check (is_transfer_size call.size) _) _ _ more (λ u a more.
+    bind_then (check (is_within call.offset call.size mine.size) _) _ _ more (λ u a more.
+    bind_then (check (is_within call.roffset call.size theirs.size) _) _ _ more (λ u a more. same_length (_ ∷ []) kinds more)))))
 
 -- a notification
 one_notify : (notes me : ℕ) (table : SegmentTable) (call : notify.Notify) → HasLength (notify_kinds notes me table call) 1
 one_notify notes me table call kinds is =
-    passed (found (known_extent me table call.rank call.rseg) _) _ _ is (λ theirs a more.
-    passed (check (nat_lt call.note notes) _) _ _ more (λ u a more.
-    passed (check (not (call.value == 0)) _) _ _ more (λ u a more. same_length (_ ∷ []) kinds more)))
+    bind_then (found (known_extent me table call.rank call.rseg) _) _ _ is (λ theirs a more.
+    bind_then (check (nat_lt call.note notes) _) _ _ more (λ u a more.
+    bind_then (check (not (call.value == 0)) _) _ _ more (λ u a more. same_length (_ ∷ []) kinds more)))
 
 -- a write and its notification
 two_kinds : (notes me : ℕ) (table : SegmentTable) (call : write_notify.WriteNotify) → HasLength (write_notify_kinds notes me table call) 2
 two_kinds notes me table call kinds is =
-    passed (found (extent_in table.own call.seg) _) _ _ is (λ mine a more.
-    passed (found (known_extent me table call.rank call.rseg) _) _ _ more (λ theirs a more.
-    passed (check (is_transfer_size call.size) _) _ _ more (λ u a more.
-    passed (check (is_within call.offset call.size mine.size) _) _ _ more (λ u a more.
-    passed (check (is_within call.roffset call.size theirs.size) _) _ _ more (λ u a more.
-    passed (check (nat_lt call.note notes) _) _ _ more (λ u a more.
-    passed (check (not (call.value == 0)) _) _ _ more (λ u a more. same_length (_ ∷ _ ∷ []) kinds more)))))))
+    bind_then (found (extent_in table.own call.seg) _) _ _ is (λ mine a more.
+    bind_then (found (known_extent me table call.rank call.rseg) _) _ _ more (λ theirs a more.
+    bind_then (check (is_transfer_size call.size) _) _ _ more (λ u a more.
+    bind_then (check (is_within call.offset call.size mine.size) _) _ _ more (λ u a more.
+    bind_then (check (is_within call.roffset call.size theirs.size) _) _ _ more (λ u a more.
+    bind_then (check (nat_lt call.note notes) _) _ _ more (λ u a more.
+    bind_then (check (not (call.value == 0)) _) _ _ more (λ u a more. same_length (_ ∷ _ ∷ []) kinds more)))))))
 
 -- a call that posts asks for as many entries as its row says, one or two, and owes as many where it is done
 record IsCounted (limits : Limits) (me : ℕ) (posts : Posts) (call : Call) (entries : ℕ) : Type 0 where

@@ -12,7 +12,7 @@ use gaspi_types::{Entry, Kind, NoMemory, Queue, Rows};
 use std::alloc::Global;
 
 /// Adds entries to a lane of a queue. Without memory nothing changes.
-#[tactic(auto, using(crate::proofs::Items::set_there))]
+#[tactic(auto, using(crate::proofs::PostedEntries::posts_lemmas))]
 fn append_entries(q: &mut Queue, target: u64, entries: Rows<Entry>) -> Result<(), NoMemory>
     requires { q.old.open_count + length entries < 2 ^ 32 }
     ensures ok { OnOk result (q.new ≡ with_entries target entries q.old) }
@@ -28,7 +28,7 @@ fn append_entries(q: &mut Queue, target: u64, entries: Rows<Entry>) -> Result<()
 }
 
 /// Makes a post that is accepted. Without memory nothing changes.
-#[tactic(auto, using(crate::proofs::Items::posts_lemmas))]
+#[tactic(auto, using(crate::proofs::PostedEntries::posts_lemmas))]
 pub fn post(
     alloc: Global,
     posts: &mut Posts,

@@ -24,7 +24,8 @@ use Rattle.gaspi_model.specs.declared.states.State.{State}
 use Rattle.gaspi_model.specs.declared.states.Why.{Why}
 use Rattle.plain_machine.specs.Machine.{IsFitting}
 use Rattle.plain_machine.specs.Reaching.{call_reach}
-use Rattle.plain_calls.proofs.Chains.{passed, changed_there}
+use Rattle.gaspi_types.proofs.Chains.{bind_then}
+use Rattle.gaspi_types.proofs.Items.{changed_at-found}
 use Rattle.plain_calls.proofs.Postings.{posting_of}
 use Rattle.plain_calls.proofs.Queues.{plain_queues}
 use Rattle.plain_machine.proofs.Reached.{called_back, taken_back, put_back, told_by}
@@ -43,7 +44,7 @@ length-changed_at {X} table place change = by_item (slice_get table place) refl
   where
     by_item : (o : Option X) → slice_get table place ≡ o → length (changed_at table place change) ≡ length table
     by_item None there = rw there refl
-    by_item (Some x) there = rw (changed_there table place change x there) (length-set table place (change x))
+    by_item (Some x) there = rw (changed_at-found table place x change there) (length-set table place (change x))
 
 queues-post : (posts : Posts) (queue rank : ℕ) (asked : Result (List Kind) Refusal) → length (with_post posts queue rank asked).queues ≡ length posts.queues
 queues-post posts queue rank (Ok kinds) = length-changed_at posts.queues queue _
@@ -72,9 +73,9 @@ queues-after limits me posts thread call reply = by_idle (is_idle reply) refl
 queues-called : (limits : Limits) (me : ℕ) (posts : Posts) (memory : Memory) (thread : ℕ) (call : Call) (reply : Reply) (after : Worked)
     → called limits me posts memory thread call reply ≡ Ok after → length after.posts.queues ≡ length posts.queues
 queues-called limits me posts memory thread call reply after is =
-    passed (check (is_there (thread_at posts thread)) _) _ _ is (λ u there more.
-    passed (check (same_reply reply (recorded_reply (answer limits me posts memory thread call))) _) _ _ more (λ u answered more.
-    passed (check (nat_le (posts.events + owed posts + charge (thread_at posts thread) call reply) limits.events) _) _ _ more (λ u room more.
+    bind_then (check (is_there (thread_at posts thread)) _) _ _ is (λ u there more.
+    bind_then (check (same_reply reply (recorded_reply (answer limits me posts memory thread call))) _) _ _ more (λ u answered more.
+    bind_then (check (nat_le (posts.events + owed posts + charge (thread_at posts thread) call reply) limits.events) _) _ _ more (λ u room more.
     done after more)))
   where
     done : (after : Worked) → ◌≡◌ {A = Result Worked Why} (Ok (record { posts = posts_after limits me posts thread call reply; memory = memory_after limits posts memory call reply })) (Ok after)
@@ -104,7 +105,7 @@ fitting_changed s rank change posts memories kept fits = by_item (slice_get post
     by_item : (o : Option Posts) → slice_get posts rank ≡ o → IsFitting (record { limits = s.limits; posts = changed_at posts rank change; memories = memories })
     by_item None there = rw there fits
     by_item (Some q) there =
-        rw (changed_there posts rank change q there)
+        rw (changed_at-found posts rank q change there)
         (fitting_with (record { limits = s.limits; posts = posts; memories = memories }) rank q (change q) memories fits refl there (ap length (kept q)))
 
 -- the same posts

@@ -18,7 +18,8 @@ use Rattle.gaspi_types.specs.declared.entries.Queue.{Queue}
 use Rattle.gaspi_model.specs.declared.states.Posts.{Posts}
 use Rattle.gaspi_model.specs.declared.states.Memory.{Memory}
 use Rattle.gaspi_model.specs.declared.states.Why.{Why}
-use Rattle.plain_calls.proofs.Chains.{passed, found_there, check_holds, changed_there}
+use Rattle.gaspi_types.proofs.Chains.{bind_then, found_there, check_holds}
+use Rattle.gaspi_types.proofs.Items.{changed_at-found}
 use Rattle.plain_calls.proofs.Owed.{sum_by-put, sum_by-taken}
 
 pub record IsKept (old new : Posts) : Type 0 where
@@ -33,10 +34,10 @@ pub record IsAt (posts : Posts) (queue target : ℕ) (at : Found) : Type 0 where
 
 pub found_at : (posts : Posts) (queue target number : ℕ) (why : Why) (at : Found) → find_entry posts queue target number why ≡ Ok at → IsAt posts queue target at
 found_at posts queue target number why at is =
-    passed (found (slice_get posts.queues queue) why) _ _ is (λ q there more.
-    passed (found (slice_get q.lanes target) why) _ _ more (λ lane in_queue more.
-    passed (found (place_of lane number) why) _ _ more (λ place at_place more.
-    passed (found (slice_get lane place) why) _ _ more (λ entry in_lane more.
+    bind_then (found (slice_get posts.queues queue) why) _ _ is (λ q there more.
+    bind_then (found (slice_get q.lanes target) why) _ _ more (λ lane in_queue more.
+    bind_then (found (place_of lane number) why) _ _ more (λ place at_place more.
+    bind_then (found (slice_get lane place) why) _ _ more (λ entry in_lane more.
     same_found q lane place entry at (found_there _ _ _ there) (found_there _ _ _ in_queue) (found_there _ _ _ in_lane) more))))
   where
     same_found : (q : Queue) (lane : List Entry) (place : ℕ) (entry : Entry) (at : Found)
@@ -60,7 +61,7 @@ kept_lane : (posts : Posts) (queue target : ℕ) (at : Found) (change : Queue �
     → (change at.queue).lanes ≡ slice_set at.queue.lanes target lane → lane_owed lane + 1 ≡ lane_owed at.lane
     → IsKept posts (counted (record posts { queues = changed_at posts.queues queue change; corrupt = corrupt }))
 kept_lane posts queue target at change lane corrupt there lanes less =
-    let at_queue = changed_there posts.queues queue change at.queue there.q in
+    let at_queue = changed_at-found posts.queues queue at.queue change there.q in
     let all = sum_by-put queue_owed posts.queues queue at.queue (change at.queue) there.q in
     let own = sum_by-put lane_owed at.queue.lanes target at.lane lane there.lane in
     let same : queue_owed (change at.queue) ≡ sum_by lane_owed (slice_set at.queue.lanes target lane) = ap (sum_by lane_owed) lanes in
@@ -84,10 +85,10 @@ first_holds false b is = cc
 pub take_keeps : (limits : Limits) (posts : Posts) (memory : Memory) (queue target number : ℕ) (outcome : Outcome) (after : Posts)
     → take limits posts memory queue target number outcome ≡ Ok after → IsKept posts after
 take_keeps limits posts memory queue target number outcome after is =
-    passed (find_entry posts queue target number _) _ _ is (λ at found_it more.
-    passed (bytes_taken limits memory at outcome) _ _ more (λ bytes given left.
-    passed (check (is_none at.queue.broken) _) _ _ given (λ u whole more.
-    passed (check (may_take limits.depth at.lane at.entry) _) _ _ more (λ u permitted more.
+    bind_then (find_entry posts queue target number _) _ _ is (λ at found_it more.
+    bind_then (bytes_taken limits memory at outcome) _ _ more (λ bytes given left.
+    bind_then (check (is_none at.queue.broken) _) _ _ given (λ u whole more.
+    bind_then (check (may_take limits.depth at.lane at.entry) _) _ _ more (λ u permitted more.
     taken at bytes after (found_at _ _ _ _ _ at found_it) (first_holds _ _ (check_holds _ _ _ permitted)) left))))
   where
     taken : (at : Found) (bytes : List ℕ) (after : Posts) → IsAt posts queue target at → is_posted at.entry ≡ true
@@ -102,10 +103,10 @@ take_keeps limits posts memory queue target number outcome after is =
 pub put_keeps : (posts : Posts) (memory : Memory) (queue target number : ℕ) (outcome : Outcome) (after : Worked)
     → put posts memory queue target number outcome ≡ Ok after → IsKept posts after.posts
 put_keeps posts memory queue target number outcome after is =
-    passed (find_entry posts queue target number _) _ _ is (λ at found_it more.
-    passed (memory_after_put memory at outcome) _ _ more (λ m given left.
-    passed (check (is_none at.queue.broken) _) _ _ given (λ u whole more.
-    passed (check (may_put at.lane at.entry) _) _ _ more (λ u permitted more.
+    bind_then (find_entry posts queue target number _) _ _ is (λ at found_it more.
+    bind_then (memory_after_put memory at outcome) _ _ more (λ m given left.
+    bind_then (check (is_none at.queue.broken) _) _ _ given (λ u whole more.
+    bind_then (check (may_put at.lane at.entry) _) _ _ more (λ u permitted more.
     done at outcome m (found_at _ _ _ _ _ at found_it) (first_holds _ _ (check_holds _ _ _ permitted)) left))))
   where
     kept_with : (at : Found) (outcome : Outcome) → IsAt posts queue target at → is_carried at.entry ≡ true → IsKept posts (posts_after_put posts queue target at.place outcome)

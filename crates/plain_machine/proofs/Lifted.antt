@@ -26,9 +26,7 @@ use Rattle.plain_machine.specs.Machine.{taken_of}
 use Rattle.plain_machine.specs.Reaching.{call_reach, memory_at, with_memory_at, with_peer_at, Lent, call_lent}
 use Rattle.plain_calls.specs.Telling.{told}
 use Rattle.plain_calls.specs.declared.segment_calls.News.{News}
-use Rattle.plain_calls.proofs.Chains.{changed_there}
-use Rattle.plain_calls.proofs.Items.{set_there}
-use Rattle.plain_machine.proofs.Lists.{item_at}
+use Rattle.gaspi_types.proofs.Items.{changed_at-found, set-there, there-within}
 use Rattle.plain_machine.proofs.Reached.{called_as}
 
 -- a step on a part, where the whole is made of it
@@ -53,11 +51,11 @@ lent_steps (Ok done) all me p p' m m' why local there steps = rw there rw steps 
 lent_steps (Err (faults.Illegal cause)) all me p p' m m' why local there steps =
     let same_posts = ap (λ (w : Worked). w.posts) steps.1 in
     let same_memory = ap (λ (w : Worked). w.memory) steps.1 in
-    (rw there rw steps.0 refl, rw (same_posts, same_memory) rw (set_there all me p there) refl)
+    (rw there rw steps.0 refl, rw (same_posts, same_memory) rw (set-there all me p there) refl)
 lent_steps (Err faults.NoMemory) all me p p' m m' why local there steps =
     let same_posts = ap (λ (w : Worked). w.posts) steps in
     let same_memory = ap (λ (w : Worked). w.memory) steps in
-    rw (same_posts, same_memory) rw (set_there all me p there) refl
+    rw (same_posts, same_memory) rw (set-there all me p there) refl
 
 -- a call on the memory that it works on, where it tells no peer
 pub called_steps : (s : State) (c : CallerId) (call : Call) (reply : Reply) (reach : Reach) (result : Result (Unit {0}) StepFault) (m : Memory) (posts' : List Posts) (m' : Memory)
@@ -66,7 +64,7 @@ pub called_steps : (s : State) (c : CallerId) (call : Call) (reply : Reply) (rea
     → Steps {S = Lent} result (record { posts = s.posts; memory = m }) (record { posts = posts'; memory = m' }) (call_lent s.limits s.posts m c call reply)
     → Steps result s (record s { posts = posts'; memories = with_memory_at s.memories c.rank reach m' }) (step s (Called c call reply))
 called_steps s c call reply reach result m posts' m' within is memory kept silent steps =
-    let item = item_at s.posts c.rank within in
+    let item = there-within s.posts c.rank within in
     let whole : Lent → State = λ w. record s { posts = with_peer_at reach (peer_after c.rank item.0 call reply) w.posts; memories = with_memory_at s.memories c.rank reach w.memory } in
     let is_step : step s (Called c call reply) ≡ (call_lent s.limits s.posts m c call reply >>= (λ w. Ok (whole w))) = rw memory at (called_as s c call reply item.0 reach item.1 is) in
     let old : whole (record { posts = s.posts; memory = m }) ≡ s =
@@ -87,7 +85,7 @@ called_telling s c call reply rank p q q' m m' posts' there is none peer_there t
     let lent : call_lent s.limits s.posts no_memory c call reply ≡ Ok (record { posts = posts'; memory = m' }) = rw none at steps in
     called_as s c call reply p (PeerPosts rank) there is
     ∙ (ap (λ (r : Result Lent Why). r >>= (λ w. Ok (record s { posts = changed_at w.posts rank (peer_after c.rank p call reply) }))) lent
-    ∙ (ap (λ (ps : List Posts). Ok (record s { posts = ps })) (changed_there posts' rank (peer_after c.rank p call reply) q peer_there)
+    ∙ (ap (λ (ps : List Posts). Ok (record s { posts = ps })) (changed_at-found posts' rank q (peer_after c.rank p call reply) peer_there)
     ∙ ap (λ (x : Posts). Ok (record s { posts = slice_set posts' rank x })) (sym told)))
 
 pub called_untold : (s : State) (c : CallerId) (call : Call) (reply : Reply) (rank : ℕ) (p : Posts) (m m' : Memory) (posts' : List Posts) (fault : StepFault)

@@ -5,13 +5,12 @@ use Rattle.std.proofs.lemmas.List.{map-set}
 use Rattle.std.proofs.lemmas.Option.{slice_get-map}
 use Rattle.gaspi_types.specs.Tables.{changed_at}
 use Rattle.plain_machine.specs.declared.standing.LaneId.{LaneId}
-use Rattle.plain_calls.proofs.Chains.{changed_there}
-use Rattle.plain_calls.proofs.Items.{set_there}
+use Rattle.gaspi_types.proofs.Items.{changed_at-found, set-there}
 
 -- a fact about a list that one item decides
 pub map_kept : {X : Type 0} (f : X → ℕ) (xs : List X) (i : ℕ) (x y : X) → slice_get xs i ≡ Some x → f y ≡ f x → map f (slice_set xs i y) ≡ map f xs
 map_kept f xs i x y there same =
-    map-set f xs i y ∙ set_there (map f xs) i (f y) (slice_get-map f xs i ∙ rw there rw same refl)
+    map-set f xs i y ∙ set-there (map f xs) i (f y) (slice_get-map f xs i ∙ rw there rw same refl)
 
 -- posts with the same names
 pub same_in : {X : Type 0} (h : ℕ × X → List LaneId) (n i : ℕ) (xs : List X) (x y : X) → slice_get xs i ≡ Some x → ((j : ℕ) → h (j, y) ≡ h (j, x))
@@ -28,13 +27,7 @@ same_changed {X} h n i xs change same = by_item (slice_get xs i) refl
   where
     by_item : (o : Option X) → slice_get xs i ≡ o → flat_map h (enumerate_from n (changed_at xs i change)) ≡ flat_map h (enumerate_from n xs)
     by_item None there = rw there refl
-    by_item (Some x) there = rw (changed_there xs i change x there) (same_in h n i xs x (change x) there (λ j. same j x))
-
--- within a list something stands at each place
-pub item_at : {X : Type 0} (xs : List X) (i : ℕ) → i < length xs → (x : X) × (slice_get xs i ≡ Some x)
-item_at [] i within = absurd (let no : ⊥ = omega (arith, within) in no)
-item_at (x ∷ xs) zero within = (x, refl)
-item_at (x ∷ xs) (suc i) within = item_at xs i (omega arith)
+    by_item (Some x) there = rw (changed_at-found xs i x change there) (same_in h n i xs x (change x) there (λ j. same j x))
 
 -- the item of a mapped list
 pub mapped : {X : Type 0} (f : X → ℕ) (xs : List X) (i : ℕ) (x : X) (y : ℕ) → slice_get xs i ≡ Some x → slice_get (map f xs) i ≡ Some y → y ≡ f x

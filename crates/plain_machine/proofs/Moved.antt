@@ -37,15 +37,15 @@ use Rattle.plain_machine.proofs.Kept.{take_keeps, put_keeps}
 use Rattle.plain_machine.proofs.Lifted.{lift_steps}
 use Rattle.plain_machine.proofs.Lists.{map_kept}
 use Rattle.plain_machine.proofs.Reached.{take_as, put_as, taken_back, put_back, memory_peer}
-use Rattle.plain_calls.proofs.Chains.{passed, found_there}
+use Rattle.gaspi_types.proofs.Chains.{bind_then, found_there}
 
 -- what is found does not turn on the cause that is given where nothing is
 found_for : (posts : Posts) (queue target number : ℕ) (why why' : Why) (at : Found) → find_entry posts queue target number why ≡ Ok at → find_entry posts queue target number why' ≡ Ok at
 found_for posts queue target number why why' at is =
-    passed (found (slice_get posts.queues queue) why) _ _ is (λ q there more.
-    passed (found (slice_get q.lanes target) why) _ _ more (λ lane in_queue more.
-    passed (found (place_of lane number) why) _ _ more (λ place at_place more.
-    passed (found (slice_get lane place) why) _ _ more (λ entry in_lane more.
+    bind_then (found (slice_get posts.queues queue) why) _ _ is (λ q there more.
+    bind_then (found (slice_get q.lanes target) why) _ _ more (λ lane in_queue more.
+    bind_then (found (place_of lane number) why) _ _ more (λ place at_place more.
+    bind_then (found (slice_get lane place) why) _ _ more (λ entry in_lane more.
     rw (found_there (slice_get posts.queues queue) why q there)
     rw (found_there (slice_get q.lanes target) why lane in_queue)
     rw (found_there (place_of lane number) why place at_place)

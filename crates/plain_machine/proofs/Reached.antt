@@ -24,10 +24,9 @@ use Rattle.gaspi_model.specs.declared.states.Memory.{Memory}
 use Rattle.gaspi_model.specs.declared.states.State.{State}
 use Rattle.gaspi_model.specs.declared.states.Why.{Why}
 use Rattle.gaspi_model.specs.declared.states.Why.TheVariants as whys
-use Rattle.gaspi_types.proofs.Items.{slice_get-set_other}
+use Rattle.gaspi_types.proofs.Items.{slice_get-set_other, set-there}
 use Rattle.plain_machine.specs.Reaching.{call_reach, entry_reach, memory_at, with_memory_at, with_peer_at, Lent, call_lent}
-use Rattle.plain_calls.proofs.Chains.{passed, found_there}
-use Rattle.plain_calls.proofs.Items.{set_there}
+use Rattle.gaspi_types.proofs.Chains.{bind_then, found_there}
 use Rattle.plain_calls.proofs.Queues.{peer_queues}
 
 pub record IsPeer (ranks me rank : ℕ) : Type 0 where
@@ -82,7 +81,7 @@ written_back {X} table (Some place) = by_item (slice_get table place) refl
   where
     by_item : (o : Option X) → slice_get table place ≡ o → with_part table (Some place) (slice_get table place) ≡ table
     by_item None there = rw there refl
-    by_item (Some x) there = rw there (set_there table place x there)
+    by_item (Some x) there = rw there (set-there table place x there)
 
 -- the posts of a peer stand there after its owner's changed
 pub peer_there : (all : List Posts) (me rank : ℕ) (posts : Posts) → (rank == me) ≡ false → slice_get (slice_set all me posts) rank ≡ slice_get all rank
@@ -193,7 +192,7 @@ pub record IsCalled (s t : State) (c : CallerId) (call : Call) (reply : Reply) :
 
 pub called_back : (s t : State) (c : CallerId) (call : Call) (reply : Reply) → step s (Called c call reply) ≡ Ok t → IsCalled s t c call reply
 called_back s t c call reply is =
-    passed (found (slice_get s.posts c.rank) whys.Caller) _ _ is (λ p p_there more. by_posts p (found_there _ _ _ p_there))
+    bind_then (found (slice_get s.posts c.rank) whys.Caller) _ _ is (λ p p_there more. by_posts p (found_there _ _ _ p_there))
   where
     reach : Reach
     reach = call_reach s.limits c.rank call
@@ -216,9 +215,9 @@ called_back s t c call reply is =
 
     by_posts : (p : Posts) → slice_get s.posts c.rank ≡ Some p → IsCalled s t c call reply
     by_posts p there =
-        passed (called s.limits c.rank p (memory_at s.memories c.rank reach) c.thread call reply >>= (λ after. Ok (record { posts = slice_set s.posts c.rank after.posts; memory = after.memory }))) _ _
+        bind_then (called s.limits c.rank p (memory_at s.memories c.rank reach) c.thread call reply >>= (λ after. Ok (record { posts = slice_set s.posts c.rank after.posts; memory = after.memory }))) _ _
         (rw there at (sym (called_as s c call reply p reach there refl) ∙ is)) (λ w lent more.
-        passed (called s.limits c.rank p (memory_at s.memories c.rank reach) c.thread call reply) _ _ lent (λ after steps done.
+        bind_then (called s.limits c.rank p (memory_at s.memories c.rank reach) c.thread call reply) _ _ lent (λ after steps done.
         same p after w done more there steps))
 
 pub record IsTaken (s t : State) (origin queue target number : ℕ) (outcome : Outcome) : Type 0 where
@@ -231,7 +230,7 @@ pub record IsTaken (s t : State) (origin queue target number : ℕ) (outcome : O
 
 pub taken_back : (s t : State) (origin queue target number : ℕ) (outcome : Outcome) → step s (Take origin queue target number outcome) ≡ Ok t → IsTaken s t origin queue target number outcome
 taken_back s t origin queue target number outcome is =
-    passed (found (slice_get s.posts origin) _) _ _ is (λ p p_there more. by_posts p (found_there _ _ _ p_there))
+    bind_then (found (slice_get s.posts origin) _) _ _ is (λ p p_there more. by_posts p (found_there _ _ _ p_there))
   where
     same : (p after : Posts) (memory : Memory) → ◌≡◌ {A = Result State Why} (Ok (record s { posts = slice_set s.posts origin after })) (Ok t)
         → slice_get s.posts origin ≡ Some p → take s.limits p memory queue target number outcome ≡ Ok after → IsTaken s t origin queue target number outcome
@@ -242,7 +241,7 @@ taken_back s t origin queue target number outcome is =
     by_posts : (p : Posts) → slice_get s.posts origin ≡ Some p → IsTaken s t origin queue target number outcome
     by_posts p there =
         let reach = entry_reach s.limits origin take_touch p queue target number in
-        passed (take s.limits p (memory_at s.memories origin reach) queue target number outcome) _ _
+        bind_then (take s.limits p (memory_at s.memories origin reach) queue target number outcome) _ _
         (sym (take_as s origin queue target number outcome p reach there refl) ∙ is) (λ after steps more.
         same p after (memory_at s.memories origin reach) more there steps)
 
@@ -257,7 +256,7 @@ pub record IsPut (s t : State) (origin queue target number : ℕ) (outcome : Out
 
 pub put_back : (s t : State) (origin queue target number : ℕ) (outcome : Outcome) → step s (Put origin queue target number outcome) ≡ Ok t → IsPut s t origin queue target number outcome
 put_back s t origin queue target number outcome is =
-    passed (found (slice_get s.posts origin) _) _ _ is (λ p p_there more. by_posts p (found_there _ _ _ p_there))
+    bind_then (found (slice_get s.posts origin) _) _ _ is (λ p p_there more. by_posts p (found_there _ _ _ p_there))
   where
     same : (p : Posts) (reach : Reach) (after : Worked)
         → ◌≡◌ {A = Result State Why} (Ok (record s { posts = slice_set s.posts origin after.posts; memories = with_memory_at s.memories origin reach after.memory })) (Ok t)
@@ -277,7 +276,7 @@ put_back s t origin queue target number outcome is =
     by_posts : (p : Posts) → slice_get s.posts origin ≡ Some p → IsPut s t origin queue target number outcome
     by_posts p there =
         let reach = entry_reach s.limits origin (put_touch target) p queue target number in
-        passed (put p (memory_at s.memories origin reach) queue target number outcome) _ _
+        bind_then (put p (memory_at s.memories origin reach) queue target number outcome) _ _
         (sym (put_as s origin queue target number outcome p reach there refl) ∙ is) (λ after steps more.
         same p reach after more there steps)
 

@@ -24,7 +24,7 @@ use Rattle.gaspi_types.specs.declared.replies.Reply.{Reply}
 use Rattle.gaspi_types.specs.declared.shapes.Limits.{Limits}
 use Rattle.gaspi_types.specs.declared.touches.Reach.{Reach}
 use Rattle.gaspi_types.specs.declared.shapes.CallerId.{CallerId}
-use Rattle.gaspi_types.proofs.Items.{slice_get-set_same, past-none}
+use Rattle.gaspi_types.proofs.Items.{slice_get-set_same, past-none, changed_at-found}
 use Rattle.gaspi_model.specs.State.{owed, thread_at}
 use Rattle.gaspi_model.specs.Calls.{call_asks, answer, recorded_reply, charge, posts_done, posts_after, memory_after, peer_after}
 use Rattle.gaspi_model.specs.Posting.{with_post, counted}
@@ -44,12 +44,12 @@ use Rattle.plain_machine.specs.Machine.{IsFitting}
 use Rattle.plain_machine.specs.Reaching.{call_reach, with_peer_at}
 use Rattle.plain_machine.specs.Standing.{lane_id, lane_named, queue_named, rank_named, standing_lanes, lane_entries, is_before, post_lane, posting_lane, call_lane, event_lane, is_put}
 use Rattle.plain_machine.specs.declared.standing.LaneId.{LaneId}
-use Rattle.plain_calls.proofs.Chains.{passed, check_holds, changed_there}
+use Rattle.gaspi_types.proofs.Chains.{bind_then, check_holds}
 use Rattle.plain_machine.proofs.Kept.{IsAt, found_at, phase_lanes, lanes_without}
 use Rattle.plain_calls.proofs.CallRoom.{found_by, posted}
 use Rattle.plain_calls.proofs.Postings.{HasLength, IsPost, posting_of}
 use Rattle.plain_calls.proofs.Queues.{plain_queues}
-use Rattle.plain_calls.proofs.Items.{length-posted_entries}
+use Rattle.plain_calls.proofs.PostedEntries.{length-posted_entries}
 use Rattle.plain_machine.proofs.Lists.{same_in, same_changed}
 use Rattle.plain_machine.proofs.Reached.{called_back, taken_back, put_back, told_by}
 use Rattle.plain_machine.proofs.Parted.{IsParted, parted_by, kept_by, named_by, unnamed_by}
@@ -100,7 +100,7 @@ relaned posts p' queue target at change lane' there changed lanes = record {
   q' = change at.queue;
   q_there = there.q;
   there = there.lane;
-  queues = changed ∙ changed_there posts.queues queue change at.queue there.q;
+  queues = changed ∙ changed_at-found posts.queues queue at.queue change there.q;
   lanes = lanes;
 }
 
@@ -108,8 +108,8 @@ relaned posts p' queue target at change lane' there changed lanes = record {
 take_names : (ps : List Posts) (o : ℕ) (limits : Limits) (posts : Posts) (memory : Memory) (queue target number : ℕ) (outcome : Outcome) (after : Posts) → slice_get ps o ≡ Some posts
     → take limits posts memory queue target number outcome ≡ Ok after → standing_lanes (slice_set ps o after) ≡ standing_lanes ps
 take_names ps o limits posts memory queue target number outcome after o_there is =
-    passed (find_entry posts queue target number _) _ _ is (λ at found_it more.
-    passed (bytes_taken limits memory at outcome) _ _ more (λ bytes given left.
+    bind_then (find_entry posts queue target number _) _ _ is (λ at found_it more.
+    bind_then (bytes_taken limits memory at outcome) _ _ more (λ bytes given left.
     done at (phases.Carried bytes) after (found_at _ _ _ _ _ at found_it) left))
   where
     done : (at : Found) (phase : Phase) (after : Posts) → IsAt posts queue target at
@@ -129,8 +129,8 @@ put_names : (ps : List Posts) (o : ℕ) (posts : Posts) (memory : Memory) (queue
     → put posts memory queue target number outcome ≡ Ok after
     → IsParted (lane_id o queue target) (standing_lanes ps) (standing_lanes (slice_set ps o after.posts)) (lane_id o queue target ∷ []) (lane_named o queue (target, lane_entries (slice_set ps o after.posts) (lane_id o queue target)))
 put_names ps o posts memory queue target number outcome after o_there is =
-    passed (find_entry posts queue target number _) _ _ is (λ at found_it more.
-    passed (memory_after_put memory at outcome) _ _ more (λ m given left.
+    bind_then (find_entry posts queue target number _) _ _ is (λ at found_it more.
+    bind_then (memory_after_put memory at outcome) _ _ more (λ m given left.
     done at outcome m after (found_at _ _ _ _ _ at found_it) left))
   where
     of_lane : (at : Found) (p' : Posts) (lane' : List Entry) → IsAt posts queue target at → IsRelaned posts p' queue target at.lane lane'
@@ -175,8 +175,8 @@ post_names ps o limits posts queue target finds reply entries o_there sound p co
           q' = with_entries target more p.q;
           q_there = p.there;
           there = there;
-          queues = changed_there posts.queues queue _ p.q p.there;
-          lanes = changed_there p.q.lanes target _ lane there;
+          queues = changed_at-found posts.queues queue p.q _ p.there;
+          lanes = changed_at-found p.q.lanes target lane _ there;
         }) in
         let long = length-posted_entries posts.next p.kinds ∙ count p.kinds p.made in
         let parts = parted ps o queue target posts (counted (with_post posts queue target finds)) lane (lane ++ more) o_there r in
@@ -219,7 +219,7 @@ quiet_call limits me posts memory thread call reply j limited few same busy lane
         let none : post_lane me posting.rank posting.queue ≡ None = rw is at lane in
         absurd (post_has_lane limits me posts posting.rank posting.queue (call_asks limits me posts call) f.reply_found limited few post none)
 
--- what a recorded call has passed
+-- what a recorded call has bind_then
 record IsAnswered (limits : Limits) (me : ℕ) (posts : Posts) (memory : Memory) (thread : ℕ) (call : Call) (reply : Reply) (after : Posts) : Type 0 where
   replied : same_reply reply (recorded_reply (answer limits me posts memory thread call)) ≡ true
   after_is : posts_after limits me posts thread call reply ≡ after
@@ -227,9 +227,9 @@ record IsAnswered (limits : Limits) (me : ℕ) (posts : Posts) (memory : Memory)
 called_by : (limits : Limits) (me : ℕ) (posts : Posts) (memory : Memory) (thread : ℕ) (call : Call) (reply : Reply) (after : Worked)
     → called limits me posts memory thread call reply ≡ Ok after → IsAnswered limits me posts memory thread call reply after.posts
 called_by limits me posts memory thread call reply after is =
-    passed (check (is_there (thread_at posts thread)) _) _ _ is (λ u there more.
-    passed (check (same_reply reply (recorded_reply (answer limits me posts memory thread call))) _) _ _ more (λ u answered more.
-    passed (check (nat_le (posts.events + owed posts + charge (thread_at posts thread) call reply) limits.events) _) _ _ more (λ u room more.
+    bind_then (check (is_there (thread_at posts thread)) _) _ _ is (λ u there more.
+    bind_then (check (same_reply reply (recorded_reply (answer limits me posts memory thread call))) _) _ _ more (λ u answered more.
+    bind_then (check (nat_le (posts.events + owed posts + charge (thread_at posts thread) call reply) limits.events) _) _ _ more (λ u room more.
     record { replied = check_holds _ _ _ answered; after_is = done after more })))
   where
     done : (after : Worked) → ◌≡◌ {A = Result Worked Why} (Ok (record { posts = posts_after limits me posts thread call reply; memory = memory_after limits posts memory call reply })) (Ok after)

@@ -1,9 +1,9 @@
 use Rattle.gaspi_model.proofs.Histories.{only-counted}
-use Rattle.gaspi_model.proofs.PutDone.{put-done}
-use Rattle.gaspi_model.proofs.Written.{store-written, sum-written, sum-answered, swap-written, swap-answered, swap-kept}
-use Rattle.gaspi_model.proofs.Transferred.{put-failed, take-done}
-use Rattle.gaspi_model.proofs.Registered.{registered}
-use Rattle.gaspi_model.proofs.OwnCalls.{load-read, slot-read, slot-reset, waited, segment-made, segment-gone}
+use Rattle.gaspi_model.proofs.Changed.Puts.{put-done}
+use Rattle.gaspi_model.proofs.Changed.Written.{store-written, sum-written, sum-answered, swap-written, swap-answered, swap-kept}
+use Rattle.gaspi_model.proofs.Changed.Transfers.{put-failed, take-done}
+use Rattle.gaspi_model.proofs.Changed.Registered.{registered}
+use Rattle.gaspi_model.proofs.Changed.OwnCalls.{load-read, slot-read, slot-reset, waited, segment-made, segment-gone}
 use Rattle.gaspi_model.proofs.laws.changes.Goals as goal
 
 pub returns-clause-load : goal.returns-clause-load

@@ -1,4 +1,4 @@
-use Rattle.gaspi_model.proofs.LocalSteps.{coarse-frame, coarse-determined, coarse-owner, coarse-once}
+use Rattle.gaspi_model.proofs.Local.Steps.{coarse-frame, coarse-determined, coarse-owner, coarse-once}
 use Rattle.gaspi_model.proofs.laws.coarser_locality.Goals as goal
 
 pub returns-clause-frame : goal.returns-clause-frame

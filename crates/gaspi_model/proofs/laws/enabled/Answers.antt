@@ -1,4 +1,4 @@
-use Rattle.gaspi_model.proofs.EnabledEvents.{called-is_step, transfer-is_step}
+use Rattle.gaspi_model.proofs.Listed.Enabled.{called-is_step, transfer-is_step}
 use Rattle.gaspi_model.proofs.laws.enabled.Goals as goal
 
 pub returns-clause-transfer : goal.returns-clause-transfer

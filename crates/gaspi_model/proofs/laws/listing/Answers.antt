@@ -1,5 +1,5 @@
-use Rattle.gaspi_model.proofs.ListedSteps.{take-listed, put-listed}
-use Rattle.gaspi_model.proofs.ListedOrder.{listed-ordered}
+use Rattle.gaspi_model.proofs.Listed.Steps.{take-listed, put-listed}
+use Rattle.gaspi_model.proofs.Listed.Order.{listed-ordered}
 use Rattle.gaspi_model.proofs.laws.listing.Goals as goal
 
 pub returns-clause-take : goal.returns-clause-take

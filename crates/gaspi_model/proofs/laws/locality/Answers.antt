@@ -1,4 +1,4 @@
-use Rattle.gaspi_model.proofs.LocalSteps.{frame, determined, owner-among, footprint-by-owner, footprint-by-call, once, few, posting-alone, wait-alone}
+use Rattle.gaspi_model.proofs.Local.Steps.{frame, determined, owner-among, footprint-by-owner, footprint-by-call, once, few, posting-alone, wait-alone}
 use Rattle.gaspi_model.proofs.laws.locality.Goals as goal
 
 pub returns-clause-frame : goal.returns-clause-frame

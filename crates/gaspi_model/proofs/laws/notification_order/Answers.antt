@@ -1,5 +1,5 @@
-use Rattle.gaspi_model.proofs.NotificationOrder.{order}
-use Rattle.gaspi_model.proofs.PostStands.{posted-write, posted-notify, posted-write_notify}
+use Rattle.gaspi_model.proofs.Ordered.Notifications.{order}
+use Rattle.gaspi_model.proofs.Ordered.Posts.{posted-write, posted-notify, posted-write_notify}
 use Rattle.gaspi_model.proofs.laws.notification_order.Goals as goal
 
 pub returns-clause-write : goal.returns-clause-write

@@ -1,5 +1,5 @@
-use Rattle.gaspi_model.proofs.EmptyLanes.{lanes-empty}
-use Rattle.gaspi_model.proofs.StaysSettled.{stays-settled}
+use Rattle.gaspi_model.proofs.Settled.EmptyLanes.{lanes-empty}
+use Rattle.gaspi_model.proofs.Settled.Stays.{stays-settled}
 use Rattle.gaspi_model.proofs.laws.settling.Goals as goal
 
 pub returns-clause-empties : goal.returns-clause-empties

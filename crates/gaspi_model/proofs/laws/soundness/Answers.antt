@@ -1,8 +1,8 @@
-use Rattle.gaspi_model.proofs.SoundOpening.{opens}
-use Rattle.gaspi_model.proofs.SoundSteps.{steps, counts, limits-stay}
-use Rattle.gaspi_model.proofs.Activity.{active}
+use Rattle.gaspi_model.proofs.Sound.Opening.{opens}
+use Rattle.gaspi_model.proofs.Sound.Steps.{steps, counts, limits-stay}
+use Rattle.gaspi_model.proofs.Ended.Activity.{active}
 use Rattle.gaspi_model.proofs.Histories.{reached-sound}
-use Rattle.gaspi_model.proofs.TableLengths.{segment-places, slot-places}
+use Rattle.gaspi_model.proofs.Sound.TableLengths.{segment-places, slot-places}
 use Rattle.gaspi_model.proofs.laws.soundness.Goals as goal
 
 pub returns-clause-opens : goal.returns-clause-opens

@@ -1,7 +1,7 @@
 use Rattle.std.proofs.Common.{sym, refl, ◌∙◌}
 use Rattle.gaspi_types.specs.declared.touches.Reach.TheVariants.{Alone, OwnMemory, PeerMemory}
 use Rattle.gaspi_model.specs.Calls.{recorded_reply}
-use Rattle.plain_calls.proofs.Items.{set_there}
+use Rattle.gaspi_types.proofs.Items.{set-there}
 use Rattle.plain_calls.specs.Looks.{made_of}
 use Rattle.plain_machine.proofs.Recorded.{called_ranks}
 use Rattle.plain_machine.proofs.looking.record_in.Goals as goal
@@ -16,11 +16,11 @@ returns-in-OwnMemory-clause-step c =
     let there = rw c.index.ensures.value at c.at_mut-memory.ensures.value in
     rw c.index.ensures.value
     (called_ranks c.args.ranks.now c.record_on-in-OwnMemory.new.ranks c.args.memories.now c.args.caller c.args.call.now (recorded_reply c.args.look.ready) OwnMemory (made_of c.record_on-in-OwnMemory.result) _ c.record_on-in-OwnMemory.new.memory
-    c.requires.declared (sym c.call_reach.ensures ∙ c.in-OwnMemory.is) (rw there refl) (set_there c.args.memories.now c.args.caller.rank _ there) (λ change all. refl) c.record_on-in-OwnMemory.ensures.limits c.record_on-in-OwnMemory.ensures.step)
+    c.requires.declared (sym c.call_reach.ensures ∙ c.in-OwnMemory.is) (rw there refl) (set-there c.args.memories.now c.args.caller.rank _ there) (λ change all. refl) c.record_on-in-OwnMemory.ensures.limits c.record_on-in-OwnMemory.ensures.step)
 
 pub returns-in-PeerMemory-clause-step : goal.returns-in-PeerMemory-clause-step
 returns-in-PeerMemory-clause-step c =
     let there = rw c.index-in-PeerMemory.ensures.value at c.at_mut-memory-in-PeerMemory.ensures.value in
     rw c.index-in-PeerMemory.ensures.value
     (called_ranks c.args.ranks.now c.record_on-in-PeerMemory.new.ranks c.args.memories.now c.args.caller c.args.call.now (recorded_reply c.args.look.ready) (PeerMemory c.in-PeerMemory.peer) (made_of c.record_on-in-PeerMemory.result) _ c.record_on-in-PeerMemory.new.memory
-    c.requires.declared (sym c.call_reach.ensures ∙ c.in-PeerMemory.is) (rw there refl) (set_there c.args.memories.now c.in-PeerMemory.peer _ there) (λ change all. refl) c.record_on-in-PeerMemory.ensures.limits c.record_on-in-PeerMemory.ensures.step)
+    c.requires.declared (sym c.call_reach.ensures ∙ c.in-PeerMemory.is) (rw there refl) (set-there c.args.memories.now c.in-PeerMemory.peer _ there) (λ change all. refl) c.record_on-in-PeerMemory.ensures.limits c.record_on-in-PeerMemory.ensures.step)

@@ -1,6 +1,6 @@
 use Rattle.std.proofs.Common.{sym, refl, inl, inr}
 use Rattle.gaspi_types.specs.declared.touches.Reach.TheVariants.{Alone, OwnMemory, PeerMemory, PeerPosts}
-use Rattle.plain_calls.proofs.Items.{set_there}
+use Rattle.gaspi_types.proofs.Items.{set-there}
 use Rattle.plain_calls.specs.Looks.{made_of}
 use Rattle.plain_machine.specs.Entries.{found_at}
 use Rattle.plain_machine.proofs.Moved.{put_reaches}
@@ -10,13 +10,13 @@ pub returns-in-OwnMemory-clause-step : goal.returns-in-OwnMemory-clause-step
 returns-in-OwnMemory-clause-step c =
     let there = rw c.index.ensures.value at c.at_mut.ensures.value in
     rw (c.index.ensures.value, c.in-OwnMemory.is)
-    (put_reaches c.args.memories.now c.args.me OwnMemory (found_at c.args.at.now) c.args.given (made_of c.put_bytes.result) _ c.put_bytes.new.memory (rw there refl) (set_there c.args.memories.now c.args.me _ there) c.put_bytes.ensures.step)
+    (put_reaches c.args.memories.now c.args.me OwnMemory (found_at c.args.at.now) c.args.given (made_of c.put_bytes.result) _ c.put_bytes.new.memory (rw there refl) (set-there c.args.memories.now c.args.me _ there) c.put_bytes.ensures.step)
 
 pub returns-in-PeerMemory-clause-step : goal.returns-in-PeerMemory-clause-step
 returns-in-PeerMemory-clause-step c =
     let there = rw c.index-in-PeerMemory.ensures.value at c.at_mut-in-PeerMemory.ensures.value in
     rw (c.index-in-PeerMemory.ensures.value, c.in-PeerMemory.is)
-    (put_reaches c.args.memories.now c.args.me (PeerMemory c.in-PeerMemory.peer) (found_at c.args.at.now) c.args.given (made_of c.put_bytes-in-PeerMemory.result) _ c.put_bytes-in-PeerMemory.new.memory (rw there refl) (set_there c.args.memories.now c.in-PeerMemory.peer _ there) c.put_bytes-in-PeerMemory.ensures.step)
+    (put_reaches c.args.memories.now c.args.me (PeerMemory c.in-PeerMemory.peer) (found_at c.args.at.now) c.args.given (made_of c.put_bytes-in-PeerMemory.result) _ c.put_bytes-in-PeerMemory.new.memory (rw there refl) (set-there c.args.memories.now c.in-PeerMemory.peer _ there) c.put_bytes-in-PeerMemory.ensures.step)
 
 pub returns-in-Alone-clause-step : goal.returns-in-Alone-clause-step
 returns-in-Alone-clause-step c =

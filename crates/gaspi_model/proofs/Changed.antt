@@ -1,0 +1,6 @@
+-- What events change: puts, takes, stores, atomics, segments that are made, deleted or told.
+pub mod OwnCalls
+pub mod Puts
+pub mod Registered
+pub mod Transfers
+pub mod Written

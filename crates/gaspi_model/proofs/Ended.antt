@@ -1,0 +1,3 @@
+-- A caller goes on until its end.
+pub mod Activity
+pub mod Ends

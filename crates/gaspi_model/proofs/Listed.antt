@@ -1,0 +1,4 @@
+-- Transfers are listed exactly, once, in order, and what may come next is a step.
+pub mod Enabled
+pub mod Order
+pub mod Steps

@@ -1,0 +1,205 @@
+-- An event reads and changes the parts of its shards alone.
+use Rattle.std.proofs.Common.{◌≡◌, ℕ, ◌+◌, ◌≤◌, Bool, true, false, ◌==◌, ◌||◌, List, [], ◌∷◌, map, length, Option, None, Some, Ok, refl, sym, ap, ◌∙◌, subst, arith, cond}
+use Rattle.std.specs.List.{slice_get, count_by}
+use Rattle.std.proofs.lemmas.Bool.{eq-eqb, eqb-true}
+use Rattle.std.proofs.lemmas.List.Sums.{sum_by-cons}
+use Rattle.gaspi_types.specs.CallRows.{row_of}
+use Rattle.gaspi_types.specs.Touches.{reach_of}
+use Rattle.gaspi_types.specs.declared.shapes.CallerId.{CallerId}
+use Rattle.gaspi_types.specs.declared.shapes.Limits.{Limits}
+use Rattle.gaspi_types.specs.declared.calls.Call.{Call}
+use Rattle.gaspi_types.specs.declared.calls.Call.TheVariants.{Write, Notify, WriteNotify, Wait}
+use Rattle.gaspi_types.specs.declared.calls.queues.Wait as wait
+use Rattle.gaspi_types.specs.declared.call_rows.Posting.{Posting}
+use Rattle.gaspi_types.specs.declared.replies.Reply.{Reply}
+use Rattle.gaspi_types.specs.declared.events.Event.{Event}
+use Rattle.gaspi_types.specs.declared.events.Event.TheVariants.{Called}
+use Rattle.gaspi_types.specs.declared.touches.Touch.{Touch}
+use Rattle.gaspi_types.specs.declared.touches.Touch.TheVariants as touches
+use Rattle.gaspi_types.specs.declared.touches.Reach.{Reach}
+use Rattle.gaspi_types.specs.declared.touches.Reach.TheVariants.{Alone, OwnMemory, PeerMemory, PeerPosts}
+use Rattle.gaspi_model.specs.Parts.{touched_of, lifted}
+use Rattle.gaspi_model.specs.Step.{step, owner_of, event_touch, event_reach, local_step, missing}
+use Rattle.gaspi_model.specs.Shards.{footprint, reach_shards, is_shard, same_shard, HaveSamePart, AgreeOn, ComeToSame, numbers_of, is_among, without_repeats}
+use Rattle.gaspi_model.specs.declared.states.Posts.{Posts}
+use Rattle.gaspi_model.specs.declared.states.State.{State}
+use Rattle.gaspi_model.specs.declared.states.Shard.{Shard}
+use Rattle.gaspi_model.specs.declared.states.Shard.TheVariants as shards
+use Rattle.gaspi_types.proofs.Chains.{found_then}
+use Rattle.gaspi_model.proofs.Local.Lifting.{first-is-shard, owner-is-shard, lifted-frame, lifted-determined}
+use Rattle.gaspi_model.proofs.Sound.Told.{peer-touched}
+
+pub frame : (s t : State) (e : Event) (shard : Shard) → step s e ≡ Ok t → is_shard (footprint s e) shard ≡ false → HaveSamePart t s shard
+frame s t e shard h out =
+    found_then (slice_get s.posts (owner_of e)) (missing e) _ t h (λ posts at rest.
+    lifted-frame s t (owner_of e) (missing e) (λ x. event_reach s.limits x e) (local_step s.limits e) posts shard h at (rw at at out))
+
+pub owner-among : (s : State) (e : Event) → is_shard (footprint s e) (shards.Posts (owner_of e)) ≡ true
+owner-among s e = go (slice_get s.posts (owner_of e)) refl
+  where
+    go : (o : Option Posts) → slice_get s.posts (owner_of e) ≡ o → is_shard (footprint s e) (shards.Posts (owner_of e)) ≡ true
+    go None at = rw at (first-is-shard (shards.Posts (owner_of e)) [])
+    go (Some posts) at = rw at (owner-is-shard (owner_of e) (event_reach s.limits posts e))
+
+pub determined : (s s' : State) (e : Event) → AgreeOn (is_shard (footprint s e)) s s' → ComeToSame s s' (step s e) (step s' e)
+determined s s' e agree =
+    subst (λ (l : Limits). ComeToSame s s' (step s e) (lifted s' (owner_of e) (missing e) (λ x. touched_of (owner_of e) (event_reach l x e)) (local_step l e))) agree.limits
+    (lifted-determined s s' (owner_of e) (missing e) (λ x. event_reach s.limits x e) (local_step s.limits e) agree.limits
+    (agree.parts (shards.Posts (owner_of e)) (owner-among s e))
+    (λ posts at. record { limits = agree.limits; parts = λ shard is. agree.parts shard (rw at is) }))
+
+-- the footprint is told by the owner's posts, and the reply is no matter of it
+pub footprint-by-owner : (s s' : State) (e : Event) → s.limits ≡ s'.limits → HaveSamePart s s' (shards.Posts (owner_of e)) → footprint s e ≡ footprint s' e
+footprint-by-owner s s' e limits same = rw (limits, same) refl
+
+pub footprint-by-call : (s : State) (c : CallerId) (call : Call) (reply reply' : Reply) → footprint s (Called c call reply) ≡ footprint s (Called c call reply')
+footprint-by-call s c call reply reply' = refl
+
+-- No shard stands twice in a footprint.
+once-of-two : (a b k : ℕ) → (b == a) ≡ false → cond (a == k) 1 0 + cond (b == k) 1 0 ≤ 1
+once-of-two a b k other = go (a == k) refl (b == k) refl
+  where
+    go : (x : Bool) → (a == k) ≡ x → (y : Bool) → (b == k) ≡ y → cond (a == k) 1 0 + cond (b == k) 1 0 ≤ 1
+    go true is true is' =
+        absurd (let same : b ≡ a = eqb-true b k is' ∙ sym (eqb-true a k is) in let yes = eq-eqb b a same in let no : ⊥ = cc in no)
+    go true is false is' = rw (is, is') (omega arith)
+    go false is true is' = rw (is, is') (omega arith)
+    go false is false is' = rw (is, is') (omega arith)
+
+either : {P : Type 0} (b : Bool) → (b ≡ true → P) → (b ≡ false → P) → P
+either true same other = same refl
+either false same other = other refl
+
+reach-once : (me : ℕ) (reach : Reach) → ((rank : ℕ) → reach ≡ PeerPosts rank → (rank == me) ≡ false) → (shard : Shard) → count_by (λ x. same_shard x shard) (reach_shards me reach) ≤ 1
+reach-once me Alone other (shards.Posts k) = either (me == k) (λ is. rw is (omega arith)) (λ is. rw is (omega arith))
+reach-once me Alone other (shards.Memory k) = omega arith
+reach-once me OwnMemory other (shards.Posts k) = either (me == k) (λ is. rw is (omega arith)) (λ is. rw is (omega arith))
+reach-once me OwnMemory other (shards.Memory k) = either (me == k) (λ is. rw is (omega arith)) (λ is. rw is (omega arith))
+reach-once me (PeerMemory rank) other (shards.Posts k) = either (me == k) (λ is. rw is (omega arith)) (λ is. rw is (omega arith))
+reach-once me (PeerMemory rank) other (shards.Memory k) = either (rank == k) (λ is. rw is (omega arith)) (λ is. rw is (omega arith))
+reach-once me (PeerPosts rank) other (shards.Posts k) = let two = once-of-two me rank k (other rank refl) in omega arith
+reach-once me (PeerPosts rank) other (shards.Memory k) = omega arith
+
+pub once : (s : State) (e : Event) (shard : Shard) → count_by (λ x. same_shard x shard) (footprint s e) ≤ 1
+once s e shard = go (slice_get s.posts (owner_of e)) refl
+  where
+    go : (o : Option Posts) → slice_get s.posts (owner_of e) ≡ o → count_by (λ x. same_shard x shard) (footprint s e) ≤ 1
+    go None at = rw at (reach-once (owner_of e) Alone (λ rank is. (let no : ⊥ = cc in absurd no)) shard)
+    go (Some posts) at = rw at (reach-once (owner_of e) (event_reach s.limits posts e) (λ rank is. (peer-touched s.limits.ranks (owner_of e) rank (event_touch posts e) is).1) shard)
+
+-- an event has at most one shard beside its owner's posts
+reach-few : (me : ℕ) (r : Reach) → length (reach_shards me r) ≤ 2
+reach-few me Alone = omega arith
+reach-few me OwnMemory = omega arith
+reach-few me (PeerMemory rank) = omega arith
+reach-few me (PeerPosts rank) = omega arith
+
+pub few : (s : State) (e : Event) → length (footprint s e) ≤ 2
+few s e = go (slice_get s.posts (owner_of e)) refl
+  where
+    go : (o : Option Posts) → slice_get s.posts (owner_of e) ≡ o → length (footprint s e) ≤ 2
+    go None at = rw at (omega arith)
+    go (Some posts) at = rw at (reach-few (owner_of e) (event_reach s.limits posts e))
+
+-- a call that posts reaches its owner's posts alone
+posting-reaches-none : (call : Call) (to : Posting) → (row_of call).posting ≡ Some to → (row_of call).touch ≡ touches.Nothing
+posting-reaches-none (Write call) to is = refl
+posting-reaches-none (Notify call) to is = refl
+posting-reaches-none (WriteNotify call) to is = refl
+posting-reaches-none call to is = absurd (let no : ⊥ = cc in no)
+
+untouched : (s : State) (c : CallerId) (call : Call) (reply : Reply) → (row_of call).touch ≡ touches.Nothing → footprint s (Called c call reply) ≡ shards.Posts c.rank ∷ []
+untouched s c call reply none = go (slice_get s.posts c.rank) refl
+  where
+    go : (o : Option Posts) → slice_get s.posts c.rank ≡ o → footprint s (Called c call reply) ≡ shards.Posts c.rank ∷ []
+    go None at = rw at refl
+    go (Some posts) at = rw at (ap (λ (touch : Touch). reach_shards c.rank (reach_of s.limits.ranks c.rank touch)) none)
+
+pub posting-alone : (s : State) (c : CallerId) (call : Call) (reply : Reply) (to : Posting) → (row_of call).posting ≡ Some to → footprint s (Called c call reply) ≡ shards.Posts c.rank ∷ []
+posting-alone s c call reply to posts = untouched s c call reply (posting-reaches-none call to posts)
+
+pub wait-alone : (s : State) (c : CallerId) (call : wait.Wait) (reply : Reply) → footprint s (Called c (Wait call) reply) ≡ shards.Posts c.rank ∷ []
+wait-alone s c call reply = untouched s c (Wait call) reply refl
+
+-- Coarser shards.
+
+same-shards : (a b : Shard) → same_shard a b ≡ true → a ≡ b
+same-shards (shards.Posts m) (shards.Posts n) h = ap shards.Posts (eqb-true m n h)
+same-shards (shards.Posts m) (shards.Memory n) h = absurd (let no : ⊥ = cc in no)
+same-shards (shards.Memory m) (shards.Posts n) h = absurd (let no : ⊥ = cc in no)
+same-shards (shards.Memory m) (shards.Memory n) h = ap shards.Memory (eqb-true m n h)
+
+-- what is a shard of a list has its number among theirs
+pub numbered-among : (number : Shard → ℕ) (list : List Shard) (shard : Shard) → is_shard list shard ≡ true → is_among (map number list) (number shard) ≡ true
+numbered-among number [] shard h = absurd (let no : ⊥ = cc in no)
+numbered-among number (x ∷ list) shard h = go (same_shard x shard) refl (λ rest. numbered-among number list shard rest)
+  where
+    later : (b c : Bool) → c ≡ true → (b || c) ≡ true
+    later true c rest = refl
+    later false c rest = rest
+
+    go : (b : Bool) → same_shard x shard ≡ b → (is_shard list shard ≡ true → is_among (map number list) (number shard) ≡ true) → is_among (map number (x ∷ list)) (number shard) ≡ true
+    go true is rest =
+        let same = ap number (same-shards x shard is) in
+        rw (eq-eqb (number x) (number shard) same) refl
+    go false is rest = later (number x == number shard) (is_among (map number list) (number shard)) (rest (rw is at h))
+
+-- numbers without repeats are the same numbers
+same-among : (list : List ℕ) (n : ℕ) → is_among (without_repeats list) n ≡ is_among list n
+same-among [] n = refl
+same-among (x ∷ list) n = go (is_among list x) refl (same-among list n)
+  where
+    covered : (b : Bool) → (x == n) ≡ b → is_among list x ≡ true → is_among list n ≡ (b || is_among list n)
+    covered true is there = rw (sym (eqb-true x n is)) there
+    covered false is there = refl
+
+    go : (b : Bool) → is_among list x ≡ b → is_among (without_repeats list) n ≡ is_among list n → is_among (without_repeats (x ∷ list)) n ≡ is_among (x ∷ list) n
+    go true there rest = rw there (rest ∙ covered (x == n) refl there)
+    go false there rest = rw there (ap (λ (b : Bool). (x == n) || b) rest)
+
+-- each of them once
+none-counted : (list : List ℕ) (n : ℕ) → is_among list n ≡ false → count_by (λ m. m == n) list ≡ 0
+none-counted [] n none = refl
+none-counted (x ∷ list) n none = go (x == n) refl (λ absent. none-counted list n absent)
+  where
+    go : (b : Bool) → (x == n) ≡ b → (is_among list n ≡ false → count_by (λ m. m == n) list ≡ 0) → count_by (λ m. m == n) (x ∷ list) ≡ 0
+    go true is rest = absurd (let there = rw is at none in let no : ⊥ = cc in no)
+    go false is rest = rw is (rest (rw is at none))
+
+counted-cons : (x n : ℕ) (list : List ℕ) → count_by (λ m. m == n) (x ∷ list) ≡ cond (x == n) 1 0 + count_by (λ m. m == n) list
+counted-cons x n list = sum_by-cons (λ (m : ℕ). cond (m == n) 1 0) x list
+
+once-counted : (list : List ℕ) (n : ℕ) → count_by (λ m. m == n) (without_repeats list) ≤ 1
+once-counted [] n = omega arith
+once-counted (x ∷ list) n = go (is_among list x) refl (x == n) refl (once-counted list n)
+  where
+    go : (b : Bool) → is_among list x ≡ b → (c : Bool) → (x == n) ≡ c → count_by (λ m. m == n) (without_repeats list) ≤ 1 → count_by (λ m. m == n) (without_repeats (x ∷ list)) ≤ 1
+    go true there c is rest = rw there rest
+    go false there true is rest =
+        let none = none-counted (without_repeats list) n (same-among list n ∙ subst (λ (k : ℕ). is_among list k ≡ false) (eqb-true x n is) there) in
+        let one : count_by (λ m. m == n) (x ∷ without_repeats list) ≡ 1 = counted-cons x n (without_repeats list) ∙ rw (is, none) refl in
+        rw there (omega arith)
+    go false there false is rest =
+        let same : count_by (λ m. m == n) (x ∷ without_repeats list) ≡ count_by (λ m. m == n) (without_repeats list) = counted-cons x n (without_repeats list) ∙ rw is (omega arith) in
+        rw there (omega arith)
+
+pub coarse-once : (number : Shard → ℕ) (s : State) (e : Event) (n : ℕ) → count_by (λ m. m == n) (numbers_of number s e) ≤ 1
+coarse-once number s e n = once-counted (map number (footprint s e)) n
+
+-- what is a shard of an event has its number among the event's
+numbered : (number : Shard → ℕ) (s : State) (e : Event) (shard : Shard) → is_shard (footprint s e) shard ≡ true → is_among (numbers_of number s e) (number shard) ≡ true
+numbered number s e shard is = same-among (map number (footprint s e)) (number shard) ∙ numbered-among number (footprint s e) shard is
+
+pub coarse-frame : (number : Shard → ℕ) (s t : State) (e : Event) (shard : Shard) → step s e ≡ Ok t → is_among (numbers_of number s e) (number shard) ≡ false → HaveSamePart t s shard
+coarse-frame number s t e shard h out = frame s t e shard h (by-test (is_shard (footprint s e) shard) refl)
+  where
+    by-test : (b : Bool) → is_shard (footprint s e) shard ≡ b → is_shard (footprint s e) shard ≡ false
+    by-test true is = absurd (let among = numbered number s e shard is in let no : ⊥ = cc in no)
+    by-test false is = is
+
+pub coarse-determined : (number : Shard → ℕ) (s s' : State) (e : Event) → AgreeOn (λ shard. is_among (numbers_of number s e) (number shard)) s s' → ComeToSame s s' (step s e) (step s' e)
+coarse-determined number s s' e agree =
+    determined s s' e (record { limits = agree.limits; parts = λ shard is. agree.parts shard (numbered number s e shard is) })
+
+pub coarse-owner : (number : Shard → ℕ) (s : State) (e : Event) → is_among (numbers_of number s e) (number (shards.Posts (owner_of e))) ≡ true
+coarse-owner number s e = numbered number s e (shards.Posts (owner_of e)) (owner-among s e)

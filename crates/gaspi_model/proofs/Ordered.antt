@@ -1,0 +1,3 @@
+-- A notification comes after the earlier writes of its lane.
+pub mod Notifications
+pub mod Posts

@@ -1,0 +1,228 @@
+-- The entries of a post that is done stand in its lane.
+use Rattle.std.proofs.Common.{◌≡◌, ℕ, ◌+◌, ◌<◌, true, not, ◌==◌, nat_lt, List, [], ◌∷◌, ◌++◌, length, Option, None, Some, Result, Ok, refl, sym, ap, ◌∙◌, subst, arith}
+use Rattle.std.specs.List.{slice_get, slice_set}
+use Rattle.std.proofs.lemmas.Bool.{ltb-true}
+use Rattle.gaspi_types.specs.Lanes.{posted_entries}
+use Rattle.gaspi_types.specs.Posts.{write_kinds, notify_kinds, write_notify_kinds}
+use Rattle.gaspi_types.specs.SegmentTables.{extent_in, known_extent}
+use Rattle.gaspi_types.specs.SegmentBytes.{is_transfer_size, is_within}
+use Rattle.gaspi_types.specs.World.{World, IsWorld}
+use Rattle.gaspi_types.specs.declared.entries.ByteRange.{ByteRange}
+use Rattle.gaspi_types.specs.declared.entries.NoteSlot.{NoteSlot}
+use Rattle.gaspi_types.specs.declared.entries.Entry.{Entry}
+use Rattle.gaspi_types.specs.declared.segments.SegmentTable.{SegmentTable}
+use Rattle.gaspi_types.specs.declared.entries.Kind.{Kind}
+use Rattle.gaspi_types.specs.declared.entries.Kind.TheVariants.{Write, Notify}
+use Rattle.gaspi_types.specs.declared.entries.Phase.TheVariants as phases
+use Rattle.gaspi_types.specs.declared.shapes.CallerId.{CallerId}
+use Rattle.gaspi_types.specs.declared.calls.Call.{Call}
+use Rattle.gaspi_types.specs.declared.calls.Call.TheVariants as calls
+use Rattle.gaspi_types.specs.declared.calls.posts.Write as write
+use Rattle.gaspi_types.specs.declared.calls.posts.Notify as notify
+use Rattle.gaspi_types.specs.declared.calls.posts.WriteNotify as write_notify
+use Rattle.gaspi_types.specs.declared.shapes.Limits.{Limits}
+use Rattle.gaspi_types.specs.declared.replies.Refusal.{Refusal}
+use Rattle.gaspi_types.specs.declared.replies.Reply.TheVariants as replies
+use Rattle.gaspi_types.specs.declared.events.Event.{Event}
+use Rattle.gaspi_types.specs.declared.events.Event.TheVariants.{Called}
+use Rattle.gaspi_model.specs.State.{opening}
+use Rattle.gaspi_model.specs.Posting.{with_post, counted}
+use Rattle.gaspi_types.specs.Queues.{with_entries}
+use Rattle.gaspi_model.specs.PostCalls.{asked_finds}
+use Rattle.gaspi_model.specs.Calls.{call_finds, posts_done}
+use Rattle.gaspi_model.specs.Transfers.{Worked, find_entry}
+use Rattle.gaspi_model.specs.Step.{step, reached, is_legal}
+use Rattle.gaspi_model.specs.Shards.{standing}
+use Rattle.gaspi_model.specs.Sound.{IsSound}
+use Rattle.gaspi_model.specs.Order.{IsWriteStanding, IsNotificationStanding}
+use Rattle.gaspi_types.specs.declared.entries.Queue.{Queue}
+use Rattle.gaspi_model.specs.declared.states.Posts.{Posts}
+use Rattle.gaspi_model.specs.declared.states.Memory.{Memory}
+use Rattle.gaspi_model.specs.declared.states.State.{State}
+use Rattle.gaspi_model.specs.declared.states.Why.{Why}
+use Rattle.gaspi_model.specs.declared.states.Why.TheVariants as whys
+use Rattle.gaspi_types.proofs.Chains.{check_then, found_then, same_Ok}
+use Rattle.gaspi_model.proofs.Made.{step-called}
+use Rattle.gaspi_model.proofs.Same.{same_reply-same}
+use Rattle.gaspi_types.proofs.Items.{slice_get-set_same, past-none, behind-of-joined}
+use Rattle.gaspi_model.proofs.Sound.Rising.{place_of-rising}
+use Rattle.gaspi_model.proofs.Sound.Accounts.{post-ok}
+use Rattle.gaspi_model.proofs.FoundReplies.{found-reply}
+use Rattle.gaspi_model.proofs.Sound.Told.{told-mine}
+use Rattle.gaspi_model.proofs.Histories.{reached-sound, after-both, after-first, leads}
+use Rattle.gaspi_model.proofs.Sound.Steps.{steps}
+
+-- what posts ask for
+
+record IsOneWrite (kinds : List Kind) : Type 0 where
+  own : ByteRange
+  target : ByteRange
+  is : kinds ≡ Write own target ∷ []
+
+write-is : (me : ℕ) (table : SegmentTable) (call : write.Write) (kinds : List Kind)
+    → write_kinds me table call ≡ Ok kinds → IsOneWrite kinds
+write-is me table call kinds h =
+    found_then (extent_in table.own call.seg) _ _ kinds h (λ mine hm h1.
+    found_then (known_extent me table call.rank call.rseg) _ _ kinds h1 (λ theirs ht h2.
+    check_then (is_transfer_size call.size) _ _ kinds h2 (λ sized h3.
+    check_then (is_within call.offset call.size mine.size) _ _ kinds h3 (λ from h4.
+    check_then (is_within call.roffset call.size theirs.size) _ _ kinds h4 (λ to h5.
+    record {
+      own = record { segment = call.seg; generation = mine.generation; offset = call.offset; size = call.size };
+      target = record { segment = call.rseg; generation = theirs.generation; offset = call.roffset; size = call.size };
+      is = sym (same_Ok _ _ h5);
+    })))))
+
+record IsOneNotification (kinds : List Kind) : Type 0 where
+  slot : NoteSlot
+  value : ℕ
+  is : kinds ≡ Notify slot value ∷ []
+
+notify-is : (notes me : ℕ) (table : SegmentTable) (call : notify.Notify) (kinds : List Kind)
+    → notify_kinds notes me table call ≡ Ok kinds → IsOneNotification kinds
+notify-is notes me table call kinds h =
+    found_then (known_extent me table call.rank call.rseg) _ _ kinds h (λ theirs ht h1.
+    check_then (nat_lt call.note notes) _ _ kinds h1 (λ noted h2.
+    check_then (not (call.value == 0)) _ _ kinds h2 (λ valued h3.
+    record { slot = record { segment = call.rseg; generation = theirs.generation; note = call.note }; value = call.value; is = sym (same_Ok _ _ h3) })))
+
+record IsWriteWithNotification (kinds : List Kind) : Type 0 where
+  own : ByteRange
+  target : ByteRange
+  slot : NoteSlot
+  value : ℕ
+  is : kinds ≡ Write own target ∷ Notify slot value ∷ []
+
+kinds-are : (notes me : ℕ) (table : SegmentTable) (call : write_notify.WriteNotify) (kinds : List Kind)
+    → write_notify_kinds notes me table call ≡ Ok kinds → IsWriteWithNotification kinds
+kinds-are notes me table call kinds h =
+    found_then (extent_in table.own call.seg) _ _ kinds h (λ mine hm h1.
+    found_then (known_extent me table call.rank call.rseg) _ _ kinds h1 (λ theirs ht h2.
+    check_then (is_transfer_size call.size) _ _ kinds h2 (λ sized h3.
+    check_then (is_within call.offset call.size mine.size) _ _ kinds h3 (λ from h4.
+    check_then (is_within call.roffset call.size theirs.size) _ _ kinds h4 (λ to h5.
+    check_then (nat_lt call.note notes) _ _ kinds h5 (λ noted h6.
+    check_then (not (call.value == 0)) _ _ kinds h6 (λ valued h7.
+    record {
+      own = record { segment = call.seg; generation = mine.generation; offset = call.offset; size = call.size };
+      target = record { segment = call.rseg; generation = theirs.generation; offset = call.roffset; size = call.size };
+      slot = record { segment = call.rseg; generation = theirs.generation; note = call.note };
+      value = call.value;
+      is = sym (same_Ok _ _ h7);
+    })))))))
+
+-- an entry of a lane stands under its number
+entry-stands : (t : State) (posts : Posts) (q : Queue) (lane : List Entry) (origin queue target place : ℕ) (e : Entry) → slice_get t.posts origin ≡ Some posts → slice_get posts.queues queue ≡ Some q
+    → slice_get q.lanes target ≡ Some lane → slice_get lane place ≡ Some e → IsSound t → standing t origin queue target e.number ≡ Some e
+entry-stands t posts q lane origin queue target place e hp hq hl he sound =
+    let rising = (sound.posts origin posts hp).rising queue q hq target lane hl in
+    let at = place_of-rising posts.next lane place e rising he in
+    let found : find_entry posts queue target e.number whys.Put ≡ Ok (record { queue = q; lane = lane; place = place; entry = e }) = rw (hq, hl, at, he) refl in
+    rw (hp, found) refl
+
+-- what a post leaves in its lane: all that it asks for
+record PostLeaves (t : State) (origin queue target next : ℕ) (asked : Result (List Kind) Refusal) : Type 0 where
+  kinds : List Kind
+  asks : asked ≡ Ok kinds
+  stand : (k : ℕ) (e : Entry) → slice_get (posted_entries next kinds) k ≡ Some e → standing t origin queue target e.number ≡ Some e
+
+-- a call that posts so
+record IsPosting (limits : Limits) (me thread : ℕ) (posts : Posts) (call : Call) (rank queue : ℕ) (asked : Result (List Kind) Refusal) : Type 0 where
+  finds : (memory : Memory) → call_finds limits me posts memory call ≡ asked_finds limits posts rank queue asked
+  leaves : posts_done limits me posts thread call ≡ with_post posts queue rank asked
+
+post-leaves : (s t : State) (c : CallerId) (call : Call) (rank queue : ℕ) (posts : Posts) (asked : Result (List Kind) Refusal) → IsSound s → slice_get s.posts c.rank ≡ Some posts
+    → IsPosting s.limits c.rank c.thread posts call rank queue asked → step s (Called c call replies.Done) ≡ Ok t → PostLeaves t c.rank queue rank posts.next asked
+post-leaves s t c call rank queue posts asked sound hp so h =
+    let made = step-called s t c call replies.Done h in
+    let m = made.3 in
+    let same : made.0 ≡ posts = (let some : ◌≡◌ {A = Option Posts} (Some made.0) (Some posts) = sym m.posts_there ∙ hp in cc) in
+    let finds = found-reply s.limits c.rank made.0 made.1 c.thread call replies.Done (same_reply-same _ _ m.is.answered) refl in
+    let finds' : asked_finds s.limits posts rank queue asked ≡ Ok (Some replies.Done) =
+    sym (so.finds made.1) ∙ subst (λ (x : Posts). call_finds s.limits c.rank x made.1 call ≡ Ok (Some replies.Done)) same finds in
+    let posted = post-ok s.limits posts rank queue asked (Some replies.Done) finds' in
+    let p = posted.2 in
+    let later : made.2.posts ≡ counted (with_post posts queue rank (Ok posted.1)) =
+    ap (λ (x : Worked). x.posts) m.is.leaves ∙ ap (λ (x : Posts). counted (posts_done s.limits c.rank x c.thread call)) same ∙ ap counted so.leaves
+    ∙ ap (λ (a : Result (List Kind) Refusal). counted (with_post posts queue rank a)) p.asks in
+    let there : slice_get t.posts c.rank ≡ Some made.2.posts = ap (λ (x : State). slice_get x.posts c.rank) m.leaves
+    ∙ told-mine s.limits.ranks c.rank made.0 call replies.Done (slice_set s.posts c.rank made.2.posts) ∙ slice_get-set_same s.posts c.rank made.0 made.2.posts m.posts_there in
+    let lanes = (sound.posts c.rank posts hp).lanes queue posted.0 p.in_posts in
+    record {
+      kinds = posted.1;
+      asks = p.asks;
+      stand = with-lane posts made.2.posts posted.0 posted.1 there later p.in_posts (steps s t (Called c call replies.Done) sound h) (slice_get posted.0.lanes rank) refl
+          (ltb-true rank s.limits.ranks p.ranked) lanes;
+    }
+  where
+    in-lane : (before later : Posts) (q : Queue) (kinds : List Kind) → slice_get t.posts c.rank ≡ Some later → later ≡ counted (with_post before queue rank (Ok kinds))
+        → slice_get before.queues queue ≡ Some q → IsSound t → (lane : List Entry) → slice_get q.lanes rank ≡ Some lane
+        → (k : ℕ) (e : Entry) → slice_get (posted_entries before.next kinds) k ≡ Some e → standing t c.rank queue rank e.number ≡ Some e
+    in-lane before later q kinds there is hq sound' lane hl k e at =
+        let changed = with_entries rank (posted_entries before.next kinds) q in
+        let queue_there : slice_get later.queues queue ≡ Some changed = rw (is, hq) (slice_get-set_same before.queues queue q changed hq) in
+        let lane' = lane ++ posted_entries before.next kinds in
+        let lane_there : slice_get changed.lanes rank ≡ Some lane' = rw hl (slice_get-set_same q.lanes rank lane lane' hl) in
+        entry-stands t later changed lane' c.rank queue rank (length lane + k) e there queue_there lane_there
+        (behind-of-joined lane (posted_entries before.next kinds) k (length lane + k) refl ∙ at) sound'
+
+    with-lane : (before later : Posts) (q : Queue) (kinds : List Kind) → slice_get t.posts c.rank ≡ Some later → later ≡ counted (with_post before queue rank (Ok kinds))
+        → slice_get before.queues queue ≡ Some q → IsSound t → (o : Option (List Entry)) → slice_get q.lanes rank ≡ o → rank < s.limits.ranks → length q.lanes ≡ s.limits.ranks
+        → (k : ℕ) (e : Entry) → slice_get (posted_entries before.next kinds) k ≡ Some e → standing t c.rank queue rank e.number ≡ Some e
+    with-lane before later q kinds there is hq sound' (Some lane) hl within lanes = in-lane before later q kinds there is hq sound' lane hl
+    with-lane before later q kinds there is hq sound' None hl within lanes = absurd (past-none q.lanes rank (omega arith) hl)
+
+-- the state after a post that a legal history ends with
+record AfterPost (w : World) (history : List Event) (c : CallerId) (call : Call) (rank queue next : ℕ) (asked : Result (List Kind) Refusal) : Type 0 where
+  state : State
+  leads_to : reached w (history ++ Called c call replies.Done ∷ []) ≡ Ok state
+  leaves : PostLeaves state c.rank queue rank next asked
+
+after-post : (w : World) (history : List Event) (c : CallerId) (call : Call) (rank queue : ℕ) (s : State) (posts : Posts) (asked : Result (List Kind) Refusal) → IsWorld w → reached w history ≡ Ok s
+    → slice_get s.posts c.rank ≡ Some posts → IsPosting s.limits c.rank c.thread posts call rank queue asked → is_legal w (history ++ Called c call replies.Done ∷ []) ≡ true
+    → AfterPost w history c call rank queue posts.next asked
+after-post w history c call rank queue s posts asked world h hp so legal =
+    let event : Event = Called c call replies.Done in
+    let end = leads (reached w (history ++ event ∷ [])) legal in
+    let whole = after-both (opening w) end.0 history (event ∷ []) end.1 in
+    let same : whole.0 ≡ s = (let ok : ◌≡◌ {A = Result State Why} (Ok whole.0) (Ok s) = sym whole.1 ∙ h in cc) in
+    let last = after-first whole.0 end.0 event [] whole.2 in
+    let is_end : last.0 ≡ end.0 = (let ok : ◌≡◌ {A = Result State Why} (Ok last.0) (Ok end.0) = last.2 in cc) in
+    let step_s : step s event ≡ Ok last.0 = subst (λ (x : State). step x event ≡ Ok last.0) same last.1 in
+    record {
+      state = last.0;
+      leads_to = end.1 ∙ ap (λ (x : State). Ok x) (sym is_end);
+      leaves = post-leaves s last.0 c call rank queue posts asked (reached-sound w history s world h) hp so step_s;
+    }
+
+pub posted-write : (w : World) (history : List Event) (c : CallerId) (call : write.Write) (s : State) (posts : Posts) → IsWorld w → reached w history ≡ Ok s
+    → slice_get s.posts c.rank ≡ Some posts → is_legal w (history ++ Called c (calls.Write call) replies.Done ∷ []) ≡ true
+    → IsWriteStanding w (history ++ Called c (calls.Write call) replies.Done ∷ []) c.rank call.queue call.rank posts.next
+posted-write w history c call s posts world h hp legal =
+    let a = after-post w history c (calls.Write call) call.rank call.queue s posts (write_kinds c.rank posts.segments call) world h hp (record { finds = λ memory. refl; leaves = refl }) legal in
+    let k = write-is c.rank posts.segments call a.leaves.kinds a.leaves.asks in
+    let posted : Entry = record { number = posts.next; kind = Write k.own k.target; phase = phases.Posted } in
+    record { state = a.state; entry = posted; leads = a.leads_to; stands = a.leaves.stand 0 posted (ap (λ (ks : List Kind). slice_get (posted_entries posts.next ks) 0) k.is); writes = refl }
+
+pub posted-notify : (w : World) (history : List Event) (c : CallerId) (call : notify.Notify) (s : State) (posts : Posts) → IsWorld w → reached w history ≡ Ok s
+    → slice_get s.posts c.rank ≡ Some posts → is_legal w (history ++ Called c (calls.Notify call) replies.Done ∷ []) ≡ true
+    → IsNotificationStanding w (history ++ Called c (calls.Notify call) replies.Done ∷ []) c.rank call.queue call.rank posts.next
+posted-notify w history c call s posts world h hp legal =
+    let a = after-post w history c (calls.Notify call) call.rank call.queue s posts (notify_kinds s.limits.notes c.rank posts.segments call) world h hp (record { finds = λ memory. refl; leaves = refl }) legal in
+    let k = notify-is s.limits.notes c.rank posts.segments call a.leaves.kinds a.leaves.asks in
+    let notification : Entry = record { number = posts.next; kind = Notify k.slot k.value; phase = phases.Posted } in
+    record { state = a.state; entry = notification; leads = a.leads_to; stands = a.leaves.stand 0 notification (ap (λ (ks : List Kind). slice_get (posted_entries posts.next ks) 0) k.is); notifies = refl }
+
+pub posted-write_notify : (w : World) (history : List Event) (c : CallerId) (call : write_notify.WriteNotify) (s : State) (posts : Posts) → IsWorld w → reached w history ≡ Ok s
+    → slice_get s.posts c.rank ≡ Some posts → is_legal w (history ++ Called c (calls.WriteNotify call) replies.Done ∷ []) ≡ true
+    → IsWriteStanding w (history ++ Called c (calls.WriteNotify call) replies.Done ∷ []) c.rank call.queue call.rank posts.next
+    × IsNotificationStanding w (history ++ Called c (calls.WriteNotify call) replies.Done ∷ []) c.rank call.queue call.rank (posts.next + 1)
+posted-write_notify w history c call s posts world h hp legal =
+    let a = after-post w history c (calls.WriteNotify call) call.rank call.queue s posts (write_notify_kinds s.limits.notes c.rank posts.segments call) world h hp
+    (record { finds = λ memory. refl; leaves = refl }) legal in
+    let k = kinds-are s.limits.notes c.rank posts.segments call a.leaves.kinds a.leaves.asks in
+    let posted : Entry = record { number = posts.next; kind = Write k.own k.target; phase = phases.Posted } in
+    let notification : Entry = record { number = posts.next + 1; kind = Notify k.slot k.value; phase = phases.Posted } in (
+      record { state = a.state; entry = posted; leads = a.leads_to; stands = a.leaves.stand 0 posted (ap (λ (ks : List Kind). slice_get (posted_entries posts.next ks) 0) k.is); writes = refl },
+      record { state = a.state; entry = notification; leads = a.leads_to; stands = a.leaves.stand 1 notification (ap (λ (ks : List Kind). slice_get (posted_entries posts.next ks) 1) k.is); notifies = refl },
+    )

@@ -1,0 +1,3 @@
+-- A settled state has empty lanes, and stays settled.
+pub mod EmptyLanes
+pub mod Stays

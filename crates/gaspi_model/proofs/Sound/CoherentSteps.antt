@@ -1,0 +1,251 @@
+-- Every step keeps a state coherent.
+use Rattle.std.proofs.Common.{◌≡◌, ℕ, List, remove, Option, Some, Ok, refl, sym, ap, ◌∙◌, subst, ◌⊎◌, inl, inr}
+use Rattle.std.specs.List.{slice_get, slice_set}
+use Rattle.std.specs.Option.{option_map}
+use Rattle.std.proofs.lemmas.Option.{slice_get-map}
+use Rattle.gaspi_types.specs.Lanes.{is_posted}
+use Rattle.gaspi_types.specs.declared.segments.Extent.{Extent}
+use Rattle.gaspi_types.specs.declared.entries.Phase.TheVariants as phases
+use Rattle.gaspi_types.specs.declared.calls.Call.{Call}
+use Rattle.gaspi_types.specs.declared.replies.Reply.{Reply}
+use Rattle.gaspi_types.specs.declared.events.Outcome.{Outcome}
+use Rattle.gaspi_types.specs.declared.events.Outcome.TheVariants.{Applied, Failed}
+use Rattle.gaspi_types.specs.declared.events.Event.{Event}
+use Rattle.gaspi_types.specs.declared.events.Event.TheVariants.{Called, Take, Put}
+use Rattle.gaspi_types.specs.Tables.{changed_at}
+use Rattle.gaspi_model.specs.Transfers.{Found, Worked, taken_bytes}
+use Rattle.gaspi_model.specs.Step.{step}
+use Rattle.gaspi_model.specs.Coherence.{counts_of, HasSlots, Tables, tables_of, all_tables, HasSource, AreMade, AllFit, Knows, IsCoherent}
+use Rattle.gaspi_types.specs.Segments.{extents_of}
+use Rattle.gaspi_model.specs.Sound.{IsSound}
+use Rattle.gaspi_types.specs.declared.entries.Queue.{Queue}
+use Rattle.gaspi_model.specs.declared.states.Posts.{Posts}
+use Rattle.gaspi_model.specs.declared.states.Memory.{Memory}
+use Rattle.gaspi_model.specs.declared.states.State.{State}
+use Rattle.gaspi_types.proofs.Chains.{both}
+use Rattle.gaspi_model.proofs.Same.{same_reply-same}
+use Rattle.gaspi_model.proofs.Made.{IsPut}
+use Rattle.gaspi_model.proofs.Worked.{memory_rank, sound-called, sound-take, sound-put}
+use Rattle.gaspi_types.proofs.Items.{slice_get-set, slice_get-set_same, slice_get-set_other, map-at, same-or-not}
+use Rattle.gaspi_model.proofs.Sound.Told.{told, told-from}
+use Rattle.gaspi_model.proofs.Sound.Layouts.{HaveSameLayout, same-layout, put-layout}
+use Rattle.gaspi_model.proofs.Sound.Successors.{Succeeds, Follow, made-stays, knows-follows, all-fit-follows}
+use Rattle.gaspi_model.proofs.Sound.FittingEntries.{MayPost, fits-lane, lane-phase, lane-remove, taken-source}
+use Rattle.gaspi_model.proofs.Sound.CallTables.{KeepsFit, KeepsTables, fits-itself, fits-requeued, counted-fits, called-fits, called-tables, told-knows}
+use Rattle.gaspi_model.proofs.FoundEntries.{with_phase}
+
+-- what a state has of each rank was there before it, with tables that come after the old ones
+record ComesFrom (s t : State) : Type 0 where
+  limits : t.limits ≡ s.limits
+  posts : (rank : ℕ) (after : Posts) → slice_get t.posts rank ≡ Some after
+      → (before : Posts) × (slice_get s.posts rank ≡ Some before) × KeepsFit s.limits.notes (all_tables s.posts) rank before after
+  own : (rank : ℕ) (posts : Posts) (memory : Memory) → slice_get t.posts rank ≡ Some posts → slice_get t.memories rank ≡ Some memory → posts.segments.own ≡ extents_of memory.segments
+  slots : (rank : ℕ) (memory : Memory) → slice_get t.memories rank ≡ Some memory → HasSlots s.limits.notes memory
+
+pub mine-there : (table : List Posts) (rank : ℕ) (posts : Posts) → slice_get table rank ≡ Some posts → slice_get (all_tables table) rank ≡ Some (tables_of posts)
+mine-there table rank posts at = slice_get-map tables_of table rank ∙ ap (option_map tables_of) at
+
+same-tables : (table : List Posts) (rank : ℕ) (posts : Posts) (tables : Tables) → slice_get table rank ≡ Some posts → slice_get (all_tables table) rank ≡ Some tables → tables ≡ tables_of posts
+same-tables table rank posts tables at h = let some : ◌≡◌ {A = Option Tables} (Some tables) (Some (tables_of posts)) = sym h ∙ mine-there table rank posts at in cc
+
+follows : (s t : State) → ComesFrom s t → Follow (all_tables s.posts) (all_tables t.posts)
+follows s t from rank after h =
+    let new = map-at tables_of t.posts rank after h in
+    let p = from.posts rank new.0 new.1 in
+    (tables_of p.0, mine-there s.posts rank p.0 p.1, subst (λ (x : Tables). Succeeds (tables_of p.0) x) (sym new.2) p.2.succeeds)
+
+keeps-coherent : (s t : State) → IsCoherent s → ComesFrom s t → IsCoherent t
+keeps-coherent s t coherent from =
+    let follow = follows s t from in
+    record {
+      own = from.own;
+      slots = λ rank memory hm. rw from.limits (from.slots rank memory hm);
+      made = λ rank posts hp.
+          let p = from.posts rank posts hp in
+          made-stays (tables_of p.0) (tables_of posts) p.2.succeeds (coherent.made rank p.0 p.1);
+      known = λ rank posts hp.
+          let p = from.posts rank posts hp in
+          knows-follows (all_tables s.posts) (all_tables t.posts) posts.segments.known follow p.2.known;
+      entries = λ origin posts hp.
+          let p = from.posts origin posts hp in
+          rw from.limits (all-fit-follows s.limits.notes (all_tables s.posts) (all_tables t.posts) origin posts.queues follow
+          (λ mine mine' hm hm'. rw (same-tables s.posts origin p.0 mine p.1 hm, same-tables t.posts origin posts mine' hp hm') p.2.sources) p.2.entries);
+    }
+
+-- the posts of a rank replaced
+posts-from : (notes : ℕ) (table : List Posts) (place : ℕ) (old new : Posts) → slice_get table place ≡ Some old → KeepsFit notes (all_tables table) place old new
+    → ((rank : ℕ) (p : Posts) → slice_get table rank ≡ Some p → KeepsFit notes (all_tables table) rank p p)
+    → (rank : ℕ) (after : Posts) → slice_get (slice_set table place new) rank ≡ Some after
+    → (before : Posts) × (slice_get table rank ≡ Some before) × KeepsFit notes (all_tables table) rank before after
+posts-from notes table place old new at keeps all rank after here = go (slice_get-set table place rank new after here)
+  where
+    go : ((rank ≡ place) × (after ≡ new)) ⊎ (slice_get table rank ≡ Some after) → (before : Posts) × (slice_get table rank ≡ Some before) × KeepsFit notes (all_tables table) rank before after
+    go (inl is) = (old, subst (λ (k : ℕ). slice_get table k ≡ Some old) (sym is.0) at, rw (is.0, is.1) keeps)
+    go (inr was) = (after, was, all rank after was)
+
+-- and one of them told a segment
+told-posts-from : (ranks notes : ℕ) (table : List Posts) (place : ℕ) (old new : Posts) (call : Call) (reply : Reply) → slice_get table place ≡ Some old → AreMade (tables_of old)
+    → KeepsFit notes (all_tables table) place old new → ((rank : ℕ) (p : Posts) → slice_get table rank ≡ Some p → KeepsFit notes (all_tables table) rank p p)
+    → (rank : ℕ) (after : Posts) → slice_get (told ranks place old call reply (slice_set table place new)) rank ≡ Some after
+    → (before : Posts) × (slice_get table rank ≡ Some before) × KeepsFit notes (all_tables table) rank before after
+told-posts-from ranks notes table place old new call reply at made keeps all rank after here =
+    let replaced = posts-from notes table place old new at keeps all in
+    let from = told-from ranks place old call reply (slice_set table place new) rank after here in
+    let before = replaced rank from.0 from.2 in
+    let known : Knows (all_tables table) after.segments.known =
+    told-knows (all_tables table) ranks place old call reply (slice_set table place new) (mine-there table place old at) made (λ r x h. (replaced r x h).2.known) rank after here in
+    (before.0, before.1, told-fits before.0 from.0 from.1 from.3 before.2 known)
+  where
+    told-fits : (before x : Posts) (known : List (List (Option Extent))) → after ≡ record x { segments = record x.segments { known = known } } → KeepsFit notes (all_tables table) rank before x → Knows (all_tables table) after.segments.known
+        → KeepsFit notes (all_tables table) rank before after
+    told-fits before x known is fits knows = record { succeeds = rw is fits.succeeds; known = knows; entries = rw is fits.entries; sources = rw is fits.sources }
+
+keeps-itself : (s : State) → IsCoherent s → (rank : ℕ) (p : Posts) → slice_get s.posts rank ≡ Some p → KeepsFit s.limits.notes (all_tables s.posts) rank p p
+keeps-itself s coherent rank p at = fits-itself s.limits.notes (all_tables s.posts) rank p (coherent.known rank p at) (coherent.entries rank p at)
+
+-- The own tables and the memories.
+
+abbrev OwnAgrees : List Posts → List Memory → Type 0
+OwnAgrees all memories = (rank : ℕ) (posts : Posts) (memory : Memory) → slice_get all rank ≡ Some posts → slice_get memories rank ≡ Some memory → posts.segments.own ≡ extents_of memory.segments
+
+own-from : (table : List Posts) (place : ℕ) (old new : Posts) → slice_get table place ≡ Some old → new.segments.own ≡ old.segments.own → (rank : ℕ) (after : Posts) → slice_get (slice_set table place new) rank ≡ Some after
+    → (before : Posts) × (slice_get table rank ≡ Some before) × (after.segments.own ≡ before.segments.own)
+own-from table place old new at same rank after here = go (slice_get-set table place rank new after here)
+  where
+    go : ((rank ≡ place) × (after ≡ new)) ⊎ (slice_get table rank ≡ Some after) → (before : Posts) × (slice_get table rank ≡ Some before) × (after.segments.own ≡ before.segments.own)
+    go (inl is) = (old, subst (λ (k : ℕ). slice_get table k ≡ Some old) (sym is.0) at, ap (λ (p : Posts). p.segments.own) is.1 ∙ same)
+    go (inr was) = (after, was, refl)
+
+memories-from : (table : List Memory) (place : ℕ) (old new : Memory) → slice_get table place ≡ Some old → HaveSameLayout old new
+    → (rank : ℕ) (after : Memory) → slice_get (slice_set table place new) rank ≡ Some after → (before : Memory) × (slice_get table rank ≡ Some before) × HaveSameLayout before after
+memories-from table place old new at layout rank after here = go (slice_get-set table place rank new after here)
+  where
+    go : ((rank ≡ place) × (after ≡ new)) ⊎ (slice_get table rank ≡ Some after) → (before : Memory) × (slice_get table rank ≡ Some before) × HaveSameLayout before after
+    go (inl is) = (old, subst (λ (k : ℕ). slice_get table k ≡ Some old) (sym is.0) at, rw is.1 layout)
+    go (inr was) = (after, was, same-layout after)
+
+changed-own : (all : List Posts) (memories : List Memory) (notes me worked : ℕ) (posts posts' : Posts) (memory memory' : Memory) → OwnAgrees all memories → slice_get all me ≡ Some posts
+    → slice_get memories worked ≡ Some memory → KeepsTables notes me worked posts posts' memory memory' → OwnAgrees (slice_set all me posts') (slice_set memories worked memory')
+changed-own all memories notes me worked posts posts' memory memory' agrees hp hm (inl kept) rank p m at_p at_m =
+    let before = own-from all me posts posts' hp kept.0 rank p at_p in
+    let old = memories-from memories worked memory memory' hm kept.1 rank m at_m in
+    before.2 ∙ agrees rank before.0 old.0 before.1 old.1 ∙ sym old.2.extents
+changed-own all memories notes me worked posts posts' memory memory' agrees hp hm (inr both_change) rank p m at_p at_m =
+    same-or-not me rank
+    (λ same.
+    let there : slice_get memories me ≡ Some memory = rw (sym both_change.0) hm in
+    let is_p : p ≡ posts' = (let some : ◌≡◌ {A = Option Posts} (Some p) (Some posts') = sym at_p ∙ rw (sym same) (slice_get-set_same all me posts posts' hp) in cc) in
+    let is_m : m ≡ memory' = (let some : ◌≡◌ {A = Option Memory} (Some m) (Some memory') = sym at_m ∙ rw (sym same, both_change.0) (slice_get-set_same memories me memory memory' there) in cc) in
+    rw (is_p, is_m) (both_change.1 (agrees me posts memory hp there)))
+    (λ apart.
+    agrees rank p m (sym (slice_get-set_other all me rank posts' apart) ∙ at_p)
+    (sym (slice_get-set_other memories worked rank memory' (λ is. apart (sym both_change.0 ∙ is))) ∙ at_m))
+
+told-own : (ranks : ℕ) (all : List Posts) (memories : List Memory) (me : ℕ) (p : Posts) (call : Call) (reply : Reply) → OwnAgrees all memories → OwnAgrees (told ranks me p call reply all) memories
+told-own ranks all memories me p call reply agrees rank posts memory hp hm =
+    let from = told-from ranks me p call reply all rank posts hp in
+    ap (λ (x : Posts). x.segments.own) from.3 ∙ agrees rank from.0 memory from.2 hm
+
+changed-slots : (memories : List Memory) (notes worked : ℕ) (memory' : Memory) → ((rank : ℕ) (m : Memory) → slice_get memories rank ≡ Some m → HasSlots notes m) → HasSlots notes memory'
+    → (rank : ℕ) (m : Memory) → slice_get (slice_set memories worked memory') rank ≡ Some m → HasSlots notes m
+changed-slots memories notes worked memory' all new rank m at = go (slice_get-set memories worked rank memory' m at)
+  where
+    go : ((rank ≡ worked) × (m ≡ memory')) ⊎ (slice_get memories rank ≡ Some m) → HasSlots notes m
+    go (inl is) = rw is.1 new
+    go (inr was) = all rank m was
+
+layout-slots : (notes : ℕ) (old new : Memory) → HaveSameLayout old new → HasSlots notes old → HasSlots notes new
+layout-slots notes old new layout all = layout.counts ∙ all ∙ ap (counts_of notes) (sym layout.extents)
+
+tables-slots : (notes me worked : ℕ) (posts posts' : Posts) (memory memory' : Memory) → KeepsTables notes me worked posts posts' memory memory' → HasSlots notes memory → HasSlots notes memory'
+tables-slots notes me worked posts posts' memory memory' (inl kept) all = layout-slots notes memory memory' kept.1 all
+tables-slots notes me worked posts posts' memory memory' (inr both_change) all = both_change.2 all
+
+-- Puts.
+
+put-keeps : (notes : ℕ) (tables : List Tables) (posts : Posts) (memory : Memory) (origin queue target number : ℕ) (outcome : Outcome) (after : Worked) (at : Found)
+    → IsPut posts memory queue target number outcome after at → Knows tables posts.segments.known → AllFit notes tables origin posts.queues → KeepsFit notes tables origin posts after.posts
+put-keeps notes tables posts memory origin queue target number Applied after at h knows all =
+    let lane = remove at.lane at.place in
+    let change = λ (q : Queue). record q { lanes = slice_set q.lanes target lane } in
+    let fits = fits-lane notes tables origin posts.queues queue change at.queue target at.lane lane h.is.in_posts h.is.in_queue refl
+    (λ mine theirs hm ht old. lane-remove notes mine theirs at.lane at.place old) all in
+    let keeps = fits-requeued notes tables origin posts (changed_at posts.queues queue change) knows fits in
+    rw h.leaves (counted-fits notes tables origin posts _ keeps)
+put-keeps notes tables posts memory origin queue target number Failed after at h knows all =
+    let lane = with_phase at.lane at.place at.entry phases.Failed in
+    let change = λ (q : Queue). record q { broken = Some target; lanes = slice_set q.lanes target lane } in
+    let fits = fits-lane notes tables origin posts.queues queue change at.queue target at.lane lane h.is.in_posts h.is.in_queue refl
+    (λ mine theirs hm ht old. lane-phase notes mine theirs at.lane at.place at.entry phases.Failed h.is.in_lane (λ own range is source. tt) old) all in
+    let keeps = fits-requeued notes tables origin posts (changed_at posts.queues queue change) knows fits in
+    rw h.leaves (record { succeeds = keeps.succeeds; known = keeps.known; entries = keeps.entries; sources = keeps.sources })
+
+put-tables : (notes origin target queue number : ℕ) (posts : Posts) (memory : Memory) (outcome : Outcome) (after : Worked) (at : Found)
+    → IsPut posts memory queue target number outcome after at → KeepsTables notes origin target posts after.posts memory after.memory
+put-tables notes origin target queue number posts memory Applied after at h = rw h.leaves (inl (refl, put-layout memory at.entry))
+put-tables notes origin target queue number posts memory Failed after at h = rw h.leaves (inl (refl, same-layout memory))
+
+pub steps-coherent : (s t : State) (e : Event) → IsSound s → step s e ≡ Ok t → IsCoherent t
+steps-coherent s t (Called c call reply) sound h =
+    let coherent = sound.coherent in
+    let made = sound-called s t c call reply sound h in
+    let m = made.3 in
+    let tables = all_tables s.posts in
+    let worked = memory_rank s.limits c.rank call in
+    let may : MayPost tables c.rank (tables_of made.0) made.0.segments.known = record {
+      here = mine-there s.posts c.rank made.0 m.posts_there;
+      knows = coherent.known c.rank made.0 m.posts_there;
+      made = coherent.made c.rank made.0 m.posts_there;
+    } in
+    let keeps : KeepsFit s.limits.notes tables c.rank made.0 made.2.posts =
+    rw m.is.leaves (called-fits s.limits tables c.rank made.0 made.1 c.thread call reply may (sound.posts c.rank made.0 m.posts_there).numbered (coherent.entries c.rank made.0 m.posts_there) (same_reply-same _ _ m.is.answered)) in
+    let kept : KeepsTables s.limits.notes c.rank worked made.0 made.2.posts made.1 made.2.memory = rw m.is.leaves (called-tables s.limits c.rank made.0 made.1 c.thread call reply) in
+    let all = slice_set s.posts c.rank made.2.posts in
+    let memories = slice_set s.memories worked made.2.memory in
+    rw m.leaves (keeps-coherent s (record s { posts = told s.limits.ranks c.rank made.0 call reply all; memories = memories }) coherent (record {
+      limits = refl;
+      posts = told-posts-from s.limits.ranks s.limits.notes s.posts c.rank made.0 made.2.posts call reply m.posts_there may.made keeps (keeps-itself s coherent);
+      own = told-own s.limits.ranks all memories c.rank made.0 call reply (changed-own s.posts s.memories s.limits.notes c.rank worked made.0 made.2.posts made.1 made.2.memory coherent.own m.posts_there m.memory_there kept);
+      slots = changed-slots s.memories s.limits.notes worked made.2.memory coherent.slots
+          (tables-slots s.limits.notes c.rank worked made.0 made.2.posts made.1 made.2.memory kept (coherent.slots worked made.1 m.memory_there));
+    }))
+steps-coherent s t (Take origin queue target number outcome) sound h =
+    let coherent = sound.coherent in
+    let made = sound-take s t origin queue target number outcome sound h in
+    let m = made.4 in
+    let at = made.3 in
+    let tables = all_tables s.posts in
+    let phase = phases.Carried (taken_bytes made.1 at.entry.kind) in
+    let lane = with_phase at.lane at.place at.entry phase in
+    let change = λ (q : Queue). record q { lanes = slice_set q.lanes target lane } in
+    let entries = coherent.entries origin made.0 m.posts_there in
+    let own = coherent.own origin made.0 made.1 m.posts_there m.memory_there in
+    let fits = fits-lane s.limits.notes tables origin made.0.queues queue change at.queue target at.lane lane m.is.is.in_posts m.is.is.in_queue refl
+    (λ mine theirs hm ht old.
+    let same : mine.own ≡ extents_of made.1.segments = ap (λ (x : Tables). x.own) (same-tables s.posts origin made.0 mine m.posts_there hm) ∙ own in
+    lane-phase s.limits.notes mine theirs at.lane at.place at.entry phase m.is.is.in_lane
+    (λ own range is source. taken-source made.1 at.entry own range (both (is_posted at.entry) _ m.is.permitted).0 is (subst (λ (table : List (Option Extent)). HasSource table own at.entry.phase) same source)) old) entries in
+    let keeps : KeepsFit s.limits.notes tables origin made.0 made.2 =
+    rw m.is.leaves (counted-fits s.limits.notes tables origin made.0 _ (fits-requeued s.limits.notes tables origin made.0 (changed_at made.0.queues queue change) (coherent.known origin made.0 m.posts_there) fits)) in
+    rw m.leaves (keeps-coherent s (record s { posts = slice_set s.posts origin made.2 }) coherent (record {
+      limits = refl;
+      posts = posts-from s.limits.notes s.posts origin made.0 made.2 m.posts_there keeps (keeps-itself s coherent);
+      own = λ rank posts memory hp hm.
+          let before = own-from s.posts origin made.0 made.2 m.posts_there (rw m.is.leaves refl) rank posts hp in
+          before.2 ∙ coherent.own rank before.0 memory before.1 hm;
+      slots = coherent.slots;
+    }))
+steps-coherent s t (Put origin queue target number outcome) sound h =
+    let coherent = sound.coherent in
+    let made = sound-put s t origin queue target number outcome sound h in
+    let m = made.4 in
+    let tables = all_tables s.posts in
+    let keeps = put-keeps s.limits.notes tables made.0 made.1 origin queue target number outcome made.2 made.3 m.is (coherent.known origin made.0 m.posts_there) (coherent.entries origin made.0 m.posts_there) in
+    let kept = put-tables s.limits.notes origin target queue number made.0 made.1 outcome made.2 made.3 m.is in
+    rw m.leaves (keeps-coherent s (record s { posts = slice_set s.posts origin made.2.posts; memories = slice_set s.memories target made.2.memory }) coherent (record {
+      limits = refl;
+      posts = posts-from s.limits.notes s.posts origin made.0 made.2.posts m.posts_there keeps (keeps-itself s coherent);
+      own = changed-own s.posts s.memories s.limits.notes origin target made.0 made.2.posts made.1 made.2.memory coherent.own m.posts_there m.memory_there kept;
+      slots = changed-slots s.memories s.limits.notes target made.2.memory coherent.slots
+          (tables-slots s.limits.notes origin target made.0 made.2.posts made.1 made.2.memory kept (coherent.slots target made.1 m.memory_there));
+    }))

@@ -1,0 +1,293 @@
+-- Entries keep their ranges within their segments.
+use Rattle.std.proofs.Common.{◌≡◌, ℕ, zero, suc, ◌+◌, Bool, true, false, not, ◌==◌, nat_lt, List, [], ◌∷◌, ◌++◌, length, remove, Option, None, Some, Result, Ok, Err, refl, sym, ap, ◌∙◌, subst, arith, ◌⊎◌, inl, inr}
+use Rattle.std.specs.List.{slice_get, slice_set}
+use Rattle.std.proofs.lemmas.Bool.{leb-true, ltb-true, eqb-true}
+use Rattle.gaspi_types.specs.Lanes.{is_posted, is_posted_phase, posted_entries}
+use Rattle.gaspi_types.specs.Posts.{write_kinds, notify_kinds, write_notify_kinds}
+use Rattle.gaspi_types.specs.SegmentTables.{extent_in, known_extent}
+use Rattle.gaspi_types.specs.SegmentBytes.{is_transfer_size, is_within}
+use Rattle.gaspi_types.specs.declared.entries.Entry.{Entry}
+use Rattle.gaspi_types.specs.declared.segments.Extent.{Extent}
+use Rattle.gaspi_types.specs.declared.segments.SegmentTable.{SegmentTable}
+use Rattle.gaspi_types.specs.declared.entries.ByteRange.{ByteRange}
+use Rattle.gaspi_types.specs.declared.entries.Kind.{Kind}
+use Rattle.gaspi_types.specs.declared.entries.Kind.TheVariants as kinds_of
+use Rattle.gaspi_types.specs.declared.entries.Phase.{Phase}
+use Rattle.gaspi_types.specs.declared.entries.Phase.TheVariants as phases
+use Rattle.gaspi_types.specs.CallRows.{row_of}
+use Rattle.gaspi_types.specs.declared.call_rows.Posting.{Posting}
+use Rattle.gaspi_types.specs.declared.calls.Call.{Call}
+use Rattle.gaspi_types.specs.declared.calls.Call.TheVariants.{Write, Notify, WriteNotify}
+use Rattle.gaspi_types.specs.declared.calls.posts.Write as write
+use Rattle.gaspi_types.specs.declared.calls.posts.Notify as notify
+use Rattle.gaspi_types.specs.declared.calls.posts.WriteNotify as write_notify
+use Rattle.gaspi_types.specs.declared.shapes.Limits.{Limits}
+use Rattle.gaspi_types.specs.declared.replies.Refusal.{Refusal}
+use Rattle.gaspi_model.specs.Calls.{call_asks}
+use Rattle.gaspi_model.specs.Memories.{bytes_of}
+use Rattle.gaspi_types.specs.Segments.{bytes_in, extents_of}
+use Rattle.gaspi_model.specs.Posting.{with_post}
+use Rattle.gaspi_types.specs.Tables.{changed_at}
+use Rattle.gaspi_types.specs.Queues.{with_entries}
+use Rattle.gaspi_model.specs.Transfers.{taken_bytes}
+use Rattle.gaspi_model.specs.Coherence.{Tables, WasMade, AreMade, LiesInIfThere, HasSource, Fits, AllFit, Knows}
+use Rattle.gaspi_types.specs.declared.entries.Queue.{Queue}
+use Rattle.gaspi_model.specs.declared.states.Posts.{Posts}
+use Rattle.gaspi_model.specs.declared.states.Memory.{Memory}
+use Rattle.gaspi_types.proofs.Chains.{check_then, found_then, same_Ok}
+use Rattle.gaspi_types.proofs.Items.{slice_get-set, append-parts, remove-part}
+use Rattle.gaspi_types.proofs.Extents.{extent-at}
+use Rattle.gaspi_types.proofs.Written.{range_of-length, segment-behind}
+use Rattle.gaspi_model.proofs.FoundEntries.{with_phase}
+
+-- the entries of one lane fit
+abbrev pub LaneFits : ℕ → Tables → Tables → List Entry → Type 0
+LaneFits notes mine theirs lane = (place : ℕ) (e : Entry) → slice_get lane place ≡ Some e → Fits notes mine theirs e
+
+-- A lane that is changed.
+
+-- an entry in another phase, which has its source still
+phase-fits : (notes : ℕ) (mine theirs : Tables) (e : Entry) (phase : Phase) → ((own target : ByteRange) → e.kind ≡ kinds_of.Write own target → HasSource mine.own own e.phase → HasSource mine.own own phase)
+    → Fits notes mine theirs e → Fits notes mine theirs (record e { phase = phase })
+phase-fits notes mine theirs e phase source fits = go e.kind refl fits
+  where
+    go : (k : Kind) → e.kind ≡ k → Fits notes mine theirs (record { number = e.number; kind = k; phase = e.phase }) → Fits notes mine theirs (record e { phase = phase })
+    go (kinds_of.Write own target) is h = rw is (h.0, h.1, h.2, h.3, source own target is h.4)
+    go (kinds_of.Notify target value) is h = rw is h
+
+pub lane-phase : (notes : ℕ) (mine theirs : Tables) (lane : List Entry) (place : ℕ) (e : Entry) (phase : Phase) → slice_get lane place ≡ Some e
+    → ((own target : ByteRange) → e.kind ≡ kinds_of.Write own target → HasSource mine.own own e.phase → HasSource mine.own own phase)
+    → LaneFits notes mine theirs lane → LaneFits notes mine theirs (with_phase lane place e phase)
+lane-phase notes mine theirs lane place e phase at source all k x here = go (slice_get-set lane place k (record e { phase = phase }) x here)
+  where
+    go : ((k ≡ place) × (x ≡ record e { phase = phase })) ⊎ (slice_get lane k ≡ Some x) → Fits notes mine theirs x
+    go (inl is) = rw is.1 (phase-fits notes mine theirs e phase source (all place e at))
+    go (inr there) = all k x there
+
+pub lane-remove : (notes : ℕ) (mine theirs : Tables) (lane : List Entry) (place : ℕ) → LaneFits notes mine theirs lane → LaneFits notes mine theirs (remove lane place)
+lane-remove notes mine theirs lane place all k x here = let was = remove-part lane place k x here in all was.0 x was.1
+
+-- one lane of one queue replaced
+pub fits-lane : (notes : ℕ) (tables : List Tables) (origin : ℕ) (queues : List Queue) (changed : ℕ) (change : Queue → Queue) (q0 : Queue) (replaced : ℕ) (lane lane' : List Entry)
+    → slice_get queues changed ≡ Some q0 → slice_get q0.lanes replaced ≡ Some lane → (change q0).lanes ≡ slice_set q0.lanes replaced lane'
+    → ((mine theirs : Tables) → slice_get tables origin ≡ Some mine → slice_get tables replaced ≡ Some theirs → LaneFits notes mine theirs lane → LaneFits notes mine theirs lane')
+    → AllFit notes tables origin queues → AllFit notes tables origin (changed_at queues changed change)
+fits-lane notes tables origin queues changed change q0 replaced lane lane' at in_queue lanes keeps all queue q h target l here place e there mine theirs hm ht =
+    parts (slice_get-set queues changed queue (change q0) q (rw at at h))
+  where
+    in-lane : (t : ℕ) → slice_get tables t ≡ Some theirs → ((t ≡ replaced) × (l ≡ lane')) ⊎ (slice_get q0.lanes t ≡ Some l) → Fits notes mine theirs e
+    in-lane t ht (inl is) =
+        keeps mine theirs hm (subst (λ (k : ℕ). slice_get tables k ≡ Some theirs) is.0 ht)
+        (λ p x at_x. all changed q0 at replaced lane in_queue p x at_x mine theirs hm (subst (λ (k : ℕ). slice_get tables k ≡ Some theirs) is.0 ht))
+        place e (subst (λ (x : List Entry). slice_get x place ≡ Some e) is.1 there)
+    in-lane t ht (inr was) = all changed q0 at t l was place e there mine theirs hm ht
+
+    parts : ((queue ≡ changed) × (q ≡ change q0)) ⊎ (slice_get queues queue ≡ Some q) → Fits notes mine theirs e
+    parts (inl is) =
+        let new : slice_get (slice_set q0.lanes replaced lane') target ≡ Some l = rw (sym lanes) (subst (λ (x : Queue). slice_get x.lanes target ≡ Some l) is.1 here) in
+        in-lane target ht (slice_get-set q0.lanes replaced target lane' l new)
+    parts (inr was) = all queue q was target l here place e there mine theirs hm ht
+
+-- a queue changed, but not its lanes
+pub fits-queue : (notes : ℕ) (tables : List Tables) (origin : ℕ) (queues : List Queue) (changed : ℕ) (change : Queue → Queue) → ((q : Queue) → (change q).lanes ≡ q.lanes)
+    → AllFit notes tables origin queues → AllFit notes tables origin (changed_at queues changed change)
+fits-queue notes tables origin queues changed change lanes all queue q h target l here place e there mine theirs hm ht = go (slice_get queues changed) refl
+  where
+    parts : (x : Queue) → slice_get queues changed ≡ Some x → ((queue ≡ changed) × (q ≡ change x)) ⊎ (slice_get queues queue ≡ Some q) → Fits notes mine theirs e
+    parts x at (inl is) = all changed x at target l (rw (sym (lanes x)) (subst (λ (y : Queue). slice_get y.lanes target ≡ Some l) is.1 here)) place e there mine theirs hm ht
+    parts x at (inr was) = all queue q was target l here place e there mine theirs hm ht
+
+    go : (o : Option Queue) → slice_get queues changed ≡ o → Fits notes mine theirs e
+    go None at = all queue q (rw at at h) target l here place e there mine theirs hm ht
+    go (Some x) at = parts x at (slice_get-set queues changed queue (change x) q (rw at at h))
+
+-- the queue at a place changed, but not its lanes
+pub fits-alike : (notes : ℕ) (tables : List Tables) (origin : ℕ) (queues : List Queue) (changed : ℕ) (change : Queue → Queue) (q0 : Queue) → slice_get queues changed ≡ Some q0
+    → (change q0).lanes ≡ q0.lanes → AllFit notes tables origin queues → AllFit notes tables origin (changed_at queues changed change)
+fits-alike notes tables origin queues changed change q0 at lanes all queue q h target l here place e there mine theirs hm ht = parts (slice_get-set queues changed queue (change q0) q (rw at at h))
+  where
+    parts : ((queue ≡ changed) × (q ≡ change q0)) ⊎ (slice_get queues queue ≡ Some q) → Fits notes mine theirs e
+    parts (inl is) = all changed q0 at target l (rw (sym lanes) (subst (λ (y : Queue). slice_get y.lanes target ≡ Some l) is.1 here)) place e there mine theirs hm ht
+    parts (inr was) = all queue q was target l here place e there mine theirs hm ht
+
+-- The entries of a post fit.
+
+-- what a rank knows of a target's segment: its table's entry, of its own or of the others'
+pub known-cases : {P : Type 0} (me : ℕ) (segments : SegmentTable) (rank segment : ℕ) (x : Extent) → known_extent me segments rank segment ≡ Some x
+    → (rank ≡ me → extent_in segments.own segment ≡ Some x → P) → ((table : List (Option Extent)) → slice_get segments.known rank ≡ Some table → extent_in table segment ≡ Some x → P) → P
+known-cases {P} me segments rank segment x h mine others = go (rank == me) refl
+  where
+    in-table : (o : Option (List (Option Extent))) → slice_get segments.known rank ≡ o → (rank == me) ≡ false → P
+    in-table None at apart = absurd (let none : ◌≡◌ {A = Option Extent} None (Some x) = rw (apart, at) at h in let no : ⊥ = cc in no)
+    in-table (Some table) at apart = others table at (rw (apart, at) at h)
+
+    go : (b : Bool) → (rank == me) ≡ b → P
+    go true is = mine (eqb-true rank me is) (rw is at h)
+    go false is = in-table (slice_get segments.known rank) refl is
+
+-- the tables of a rank, and what it knows
+abbrev pub table_with : Tables → List (List (Option Extent)) → SegmentTable
+table_with mine known = record { own = mine.own; next_generations = mine.next; known = known }
+
+-- a rank whose tables are those of its posts, and that knows nothing that was not made
+pub record MayPost (tables : List Tables) (me : ℕ) (mine : Tables) (known : List (List (Option Extent))) : Type 0 where
+  pub here : slice_get tables me ≡ Some mine
+  pub knows : Knows tables known
+  pub made : AreMade mine
+
+-- what a rank knows of a target's segment was made
+known-made : (me : ℕ) (mine : Tables) (known : List (List (Option Extent))) (tables : List Tables) (rank segment : ℕ) (x : Extent) (theirs : Tables) → MayPost tables me mine known
+    → known_extent me (table_with mine known) rank segment ≡ Some x → slice_get tables rank ≡ Some theirs → WasMade theirs segment x.generation
+known-made me mine known tables rank segment x theirs may h ht =
+    known-cases me (table_with mine known) rank segment x h
+    (λ same at.
+    let same_table : mine ≡ theirs = (let some : ◌≡◌ {A = Option Tables} (Some mine) (Some theirs) = sym may.here ∙ rw (sym same) ht in cc) in
+    rw (sym same_table) (may.made segment x at))
+    (λ table at is. (may.knows rank table theirs at ht segment x is).0)
+
+-- a range that was checked against what its rank knows lies within the segment, where that is there
+known-lies : (me : ℕ) (mine : Tables) (known : List (List (Option Extent))) (tables : List Tables) (rank segment offset size : ℕ) (x : Extent) (theirs : Tables)
+    → MayPost tables me mine known → known_extent me (table_with mine known) rank segment ≡ Some x → is_within offset size x.size ≡ true → slice_get tables rank ≡ Some theirs
+    → LiesInIfThere theirs.own (record { segment = segment; generation = x.generation; offset = offset; size = size })
+known-lies me mine known tables rank segment offset size x theirs may h within ht y there generation =
+    known-cases me (table_with mine known) rank segment x h
+    (λ same at.
+    let same_table : mine ≡ theirs = (let some : ◌≡◌ {A = Option Tables} (Some mine) (Some theirs) = sym may.here ∙ rw (sym same) ht in cc) in
+    let at' : extent_in theirs.own segment ≡ Some x = rw (sym same_table) at in
+    let is : x ≡ y = (let some : ◌≡◌ {A = Option Extent} (Some x) (Some y) = sym at' ∙ there in cc) in
+    rw (sym is) within)
+    (λ table at is.
+    let size_is = (may.knows rank table theirs at ht segment x is).1 y there generation in
+    rw size_is within)
+
+-- the kinds of a post fit, as they are posted
+abbrev pub KindsFit : ℕ → Tables → Tables → List Kind → Type 0
+KindsFit notes mine theirs [] = Unit {0}
+KindsFit notes mine theirs (kind ∷ kinds) = ((n : ℕ) → Fits notes mine theirs (record { number = n; kind = kind; phase = phases.Posted })) × KindsFit notes mine theirs kinds
+
+posted-fit : (notes : ℕ) (mine theirs : Tables) (kinds : List Kind) (number place : ℕ) (e : Entry) → KindsFit notes mine theirs kinds
+    → slice_get (posted_entries number kinds) place ≡ Some e → Fits notes mine theirs e
+posted-fit notes mine theirs [] number place e fit at = absurd (let no : ⊥ = cc in no)
+posted-fit notes mine theirs (kind ∷ kinds) number zero e fit at =
+    let same : ◌≡◌ {A = Entry} (record { number = number; kind = kind; phase = phases.Posted }) e =
+    (let some : ◌≡◌ {A = Option Entry} (Some (record { number = number; kind = kind; phase = phases.Posted })) (Some e) = at in cc) in
+    rw (sym same) (fit.0 number)
+posted-fit notes mine theirs (kind ∷ kinds) number (suc place) e fit at = posted-fit notes mine theirs kinds (number + 1) place e fit.1 at
+
+write-fits : (notes me : ℕ) (own : Tables) (known : List (List (Option Extent))) (tables : List Tables) (call : write.Write) (kinds : List Kind) (theirs : Tables)
+    → MayPost tables me own known → slice_get tables call.rank ≡ Some theirs
+    → write_kinds me (table_with own known) call ≡ Ok kinds → KindsFit notes own theirs kinds
+write-fits notes me own known tables call kinds theirs may ht h =
+    found_then (extent_in own.own call.seg) _ _ kinds h (λ mine hmine h1.
+    found_then (known_extent me (table_with own known) call.rank call.rseg) _ _ kinds h1 (λ far hfar h2.
+    check_then (is_transfer_size call.size) _ _ kinds h2 (λ sized h3.
+    check_then (is_within call.offset call.size mine.size) _ _ kinds h3 (λ from h4.
+    check_then (is_within call.roffset call.size far.size) _ _ kinds h4 (λ to h5.
+    let is = same_Ok _ _ h5 in
+    rw (sym is) (
+      (λ n. (
+        refl,
+        known-cases me (table_with own known) call.rank call.rseg far hfar (λ same at. (extent-at own.own call.rseg far at).0) (λ table at inside. (extent-at table call.rseg far inside).0),
+        known-made me own known tables call.rank call.rseg far theirs may hfar ht,
+        known-lies me own known tables call.rank call.rseg call.roffset call.size far theirs may hfar to ht,
+        record { extent = mine; there = hmine; generation = refl; within = from },
+      )),
+      tt,
+    ))))))
+
+notify-fits : (notes me : ℕ) (own : Tables) (known : List (List (Option Extent))) (tables : List Tables) (call : notify.Notify) (kinds : List Kind) (theirs : Tables)
+    → MayPost tables me own known → slice_get tables call.rank ≡ Some theirs
+    → notify_kinds notes me (table_with own known) call ≡ Ok kinds → KindsFit notes own theirs kinds
+notify-fits notes me own known tables call kinds theirs may ht h =
+    found_then (known_extent me (table_with own known) call.rank call.rseg) _ _ kinds h (λ far hfar h1.
+    check_then (nat_lt call.note notes) _ _ kinds h1 (λ noted h2.
+    check_then (not (call.value == 0)) _ _ kinds h2 (λ valued h3.
+    let is = same_Ok _ _ h3 in
+    rw (sym is) ((λ n. (ltb-true call.note notes noted, known-made me own known tables call.rank call.rseg far theirs may hfar ht)), tt))))
+
+write_notify-fits : (notes me : ℕ) (own : Tables) (known : List (List (Option Extent))) (tables : List Tables) (call : write_notify.WriteNotify) (kinds : List Kind) (theirs : Tables)
+    → MayPost tables me own known → slice_get tables call.rank ≡ Some theirs
+    → write_notify_kinds notes me (table_with own known) call ≡ Ok kinds → KindsFit notes own theirs kinds
+write_notify-fits notes me own known tables call kinds theirs may ht h =
+    found_then (extent_in own.own call.seg) _ _ kinds h (λ mine hmine h1.
+    found_then (known_extent me (table_with own known) call.rank call.rseg) _ _ kinds h1 (λ far hfar h2.
+    check_then (is_transfer_size call.size) _ _ kinds h2 (λ sized h3.
+    check_then (is_within call.offset call.size mine.size) _ _ kinds h3 (λ from h4.
+    check_then (is_within call.roffset call.size far.size) _ _ kinds h4 (λ to h5.
+    check_then (nat_lt call.note notes) _ _ kinds h5 (λ noted h6.
+    check_then (not (call.value == 0)) _ _ kinds h6 (λ valued h7.
+    let is = same_Ok _ _ h7 in
+    rw (sym is) (
+      (λ n. (
+        refl,
+        known-cases me (table_with own known) call.rank call.rseg far hfar (λ same at. (extent-at own.own call.rseg far at).0) (λ table at inside. (extent-at table call.rseg far inside).0),
+        known-made me own known tables call.rank call.rseg far theirs may hfar ht,
+        known-lies me own known tables call.rank call.rseg call.roffset call.size far theirs may hfar to ht,
+        record { extent = mine; there = hmine; generation = refl; within = from },
+      )),
+      ((λ n. (ltb-true call.note notes noted, known-made me own known tables call.rank call.rseg far theirs may hfar ht)), tt),
+    ))))))))
+
+-- so do those that a call asks for
+pub asks-fit : (limits : Limits) (me : ℕ) (posts : Posts) (tables : List Tables) (own : Tables) (call : Call) (to : Posting) (kinds : List Kind) (theirs : Tables) → own.own ≡ posts.segments.own
+    → MayPost tables me own posts.segments.known → (row_of call).posting ≡ Some to → slice_get tables to.rank ≡ Some theirs → call_asks limits me posts call ≡ Ok kinds → KindsFit limits.notes own theirs kinds
+asks-fit limits me posts tables own (Write call) to kinds theirs same may is ht h =
+    let here : slice_get tables call.rank ≡ Some theirs = at-rank (record { entries = 1; rank = call.rank; queue = call.queue }) is in
+    write-fits limits.notes me own posts.segments.known tables call kinds theirs may here (subst (λ (o : List (Option Extent)). write_kinds me (record { own = o; next_generations = own.next; known = posts.segments.known }) call ≡ Ok kinds) (sym same) h)
+  where
+    at-rank : (p : Posting) → ◌≡◌ {A = Option Posting} (Some p) (Some to) → slice_get tables p.rank ≡ Some theirs
+    at-rank p some = let one : p ≡ to = cc in rw one ht
+asks-fit limits me posts tables own (Notify call) to kinds theirs same may is ht h =
+    let here : slice_get tables call.rank ≡ Some theirs = at-rank (record { entries = 1; rank = call.rank; queue = call.queue }) is in
+    notify-fits limits.notes me own posts.segments.known tables call kinds theirs may here (subst (λ (o : List (Option Extent)). notify_kinds limits.notes me (record { own = o; next_generations = own.next; known = posts.segments.known }) call ≡ Ok kinds) (sym same) h)
+  where
+    at-rank : (p : Posting) → ◌≡◌ {A = Option Posting} (Some p) (Some to) → slice_get tables p.rank ≡ Some theirs
+    at-rank p some = let one : p ≡ to = cc in rw one ht
+asks-fit limits me posts tables own (WriteNotify call) to kinds theirs same may is ht h =
+    let here : slice_get tables call.rank ≡ Some theirs = at-rank (record { entries = 2; rank = call.rank; queue = call.queue }) is in
+    write_notify-fits limits.notes me own posts.segments.known tables call kinds theirs may here (subst (λ (o : List (Option Extent)). write_notify_kinds limits.notes me (record { own = o; next_generations = own.next; known = posts.segments.known }) call ≡ Ok kinds) (sym same) h)
+  where
+    at-rank : (p : Posting) → ◌≡◌ {A = Option Posting} (Some p) (Some to) → slice_get tables p.rank ≡ Some theirs
+    at-rank p some = let one : p ≡ to = cc in rw one ht
+asks-fit limits me posts tables own other to kinds theirs same may is ht h = absurd (let no : ⊥ = cc in no)
+
+-- a lane with the entries of a post added
+pub fits-post : (notes : ℕ) (tables : List Tables) (me : ℕ) (posts : Posts) (queue rank : ℕ) (own : Tables) (asked : Result (List Kind) Refusal)
+    → slice_get tables me ≡ Some own → ((kinds : List Kind) (theirs : Tables) → asked ≡ Ok kinds → slice_get tables rank ≡ Some theirs → KindsFit notes own theirs kinds)
+    → AllFit notes tables me posts.queues → AllFit notes tables me (with_post posts queue rank asked).queues
+fits-post notes tables me posts queue rank own (Err refusal) hm fit all = all
+fits-post notes tables me posts queue rank own (Ok kinds) hm fit all = with-queue (slice_get posts.queues queue) refl
+  where
+    either : (mine theirs : Tables) (lane : List Entry) (e : Entry) → KindsFit notes mine theirs kinds → LaneFits notes mine theirs lane
+        → ((j : ℕ) × (slice_get lane j ≡ Some e)) ⊎ ((j : ℕ) × (slice_get (posted_entries posts.next kinds) j ≡ Some e)) → Fits notes mine theirs e
+    either mine theirs lane e new old (inl was) = old was.0 e was.1
+    either mine theirs lane e new old (inr now) = posted-fit notes mine theirs kinds posts.next now.0 e new now.1
+
+    with-lane : (q : Queue) → slice_get posts.queues queue ≡ Some q → (o : Option (List Entry)) → slice_get q.lanes rank ≡ o
+        → AllFit notes tables me (changed_at posts.queues queue (with_entries rank (posted_entries posts.next kinds)))
+    with-lane q at None none = fits-alike notes tables me posts.queues queue (with_entries rank (posted_entries posts.next kinds)) q at (rw none refl) all
+    with-lane q at (Some lane) some =
+        fits-lane notes tables me posts.queues queue (with_entries rank (posted_entries posts.next kinds)) q rank lane (lane ++ posted_entries posts.next kinds) at some (rw some refl)
+        (λ mine theirs hmine ht old place e there.
+        let same : own ≡ mine = (let both : ◌≡◌ {A = Option Tables} (Some own) (Some mine) = sym hm ∙ hmine in cc) in
+        either mine theirs lane e (rw (sym same) (fit kinds theirs refl ht)) old (append-parts lane (posted_entries posts.next kinds) place e there)) all
+
+    with-queue : (o : Option Queue) → slice_get posts.queues queue ≡ o → AllFit notes tables me (changed_at posts.queues queue (with_entries rank (posted_entries posts.next kinds)))
+    with-queue None none = rw none all
+    with-queue (Some q) at = with-lane q at (slice_get q.lanes rank) refl
+
+-- A write that takes its bytes takes as many as its range has.
+
+pub taken-source : (memory : Memory) (e : Entry) (own target : ByteRange) → is_posted e ≡ true → e.kind ≡ kinds_of.Write own target → HasSource (extents_of memory.segments) own e.phase
+    → HasSource (extents_of memory.segments) own (phases.Carried (taken_bytes memory e.kind))
+taken-source memory e own target posted is source = by-phase e.phase posted source
+  where
+    by-phase : (phase : Phase) → is_posted_phase phase ≡ true → HasSource (extents_of memory.segments) own phase → length (taken_bytes memory e.kind) ≡ own.size
+    by-phase phases.Posted h lies =
+        let behind = segment-behind memory.segments own.segment lies.extent lies.there in
+        let size : lies.extent.size ≡ length behind.0.bytes = ap (λ (x : Extent). x.size) (sym behind.2) in
+        let bytes : bytes_of memory own.segment ≡ behind.0.bytes = ap bytes_in behind.1 in
+        let within = leb-true (own.offset + own.size) lies.extent.size lies.within in
+        rw is (range_of-length (bytes_of memory own.segment) own.offset own.size (let same = ap length bytes in omega arith))
+    by-phase (phases.Carried bytes) h lies = absurd (let no : ⊥ = cc in no)
+    by-phase phases.Failed h lies = absurd (let no : ⊥ = cc in no)
