@@ -1,11 +1,12 @@
 //! Two ranks that post to one another: the smallest machine of a runtime's shape. Which shards a post has follows from the
 //! owner's part, and each rank has its part of the journal.
 
-ghost use Rattle.std.specs.Prelude.{◌≡◌, ℕ, zero, List, slice_get, Some};
+ghost use Rattle.std.specs.Prelude.{◌≡◌, ℕ, zero, List, [], ◌∷◌, slice_get, Some};
 ghost use Rattle.commit_table.specs.PartJournals.{cut};
 ghost use Rattle.commit_table.specs.Parts.{parts_of};
 ghost use Rattle.commit_table.specs.Ranks.{rank_parts, act_owner};
 ghost use Rattle.commit_table.specs.RankLaws.{noted_acts};
+ghost use Rattle.commit_table.specs.declared.ranks.Act.TheVariants.{Link, Post};
 
 use crate::sharded::Sharded;
 use std::collections::LinkedList;
@@ -54,9 +55,10 @@ impl Sharded for TwoRanks {
 }
 
 /// After a history the part of the journal that a rank has noted is the history cut by owner: all its own events, each with
-/// its place, and no others.
+/// its place, and no others. There are such histories: a rank links, and posts.
 pub fn parts_are_the_history()
-    ensures { (history : List Act) (parts : List RankPart) → parts_of rank_parts history ≡ Some parts
+    ensures parts { (history : List Act) (parts : List RankPart) → parts_of rank_parts history ≡ Some parts
         → (rank : ℕ) (first : RankPart) → slice_get rank_parts.first rank ≡ Some first
         → (part : RankPart) × (slice_get parts rank ≡ Some part) × (noted_acts part ≡ cut act_owner rank zero history) }
+    ensures some { (parts : List RankPart) × (parts_of rank_parts (Link 0 ∷ Post 0 ∷ []) ≡ Some parts) }
 {}

@@ -4,7 +4,7 @@ ghost use Rattle.std.specs.Prelude.{◌==◌, ◌≡◌, ◌≢◌, ℕ, ◌+◌
 ghost use Rattle.byteorder.specs.Endian.{little_bytes};
 ghost use Rattle.gaspi_types.specs.CallRows.{need_of, row_of};
 ghost use Rattle.gaspi_types.specs.declared.call_rows.Posting.{Posting};
-ghost use Rattle.gaspi_types.specs.Replies.{is_idle};
+ghost use Rattle.gaspi_types.specs.Replies.{is_idle, same_reply};
 ghost use Rattle.std.specs.List.{list_any, count_by};
 ghost use Rattle.gaspi_types.specs.World.{World, IsWorld, is_caller};
 ghost use Rattle.gaspi_types.specs.declared.calls.Call.{Call};
@@ -215,4 +215,11 @@ pub fn endings()
     ensures { (w : World) (history : List Event) (s : State) (rank thread : ℕ) → reached w history ≡ Ok s → is_active s rank thread ≡ true
         → (list_any (is_caller rank thread) w.callers ≡ true)
         × ((k : ℕ) (reply : Reply) → slice_get (own_calls rank thread history) k ≡ Some (End, reply) → ⊥) }
+{}
+
+/// An event stands in a history with the very reply that its call has: replies that compare as the same are equal, and each
+/// compares as the same as itself.
+pub fn replies()
+    ensures same { (a b : Reply) → same_reply a b ≡ true → a ≡ b }
+    ensures itself { (a : Reply) → same_reply a a ≡ true }
 {}

@@ -6,6 +6,6 @@ mod states;
 
 pub use laws::{
     changes, coarser_locality, corruption, enabled, endings, listing, locality, notification_order,
-    prefixes, settling, soundness,
+    prefixes, replies, settling, soundness,
 };
 pub use states::{Memory, Posts, Shard, State, StepFault, ThreadState, Why};

@@ -1,5 +1,5 @@
 -- What a look at a call finds, and what recording it leaves.
-use Rattle.std.specs.Prelude.{◌≡◌, ℕ, List, [], Option, None, Some, Result, Ok, Err, if◌then◌else◌, false}
+use Rattle.std.specs.Prelude.{◌≡◌, ℕ, List, [], Option, None, Some, Result, Ok, Err, if◌then◌else◌, true, false}
 use Rattle.gaspi_types.specs.CallRows.{row_of}
 use Rattle.gaspi_types.specs.Replies.{is_idle}
 use Rattle.gaspi_types.specs.declared.call_rows.Posting.{Posting}
@@ -39,16 +39,18 @@ abbrev pub Accepts : Result Kinds Refusal → Result (List Kind) Refusal → Res
 Accepts (Ok kinds) asked finds = (asked ≡ Ok (kinds_of kinds)) × (finds ≡ Ok (Some replies.Done))
 Accepts (Err refusal) asked finds = finds ≡ Err refusal
 
--- the look at a call that posts: what it answers, and what it asks for where it is no refusal
+-- the look at a call that posts: what it answers, and what it asks for where it is no refusal, else nothing
 pub record IsPostFinding (look : Finding) (asked : Result (List Kind) Refusal) (finds : Result (Option Reply) Refusal) : Type 0 where
   pub ready : look.ready ≡ ready_of finds
   pub kinds : is_idle (recorded_reply look.ready) ≡ false → asked ≡ Ok (kinds_of look.kinds)
+  pub nothing : is_idle (recorded_reply look.ready) ≡ true → kinds_of look.kinds ≡ []
 
 -- This is what a look at this call of this caller finds on these posts and this memory: what it answers, and, where it is
--- recorded neither as a refusal nor as a timeout, what it asks to be appended.
+-- recorded neither as a refusal nor as a timeout, what it asks to be appended; else nothing is to be.
 pub record IsFinding (look : Finding) (limits : Limits) (me : ℕ) (posts : Posts) (memory : Memory) (thread : ℕ) (call : Call) : Type 0 where
   pub ready : look.ready ≡ answer limits me posts memory thread call
   pub kinds : is_idle (recorded_reply look.ready) ≡ false → call_asks limits me posts call ≡ Ok (kinds_of look.kinds)
+  pub nothing : is_idle (recorded_reply look.ready) ≡ true → kinds_of look.kinds ≡ []
 
 -- What a call that found these kinds leaves in the posts of its rank: an accepted post appends them.
 abbrev pub found_done : Posts → ℕ → Call → List Kind → Posts
