@@ -1,16 +1,22 @@
 //! The program: the command's words are those after its name, and it reads standard input and writes standard output.
 #![tactic(auto)]
 
-ghost use Rattle.std.specs.Prelude.{◌≡◌, map, drop, IfOk, string_bytes};
+ghost use Rattle.std.specs.Prelude.{◌≡◌, map, drop, IfOk, None, Some, string_bytes};
 ghost use Rattle.std.specs.Process.{exit_status};
+ghost use Rattle.command_line.specs.Words.{command_of};
+ghost use Rattle.command_line.specs.declared.words.Command.{Command};
+ghost use Rattle.gaspi_run.specs.Command.{Refuses, Answers};
+ghost use Rattle.gaspi_run.specs.declared.commands.Answer.{Answer};
 
-use gaspi_io::{StdSink, StdSource};
+use gaspi_io::{Sink, Source, StdSink, StdSource};
 use gaspi_run::gaspirun;
 use std::alloc::{AllocError, Global};
 use std::env;
 use std::io::{self, ErrorKind};
 use std::process::ExitCode;
 use std::rt::Env;
+use std::sync::Wait;
+use std::thread::Threads;
 
 /// The status where there is no memory.
 const NO_MEMORY: u8 = 7;
@@ -59,15 +65,34 @@ fn exit_code(status: u8) -> ExitCode
     ExitCode::from(status)
 }
 
+/// The program on the words that it was given, its name first: what the command says of the others, and its status.
+fn run<R: Threads + Wait + Sync, S: Source, K: Sink>(
+    rt: &R,
+    alloc: Global,
+    given: &[String],
+    source: &mut S,
+    sink: &mut K,
+) -> ExitCode
+    ensures refused { command_of (map string_bytes (drop 1 given.now)) ≡ None
+        → (answer : Answer) × (exit_status result ≡ answer.status)
+        × Refuses (K.held sink.old) (K.held sink.new) (K.faults sink.old) (K.faults sink.new) answer × (source.new ≡ source.old) }
+    ensures answers { (command : Command) → command_of (map string_bytes (drop 1 given.now)) ≡ Some command
+        → (answer : Answer) × (exit_status result ≡ answer.status)
+        × Answers command (S.left source.old) (S.left source.new) (S.faults source.old) (S.faults source.new)
+        (K.held sink.old) (K.held sink.new) (K.faults sink.old) (K.faults sink.new) answer }
+{
+    let Ok(words) = after_name(alloc, given) else {
+        return exit_code(NO_MEMORY);
+    };
+    let answer = gaspirun(rt, alloc, words.as_slice(), source, sink);
+    exit_code(answer.status)
+}
+
 fn main(rt: HostRuntime) -> ExitCode {
     let Ok(given) = given_words(&rt) else {
         return exit_code(NO_MEMORY);
     };
-    let Ok(words) = after_name(rt.alloc(), given.as_slice()) else {
-        return exit_code(NO_MEMORY);
-    };
     let mut source = StdSource::new(rt.reader());
     let mut sink = StdSink::new(io::writer(&rt));
-    let answer = gaspirun(&rt, rt.alloc(), words.as_slice(), &mut source, &mut sink);
-    exit_code(answer.status)
+    run(&rt, rt.alloc(), given.as_slice(), &mut source, &mut sink)
 }

@@ -15,6 +15,11 @@ record-requires-clause-sound c = c.requires.ranks.sound _ _ c.at_mut.ensures.val
 pub record-requires-clause-taken : goal.record-requires-clause-taken
 record-requires-clause-taken c = mapped taken_of c.args.ranks.now.posts c.index-rank.result _ _ c.at_mut.ensures.value (rw c.requires.taken at c.at_mut-2.ensures.value)
 
+pub record-requires-clause-look : goal.record-requires-clause-look
+record-requires-clause-look c =
+    let there = rw c.index-rank.ensures.value at c.at_mut.ensures.value in
+    (c.requires.look _ there).finds
+
 pub returns-clause-step : goal.returns-clause-step
 returns-clause-step c =
     let there = rw c.index-rank.ensures.value at c.at_mut.ensures.value in
