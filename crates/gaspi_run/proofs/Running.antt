@@ -10,7 +10,7 @@ use Rattle.gaspi_types.specs.declared.shapes.CallerId.{CallerId}
 use Rattle.gaspi_types.specs.declared.calls.Call.{Call}
 use Rattle.gaspi_types.specs.declared.replies.Reply.{Reply}
 use Rattle.gaspi_types.specs.declared.events.Event.{Event}
-use Rattle.gaspi_types.specs.declared.events.Event.TheVariants.{Called, Take, Put}
+use Rattle.gaspi_types.specs.declared.events.Event.TheVariants.{Called}
 use Rattle.gaspi_model.specs.Step.{reached, room_taken, own_calls, is_active}
 use Rattle.gaspi_model.specs.declared.states.State.{State}
 use Rattle.gaspi_types.proofs.Items.{slice_get-set_same, slice_get-set_other}
