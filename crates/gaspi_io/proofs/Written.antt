@@ -2,7 +2,6 @@
 use Rattle.std.proofs.Common.{◌≡◌, ℕ, ◌+◌, ◌-◌, ◌≤◌, List, ◌++◌, length, take, drop, refl, ap, ◌∙◌, sym, Option, Some, None, append_assoc, length-drop, arith, inl, inr}
 use Rattle.std.proofs.Math.Seq.{take-add}
 use Rattle.std.proofs.lemmas.Grind.{common_steps}
-use Rattle.gaspi_io.specs.Faults.{HasCause}
 use Rattle.gaspi_io.specs.Sink.{with_more}
 
 -- where the loop stands: so many bytes of the piece were taken
@@ -20,11 +19,6 @@ with_more-none (Some held) piece = ap Some (grind (arith, common_steps))
 pub with_more-twice : (o : Option (List ℕ)) (a b : List ℕ) → with_more (with_more o a) b ≡ with_more o (a ++ b)
 with_more-twice None a b = refl
 with_more-twice (Some held) a b = ap Some (append_assoc held a b)
-
--- a cause later on is a cause from the start
-pub cause_later : (start before after : ℕ) → start ≤ before → HasCause before after → HasCause start after
-cause_later start before after earlier cause =
-    elim cause [ inl risen ↦ inl (omega arith) | inr last ↦ inr last ]
 
 -- after one more write
 pub wrote_more : (start : Option (List ℕ)) (faults : ℕ) (piece : List ℕ) (done : ℕ) (held : Option (List ℕ)) (now : ℕ) → Wrote start faults piece done held now → (rest : List ℕ) → rest ≡ drop done piece → (n : ℕ) → n ≤ length rest → (more : Option (List ℕ)) → more ≡ with_more held (take n rest) → (later : ℕ) → later ≡ now → Wrote start faults piece (done + n) more later

@@ -5,7 +5,7 @@ ghost use Rattle.gaspi_types.specs.declared.replies.Ready.TheVariants.{NotReady}
 ghost use Rattle.gaspi_model.specs.Calls.{recorded_reply};
 ghost use Rattle.gaspi_model.specs.Step.{transfer_event};
 ghost use Rattle.gaspi_model.specs.Transfers.{transfers};
-ghost use Rattle.gaspi_run.specs.Generator.{drawn};
+ghost use Rattle.gaspi_run.specs.Generator.{drawn, picked};
 ghost use Rattle.gaspi_run.specs.Schedule.{made, looks_of, recorded, looked, going_turn, ending_turn, caller_turn, candidate_turn, candidates, turn, AreDeclared};
 ghost use Rattle.plain_machine.specs.Looking.{IsFindingIn};
 ghost use Rattle.rank_script.specs.Runs.{advanced};
@@ -24,6 +24,19 @@ fn drawn(x: u32) -> u32
     ensures { result ≡ drawn x }
 {
     ((69069 * u64::from(x) + 1) % 4_294_967_296) as u32
+}
+
+/// The candidate that a draw picks, of so many callers that wait and so many transfers.
+fn picked(x: u32, waiting: usize, transfers: usize) -> usize
+    requires { 0 < waiting + transfers }
+    ensures { result ≡ picked x (waiting + transfers) }
+{
+    let draw = (x / 65536) as usize;
+    match waiting.checked_add(transfers) {
+        Some(count) => draw % count,
+        // There are more candidates than a draw can be.
+        None => draw,
+    }
 }
 
 /// How many looks a call may have.
@@ -215,12 +228,13 @@ pub fn turn(turns: &mut Turns, alloc: Global, limit: u32) -> Result<bool, NoMemo
     ensures over { result ≡ Ok false → (candidates turns.old ≡ 0) × (turns.new ≡ turns.old) }
     ensures turned { result ≡ Ok true → (0 < candidates turns.old) × (turns.new ≡ turn limit turns.old) }
 {
-    let count = turns.waiting.len() as u128 + turns.state.transfer_count() as u128;
-    if count == 0 {
+    let waiting = turns.waiting.len();
+    let transfers = turns.state.transfer_count();
+    if waiting == 0 && transfers == 0 {
         return Ok(false);
     }
     turns.x = drawn(turns.x);
-    let candidate = (u128::from(turns.x / 65536) % count) as usize;
+    let candidate = picked(turns.x, waiting, transfers);
     candidate_turn(turns, alloc, limit, candidate)?;
     Ok(true)
 }
