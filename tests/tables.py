@@ -1,5 +1,7 @@
 """The tables of tests/: their text becomes cases. docs/TESTS.md describes the tables."""
 
+from __future__ import annotations
+
 import os
 import re
 from collections.abc import Iterator
@@ -26,7 +28,7 @@ class Case:
     name: str
     words: list[bytes]
     source: bytes | Path  # standard input: its bytes, or what is opened for it
-    output: bytes | Path | None  # standard output: its bytes, what is opened for it and not compared, or any legal journal
+    output: bytes | Path | None  # its bytes, what is opened for it and not compared, or None: any legal journal
     status: int
     whole: bool = False  # whether it stands in full; such a case is run by the launcher
 
@@ -73,7 +75,7 @@ def parted(row: str) -> tuple[str, str]:
     before, colon, behind = row.partition(":")
     if not colon:
         raise Unreadable(f"no colon in {row}")
-    return before, behind.removeprefix(" ")
+    return before, behind[1:] if behind.startswith(" ") else behind
 
 
 class Table:
@@ -158,10 +160,11 @@ class Table:
 
     def part(self, wanted: str) -> str:
         """What stands behind the word of the next line that is no comment; it must be this word."""
-        found, line = self.next_word(), self.take()
-        if found != wanted:
-            raise Unreadable(f"wanted {wanted}, found {found}")
-        return line.removeprefix(wanted).removeprefix(" ")
+        self.next_word()
+        word, _, rest = self.take().partition(" ")
+        if word != wanted:
+            raise Unreadable(f"wanted {wanted}, found {word}")
+        return rest
 
     def case(self, name: str) -> Iterator[Case]:
         """Words, input, output and status; each further line of words is one more run."""
@@ -212,8 +215,10 @@ class Table:
                 yield self.script(world, script)
                 script = []
 
-    def calls(self, _nothing: str) -> Iterator[Case]:
+    def calls(self, behind: str) -> Iterator[Case]:
         """Rows of a world and one line, which is a script of its own."""
+        if behind:
+            raise Unreadable(f"unknown word {behind}")
         for row in self.rows():
             world, _, line = row.partition(" ")
             yield self.script(world, [line])
@@ -291,7 +296,8 @@ class Table:
 def read_tables(paths: list[Path]) -> tuple[list[Case], list[str]]:
     """The cases of all tables, and what is wrong with those that cannot be read."""
     cases: list[Case] = []
-    wrong, titles = [], set()
+    wrong: list[str] = []
+    titles: set[str] = set()
     for path in paths:
         table = Table(path, titles)
         try:
@@ -306,7 +312,7 @@ def read_tables(paths: list[Path]) -> tuple[list[Case], list[str]]:
 
 def stepped_worlds(cases: list[Case]) -> Iterator[Case]:
     """Each world that a case of `step` runs to an end, once for each seed."""
-    worlds = set()
+    worlds: set[bytes] = set()
     for case in cases:
         ends = case.words[:1] == [b"step"] and case.status in (0, 3, 8) and case.output is not None
         if ends and isinstance(case.source, bytes) and case.source not in worlds:
