@@ -1,23 +1,12 @@
-//! Whole runs of the command: texts in, and status and bytes out. All is in the tests.
+//! Whole runs of the command that no text of `tests/` can show, and the worked examples over the public call. All is in
+//! the tests.
 #![tactic(auto)]
 
 #[cfg(test)]
-mod cuts;
-#[cfg(test)]
-mod expectations;
+mod examples;
 #[cfg(test)]
 mod parts;
-#[cfg(test)]
-mod posts;
-#[cfg(test)]
-mod refusals;
 #[cfg(test)]
 mod running;
 #[cfg(test)]
 mod streams;
-#[cfg(test)]
-mod texts;
-#[cfg(test)]
-mod words;
-#[cfg(test)]
-mod worlds;

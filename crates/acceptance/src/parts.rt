@@ -2,8 +2,8 @@
 
 ghost use Rattle.gaspi_run.specs.Command.{HasLimit};
 
+use crate::examples::{TOLD, TWO_RANKS};
 use crate::running::{BRIEF, JOURNAL};
-use crate::worlds::{TOLD, TWO_RANKS};
 use command_line::Command;
 use gaspi_io::{SureSink, SureSource};
 use gaspi_run::{command, run_command, schedule, write_transcripts};

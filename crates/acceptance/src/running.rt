@@ -1,4 +1,5 @@
-//! Runs of the command, compared with what they must give.
+//! Runs of the command, compared with what they must give. A table of many cases is one text, since a proof goes over
+//! each row of a list, and over a text at once.
 
 use command_line::Command;
 use gaspi_io::{SureSink, SureSource};
@@ -6,13 +7,14 @@ use gaspi_run::gaspirun;
 use gaspi_types::{Bytes, NoMemory};
 use std::alloc::Global;
 use std::process::Abort;
+use std::string::String;
 use std::sync::Wait;
 use std::thread::Threads;
 
-/// The words of the command.
+/// The words of a run whose transcripts are written.
 pub const STEP: [&str; 2] = ["step", "--brief"];
 
-/// A run whose transcripts are written, with the seed and the limit that words without options have.
+/// What these words ask for.
 pub const BRIEF: Command = Command::Step {
     seed: 0,
     limit: 1_000_000,
@@ -50,13 +52,87 @@ pub fn words_run_to<R: Threads + Wait + Sync + Abort>(
     Ok(())
 }
 
-/// The same with the words `step --brief`.
-pub fn runs_to<R: Threads + Wait + Sync + Abort>(
+/// Asserts what is said of a world with a journal of so many events.
+fn is_judged<R: Threads + Wait + Sync + Abort>(
     rt: &R,
     alloc: Global,
-    text: &str,
-    status: u8,
-    output: &str,
+    world: &str,
+    events: &str,
+    count: usize,
+    verdict: &str,
 ) -> Result<(), NoMemory> {
-    words_run_to(rt, alloc, &STEP, text, status, output)
+    let text = format!(in alloc; "{world}journal 1\n{events}end {count}\n")?;
+    let output = format!(in alloc; "{verdict}\n")?;
+    let status = if verdict.starts_with("legal") { 0 } else { 4 };
+    words_run_to(
+        rt,
+        alloc,
+        &["check"],
+        text.as_str(),
+        status,
+        output.as_str(),
+    )
+}
+
+/// Judges the journals of a table over one world. A journal is a block of lines, and an empty line parts two blocks. A
+/// line is an event; its place is how many events stand before it. The line `not EVENT: WHY` is no part of the journal:
+/// the events before it, and then this one, are `illegal` at its place, and WHY is the cause. The whole is `legal`. A
+/// line that begins with `#` is a comment.
+pub fn journals_are_judged<R: Threads + Wait + Sync + Abort>(
+    rt: &R,
+    alloc: Global,
+    world: &str,
+    table: &str,
+) -> Result<(), NoMemory> {
+    for block in table.split("\n\n") {
+        let mut events = String::new(alloc);
+        let mut place = 0_usize;
+        for line in block.lines() {
+            let next = place.saturating_add(1);
+            if line.starts_with('#') {
+                continue;
+            }
+            if let Some(tried) = line.strip_prefix("not ") {
+                let (event, why) = tried.rsplit_once(": ").expect(rt, "an event and a cause");
+                let text = format!(in alloc; "{events}{place} {event}\n")?;
+                let verdict = format!(in alloc; "illegal {place} {why}")?;
+                is_judged(rt, alloc, world, text.as_str(), next, verdict.as_str())?;
+            } else {
+                events = format!(in alloc; "{events}{place} {line}\n")?;
+                place = next;
+            }
+        }
+        let verdict = format!(in alloc; "legal {place}")?;
+        is_judged(rt, alloc, world, events.as_str(), place, verdict.as_str())?;
+    }
+    Ok(())
+}
+
+/// Runs the calls of a table. A block is the script of a world's one caller, which is 0.0, and begins in line `first`.
+/// Each of its lines is a call, ` -> ` and the reply that it has. The caller ends. A line that begins with `#` is a
+/// comment, and has no line in the script.
+pub fn calls_are_told<R: Threads + Wait + Sync + Abort>(
+    rt: &R,
+    alloc: Global,
+    world: &str,
+    first: usize,
+    table: &str,
+) -> Result<(), NoMemory> {
+    for block in table.split("\n\n") {
+        let mut script = String::new(alloc);
+        let mut told = String::new(alloc);
+        let mut number = first;
+        for line in block.lines() {
+            if !line.starts_with('#') {
+                let (call, reply) = line.split_once(" -> ").expect(rt, "a call and its reply");
+                script = format!(in alloc; "{script}{call}\n")?;
+                told = format!(in alloc; "{told}0.0 {number} {reply}\n")?;
+                number = number.saturating_add(1);
+            }
+        }
+        told = format!(in alloc; "{told}0.0 ended\n")?;
+        let text = format!(in alloc; "{world}{script}")?;
+        words_run_to(rt, alloc, &STEP, text.as_str(), 0, told.as_str())?;
+    }
+    Ok(())
 }

@@ -2,8 +2,8 @@
 
 ghost use Rattle.std.specs.Prelude.{◌<◌};
 
+use crate::examples::{TOLD, TWO_RANKS};
 use crate::running::STEP;
-use crate::worlds::{TOLD, TWO_RANKS};
 use gaspi_io::{MemSink, MemSource, SureSink, SureSource};
 use gaspi_run::gaspirun;
 use gaspi_types::{Bytes, NoMemory, Rows};

@@ -1,0 +1,171 @@
+//! The worked examples of the rules, over the public call.
+
+use crate::running::{STEP, calls_are_told, journals_are_judged, words_run_to};
+use gaspi_io::{SureSink, SureSource};
+use gaspi_run::gaspirun;
+use gaspi_types::Bytes;
+use std::test::Fail;
+
+/// Two ranks: the one writes two bytes into the other's segment with a notification, for which the other waits.
+pub const TWO_RANKS: &str = "world 2 1 4 8 4 1000\nsegment 0 0 16\nsegment 1 0 16\n\
+rank 0 thread 0\nstore 0 0 0102\nwrite_notify 0 0 1 0 4 2 3 7 0\nwait 0 block\n\
+rank 1 thread 0\nwaitsome 0 0 8 block\nreset 0 3\nload 0 4 2\n";
+
+/// What they are told.
+pub const TOLD: &str = "0.0 5 done\n0.0 6 done\n0.0 7 done\n0.0 ended\n\
+1.0 9 id 3\n1.0 10 value 7\n1.0 11 bytes 0102\n1.0 ended\n";
+
+// The slot is free once it was reset, an empty input has no world line, and a rank may notify itself.
+#[test]
+fn worlds_are_stepped(rt: HostRuntime) -> Result<(), Fail> {
+    let alloc = rt.alloc();
+    words_run_to(&rt, alloc, &STEP, TWO_RANKS, 0, TOLD)?;
+    let text = format!(in alloc; "{TWO_RANKS}reset 0 3\n")?;
+    let output = "0.0 5 done\n0.0 6 done\n0.0 7 done\n0.0 ended\n\
+1.0 9 id 3\n1.0 10 value 7\n1.0 11 bytes 0102\n1.0 12 value 0\n1.0 ended\n";
+    words_run_to(&rt, alloc, &STEP, text.as_str(), 0, output)?;
+    words_run_to(&rt, alloc, &STEP, "", 2, "fault S1 line 1\n")?;
+    let text = "world 1 1 1 1 1 20\nsegment 0 0 8\nrank 0 thread 0\nnotify 0 0 0 5 0\n\
+waitsome 0 0 1 block\nreset 0 0\n";
+    let output =
+        "journal 1\n0 called 0.0 notify 0 0 0 5 0 -> done\n1 take 0 0 0 0 ok\n2 put 0 0 0 0 ok\n\
+3 called 0.0 waitsome 0 0 1 -> id 0\n4 called 0.0 reset 0 0 -> value 5\n5 called 0.0 end -> done\nend 6\n";
+    words_run_to(&rt, alloc, &["step"], text, 0, output)?;
+    Ok(())
+}
+
+/// Two threads of a rank reset the slot of one notification, of which the one tells the other.
+const TWO_RESETS: &str = "world 2 1 4 8 4 1000\nsegment 0 0 16\nsegment 1 0 16\n\
+rank 0 thread 0\nnotify 0 1 3 7 0\n\
+rank 1 thread 0\nwaitsome 0 3 1 block\nnotify 0 1 4 1 0\nreset 0 3\n\
+rank 1 thread 1\nwaitsome 0 4 1 block\nreset 0 3\n";
+
+/// What is told where the first of them finds the value, and where the second does.
+const FIRST_FINDS: &str =
+    "0.0 5 done\n0.0 ended\n1.0 7 id 3\n1.0 8 done\n1.0 9 value 7\n1.0 ended\n\
+1.1 11 id 4\n1.1 12 value 0\n1.1 ended\n";
+
+const SECOND_FINDS: &str =
+    "0.0 5 done\n0.0 ended\n1.0 7 id 3\n1.0 8 done\n1.0 9 value 0\n1.0 ended\n\
+1.1 11 id 4\n1.1 12 value 7\n1.1 ended\n";
+
+#[test]
+fn one_of_two_resets_finds_the_value(rt: HostRuntime) -> Result<(), Fail> {
+    let alloc = rt.alloc();
+    for seed in ["0", "1", "2", "77", "65536", "4294967295"] {
+        let mut source = SureSource::new(Bytes::copied_from(alloc, TWO_RESETS.as_bytes())?);
+        let mut sink = SureSink::with_room(alloc, 4096)?;
+        let words = ["step", "--brief", "--seed", seed];
+        let answer = gaspirun(&rt, alloc, &words, &mut source, &mut sink);
+        assert_eq!(rt; answer.status, 0, "seed {seed}");
+        let first = sink.bytes() == FIRST_FINDS.as_bytes();
+        let second = sink.bytes() == SECOND_FINDS.as_bytes();
+        assert!(rt; first || second, "seed {seed}");
+    }
+    Ok(())
+}
+
+/// Two ranks with a segment of 16 bytes each, and rank 0's first thread; its calls begin in line 5.
+const ONE_CALLER: &str = "world 2 1 4 8 4 1000\nsegment 0 0 16\nsegment 1 0 16\nrank 0 thread 0\n";
+
+/// Scripts of that caller.
+const SCRIPTS: &str = "\
+# A slot on which nothing stands.
+reset 0 3 -> value 0
+
+# The target's range: its last bytes, one byte too far, and far away. Nothing is no size.
+write 0 0 1 0 12 4 0 -> done
+write 0 0 1 0 13 4 0 -> refused 5 16
+write 0 0 1 0 18446744073709551615 1 0 -> refused 5 16
+write 0 0 1 0 0 0 0 -> refused 6
+
+# The queue is full after four entries, and a wait makes room.
+notify 0 1 0 1 0 -> done
+notify 0 1 1 1 0 -> done
+notify 0 1 2 1 0 -> done
+notify 0 1 3 1 0 -> done
+notify 0 1 4 1 0 -> refused 8 4 1
+wait 0 block -> done
+notify 0 1 4 1 0 -> done
+
+# The slot comes before the value.
+notify 0 1 0 0 0 -> refused 11
+notify 0 1 8 1 0 -> refused 10
+notify 0 1 8 0 0 -> refused 10
+
+# Words are little-endian, and sums wrap. A word is swapped where it is the expected one.
+store 0 8 0200000000000000 -> done
+fetch_add 0 8 0 18446744073709551615 -> value 2
+load 0 8 8 -> bytes 0100000000000000
+fetch_add 0 4 0 1 -> refused 12
+compare_swap 0 8 0 5 9 -> value 1
+load 0 8 8 -> bytes 0100000000000000";
+
+/// As `ONE_CALLER`, but each segment has as many bytes as one transfer may have.
+const FULL: &str = "world 2 1 4 8 4 1000\nsegment 0 0 65536\nsegment 1 0 65536\nrank 0 thread 0\n";
+
+/// A script of its caller: the size comes before the range.
+const LARGEST: &str = "write 0 0 1 0 0 65536 0 -> done\nwrite 0 0 1 0 0 65537 0 -> refused 6";
+
+#[test]
+fn scripts_are_told(rt: HostRuntime) -> Result<(), Fail> {
+    let alloc = rt.alloc();
+    calls_are_told(&rt, alloc, ONE_CALLER, 5, SCRIPTS)?;
+    calls_are_told(&rt, alloc, FULL, 5, LARGEST)?;
+    Ok(())
+}
+
+/// Two ranks with a segment of 16 bytes and one caller each.
+const TWO_CALLERS: &str =
+    "world 2 1 4 8 4 1000\nsegment 0 0 16\nsegment 1 0 16\nrank 0 thread 0\nrank 1 thread 0\n";
+
+/// Their journals.
+const JOURNALS: &str = "\
+# A write takes the bytes that its source has at the take, and a wait is not done before.
+called 0.0 store 0 0 01 -> done
+called 0.0 write 0 0 1 0 0 1 0 -> done
+not called 0.0 wait 0 -> done: reply
+take 0 0 1 0 ok
+called 0.0 store 0 0 02 -> done
+put 0 0 1 0 ok
+called 1.0 load 0 0 1 -> bytes 01
+
+called 0.0 store 0 0 01 -> done
+called 0.0 write 0 0 1 0 0 1 0 -> done
+called 0.0 store 0 0 02 -> done
+take 0 0 1 0 ok
+put 0 0 1 0 ok
+called 1.0 load 0 0 1 -> bytes 02
+
+# A notification is not put before an earlier write of its lane.
+called 0.0 write_notify 0 0 1 0 4 2 3 7 0 -> done
+take 0 0 1 0 ok
+take 0 0 1 1 ok
+not put 0 0 1 1 ok: put
+
+# Where the target's segment is gone the put fails, and the queue is broken with that target.
+called 0.0 write_notify 0 0 1 0 4 2 3 7 0 -> done
+called 1.0 delete 0 -> done
+take 0 0 1 0 ok
+put 0 0 1 0 failed
+not take 0 0 1 1 ok: take
+called 0.0 wait 0 -> refused 9 1";
+
+/// As `TWO_CALLERS`, with two queues.
+const TWO_QUEUES: &str =
+    "world 2 2 4 8 4 1000\nsegment 0 0 16\nsegment 1 0 16\nrank 0 thread 0\nrank 1 thread 0\n";
+
+/// A journal over it: a write of another queue may be put later than a notification.
+const OTHER_QUEUE: &str = "\
+called 0.0 write 0 0 1 0 4 2 0 -> done
+called 0.0 notify 0 1 3 7 1 -> done
+take 0 1 1 1 ok
+put 0 1 1 1 ok";
+
+#[test]
+fn journals_have_their_verdicts(rt: HostRuntime) -> Result<(), Fail> {
+    let alloc = rt.alloc();
+    journals_are_judged(&rt, alloc, TWO_CALLERS, JOURNALS)?;
+    journals_are_judged(&rt, alloc, TWO_QUEUES, OTHER_QUEUE)?;
+    Ok(())
+}
