@@ -1,7 +1,5 @@
 -- The length of a post.
-use Rattle.std.proofs.Common.{◌≡◌, ℕ, suc, ◌+◌, List, [], ◌∷◌, Some, length, slice_get, slice_set, set, sym, ap, ◌∙◌, refl}
-use Rattle.std.proofs.lemmas.List.{set-get_or}
-use Rattle.std.proofs.lemmas.Option.{get_or_from_slice_get}
+use Rattle.std.proofs.Common.{◌≡◌, ℕ, suc, ◌+◌, List, [], ◌∷◌, length, ap, refl}
 use Rattle.gaspi_types.specs.Lanes.{posted_entries}
 use Rattle.gaspi_types.specs.declared.entries.Kind.{Kind}
 use Rattle.gaspi_types.proofs.Items.{set-there}
