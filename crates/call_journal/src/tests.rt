@@ -175,3 +175,13 @@ fn journals_are_judged(rt: HostRuntime) -> Result<(), Fail> {
         },
     )
 }
+
+#[test]
+fn faults_have_texts(rt: HostRuntime) -> Result<(), Fail> {
+    let alloc = rt.alloc();
+    let at = JournalFault::At { line: 7 };
+    assert_eq!(rt; format!(in alloc; "{at}")?.as_str(), "not a journal 7");
+    let memory = JournalFault::NoMemory;
+    assert_eq!(rt; format!(in alloc; "{memory}")?.as_str(), "out of memory");
+    Ok(())
+}

@@ -203,3 +203,99 @@ fn streams_of_the_system_are_a_source_and_a_sink(rt: HostRuntime) -> Result<(), 
     assert_eq!(rt; sink.write(TEXT), Err(Failed));
     Ok(())
 }
+
+// Two bytes a call: the fourth read finds the end, and the third write takes the last byte.
+#[test]
+fn nothing_is_called_after_the_end(rt: HostRuntime) -> Result<(), Fail> {
+    let alloc = rt.alloc();
+    let mut source = source_of(alloc, TEXT, 2)?;
+    source.set_failing(Rows::copied_from(alloc, &[4])?);
+    let bytes = read_all(alloc, &mut source, 5)?;
+    assert_eq!(rt; bytes.as_slice(), TEXT.as_slice());
+    assert_eq!(rt; source.faults(), 0);
+
+    let mut sink = MemSink::new(alloc);
+    sink.set_piece(2);
+    sink.set_failing(Rows::copied_from(alloc, &[3])?);
+    write_all(&mut sink, TEXT)?;
+    assert_eq!(rt; sink.faults(), 0);
+    Ok(())
+}
+
+/// A stream that signals interrupt so often before a byte passes.
+#[derive(Drop)]
+struct Late {
+    interruptions: u8,
+}
+
+impl Late {
+    fn pass(&mut self) -> io::Result<()> {
+        match self.interruptions.checked_sub(1) {
+            Some(left) => {
+                self.interruptions = left;
+                Err(io::Error::from(ErrorKind::Interrupted))
+            }
+            None => Ok(()),
+        }
+    }
+}
+
+impl Read for Late {
+    fn read(&mut self, buf: &mut [u8]) -> io::Result<usize> {
+        self.pass()?;
+        if buf.is_empty() {
+            return Ok(0);
+        }
+        buf[0] = b'g';
+        Ok(1)
+    }
+}
+
+impl Write for Late {
+    fn write(&mut self, piece: &[u8]) -> io::Result<usize> {
+        self.pass()?;
+        Ok(piece.len().min(1))
+    }
+
+    fn flush(&mut self) -> io::Result<()> {
+        Ok(())
+    }
+}
+
+#[test]
+fn interrupted_calls_are_made_64_times(rt: HostRuntime) {
+    let mut buf = [0; 1];
+    let late = |interruptions| Late { interruptions };
+    assert_eq!(rt; StdSource::new(late(63)).read(&mut buf), Ok(1));
+    assert_eq!(rt; StdSource::new(late(64)).read(&mut buf), Err(Failed));
+    assert_eq!(rt; StdSink::new(late(63)).write(TEXT), Ok(1));
+    assert_eq!(rt; StdSink::new(late(64)).write(TEXT), Err(Failed));
+}
+
+/// A writer that takes nothing when it is first asked, and a byte each time after.
+#[derive(Drop)]
+struct Slow {
+    asked: bool,
+}
+
+impl Write for Slow {
+    fn write(&mut self, piece: &[u8]) -> io::Result<usize> {
+        if !self.asked {
+            self.asked = true;
+            return Ok(0);
+        }
+        Ok(piece.len().min(1))
+    }
+
+    fn flush(&mut self) -> io::Result<()> {
+        Ok(())
+    }
+}
+
+#[test]
+fn a_writer_that_takes_nothing_is_asked_once(rt: HostRuntime) {
+    assert_eq!(rt;
+        StdSink::new(Slow { asked: false }).write(TEXT),
+        Err(Failed)
+    );
+}

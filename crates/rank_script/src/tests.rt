@@ -216,3 +216,16 @@ fn journals_are_found(rt: HostRuntime) {
         assert_eq!(rt; split_input(text), place);
     }
 }
+
+#[test]
+fn faults_have_texts(rt: HostRuntime) -> Result<(), Fail> {
+    let alloc = rt.alloc();
+    let at = ScriptFault::At {
+        number: 5,
+        line: 12,
+    };
+    assert_eq!(rt; format!(in alloc; "{at}")?.as_str(), "fault S5 line 12");
+    let memory = ScriptFault::NoMemory;
+    assert_eq!(rt; format!(in alloc; "{memory}")?.as_str(), "out of memory");
+    Ok(())
+}
