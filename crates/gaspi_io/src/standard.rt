@@ -49,7 +49,7 @@ impl<R: Read + Drop> Source for StdSource<R> {
 
     ghost faults = { λ s. s.faults };
 
-    /// One read of the system. A read that a signal interrupts is made again, up to 64 times.
+    /// One read of the system. A read that a signal interrupts is made again, 64 times at most in all.
     fn read(&mut self, buf: &mut [u8]) -> Result<usize, Failed>
         ensures count { IfOk result (λ n. n ≤ length buf.old) }
 
@@ -127,7 +127,7 @@ impl<W: Write + Drop> Sink for StdSink<W> {
 
     ghost faults = { λ s. s.faults };
 
-    /// One write of the system. A write that a signal interrupts is made again, up to 64 times, and one that takes
+    /// One write of the system. A write that a signal interrupts is made again, 64 times at most in all, and one that takes
     /// nothing of a piece that isn't empty is a fault. For an empty piece there is no write.
     fn write(&mut self, piece: &[u8]) -> Result<usize, Failed>
         ensures count { IfOk result (λ n. n ≤ length piece.now) }
