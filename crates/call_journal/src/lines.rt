@@ -8,7 +8,7 @@ ghost use Rattle.gaspi_texts.specs.EventText.{IsInEventRange};
 ghost use Rattle.gaspi_texts.specs.Lines.{fed_lines};
 ghost use Rattle.call_journal.specs.JournalText.{event_line, end_line};
 
-use gaspi_texts::{read_event_with, write_number};
+use gaspi_texts::{Scratch, read_event_with, write_number};
 use gaspi_types::{Bytes, Event, NoMemory};
 use std::alloc::Global;
 
@@ -51,19 +51,20 @@ pub(crate) fn is_end_line(scratch: &mut Bytes, line: &[u8], count: u64) -> Resul
     Ok(number == scratch.as_slice())
 }
 
-/// The event of a line, where it is the line of an event at that place. The scratch text is written over.
-pub(crate) fn read_event_line(
+/// The event of a line, where it is the line of an event at that place. The number's text is written over.
+pub(crate) fn read_event_line<'a>(
     alloc: Global,
-    scratch: &mut Bytes,
-    line: &[u8],
+    scratch: &mut Scratch<'a>,
+    number: &mut Bytes,
+    line: &'a [u8],
     place: u64,
 ) -> Result<Option<Event>, NoMemory>
     ensures { IfOk result (λ found. MatchOption found
         ((event : Event) → IsInEventRange event → line.now ≢ event_line place event)
         (λ event. IsInEventRange event × (line.now ≡ event_line place event))) }
 {
-    set_number(scratch, place, b" ")?;
-    let Some(behind) = line.strip_prefix(scratch.as_slice()) else {
+    set_number(number, place, b" ")?;
+    let Some(behind) = line.strip_prefix(number.as_slice()) else {
         return Ok(None);
     };
     let Some(text) = behind.strip_suffix(b"\n") else {

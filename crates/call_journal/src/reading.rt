@@ -6,7 +6,7 @@ ghost use Rattle.call_journal.specs.declared.reading.JournalFault.TheVariants as
 
 use crate::Journal;
 use crate::lines::{first_line, is_end_line, read_event_line};
-use gaspi_texts::events_have_no_line_feed;
+use gaspi_texts::{Scratch, events_have_no_line_feed};
 use gaspi_types::{Bytes, NoMemory, Rows};
 use std::alloc::Global;
 use thiserror::Error;
@@ -41,17 +41,18 @@ pub fn read(alloc: Global, text: &[u8]) -> Result<Journal, JournalFault>
         return Err(JournalFault::At { line: 1 });
     };
     let mut journal: Journal = Rows::new(alloc);
-    let mut scratch = Bytes::new(alloc);
+    let mut scratch = Scratch::new(alloc);
+    let mut number = Bytes::new(alloc);
     while !rest.is_empty() {
         let (line, later) = first_line(rest);
         let place = journal.len() as u64;
-        if is_end_line(&mut scratch, line, place)? {
+        if is_end_line(&mut number, line, place)? {
             if later.is_empty() {
                 return Ok(journal);
             }
             return Err(JournalFault::At { line: place + 3 });
         }
-        let Some(event) = read_event_line(alloc, &mut scratch, line, place)? else {
+        let Some(event) = read_event_line(alloc, &mut scratch, &mut number, line, place)? else {
             return Err(JournalFault::At { line: place + 2 });
         };
         journal.push(event)?;

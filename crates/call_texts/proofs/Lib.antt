@@ -3,6 +3,7 @@ pub mod FormWords
 pub mod HexWords
 pub mod JoinedWords
 pub mod NumberWords
+pub mod Pieces
 pub mod PlainWords
 pub mod WordRanges
 pub mod WordTexts

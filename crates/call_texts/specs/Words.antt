@@ -1,5 +1,5 @@
 -- The words of a text.
-use Rattle.std.specs.Prelude.{◌≡◌, ◌<◌, false, ℕ, Bool, List, ◌||◌, ◌==◌, length, filter, not}
+use Rattle.std.specs.Prelude.{◌≡◌, ◌<◌, false, ℕ, Bool, List, ◌||◌, ◌==◌, [], ◌∷◌, length, filter, not, if◌then◌else◌}
 use Rattle.std.specs.Char.{is_ascii_digit, is_ascii_lowercase}
 use Rattle.std.specs.List.{slice_split, All, AllPass}
 
@@ -11,6 +11,10 @@ is_blank byte = (byte == 32) || (byte == 9)
 -- anything stands there
 unfoldable pub words_of : List ℕ → List (List ℕ)
 words_of text = filter (λ word. not (length word == 0)) (slice_split is_blank text)
+
+-- the word that stands between one blank and the next, if any does
+abbrev pub words_in_piece : List ℕ → List (List ℕ)
+words_in_piece piece = if length piece == 0 then [] else piece ∷ []
 
 -- what can stand as a word
 pub record IsWord (word : List ℕ) : Type 0 where

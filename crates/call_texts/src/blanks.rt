@@ -1,7 +1,7 @@
 //! The words of a text.
 
-ghost use Rattle.std.specs.Prelude.{◌≡◌, map, IfOk};
-ghost use Rattle.call_texts.specs.Words.{is_blank, words_of};
+ghost use Rattle.std.specs.Prelude.{◌≡◌, ◌<◌, ◌++◌, length, map, position, IfOk, IfSome, MatchOption, OnOk};
+ghost use Rattle.call_texts.specs.Words.{is_blank, words_of, words_in_piece};
 
 use gaspi_types::NoMemory;
 use std::alloc::Global;
@@ -13,14 +13,53 @@ fn is_blank(byte: u8) -> bool
     byte == b' ' || byte == b'\t'
 }
 
+/// The place of the first blank.
+fn blank_in(text: &[u8]) -> Option<usize>
+    ensures place { result ≡ position is_blank text.now }
+    ensures bound { IfSome result (λ place. place < length text.now) }
+{
+    text.iter().position(|byte| is_blank(*byte))
+}
+
+/// What stands before the first blank of a text, and the text behind that blank.
+fn first_piece(text: &[u8]) -> Option<(&[u8], &[u8])>
+    ensures words { MatchOption result (words_of text.now ≡ words_in_piece text.now)
+        (λ parts. words_of text.now ≡ words_in_piece parts.0.now ++ words_of parts.1.now) }
+    ensures shorter { IfSome result (λ parts. length parts.1.now < length text.now) }
+{
+    let end = blank_in(text)?;
+    Some((&text[..end], &text[end + 1..]))
+}
+
+/// Adds what stands between two blanks to the words: a word, where anything stands there.
+fn push_piece<'a>(list: &mut Vec<&'a [u8]>, piece: &'a [u8]) -> Result<(), NoMemory>
+    ensures { OnOk result (map (λ word. word.now) list.new.items ≡ map (λ word. word.now) list.old.items ++ words_in_piece piece.now) }
+{
+    if !piece.is_empty() {
+        list.push(piece)?;
+    }
+    Ok(())
+}
+
+/// Puts the words of a text into a list, in their order and in place of what it held: the longest runs of bytes other
+/// than spaces and tabs. A list that had room for as many words takes no memory.
+pub fn set_words<'a>(list: &mut Vec<&'a [u8]>, text: &'a [u8]) -> Result<(), NoMemory>
+    ensures { OnOk result (map (λ word. word.now) list.new.items ≡ words_of text.now) }
+{
+    list.clear();
+    let mut rest = text;
+    while let Some((piece, later)) = first_piece(rest) {
+        push_piece(list, piece)?;
+        rest = later;
+    }
+    push_piece(list, rest)
+}
+
 /// The words of a text, in their order: the longest runs of bytes other than spaces and tabs.
-#[tactic(auto, unfolding(crate::specs::Words::words_of))]
 pub fn words(alloc: Global, text: &[u8]) -> Result<Vec<&[u8]>, NoMemory>
     ensures { IfOk result (λ words. map (λ word. word.now) words.items ≡ words_of text.now) }
 {
-    let words = text
-        .split(|byte| is_blank(*byte))
-        .filter(|word| !word.is_empty())
-        .collect(alloc)?;
-    Ok(words)
+    let mut list = Vec::new(alloc);
+    set_words(&mut list, text)?;
+    Ok(list)
 }

@@ -1,40 +1,30 @@
 //! Numbers as words of a text.
 
-ghost use Rattle.std.specs.Prelude.{◌≡◌, ◌++◌, MatchOption, OnOk, OnErr, true, false};
-ghost use Rattle.std.specs.Char.{is_ascii_digit};
-ghost use Rattle.std.specs.List.{list_all};
+ghost use Rattle.std.specs.Prelude.{◌≡◌, ◌++◌, OnOk, OnErr};
 ghost use Rattle.std.specs.Fmt.{decimal};
 ghost use Rattle.call_texts.specs.Numbers.{number_of, value_of};
 
 use gaspi_types::{Bytes, NoMemory};
 use itoa::Buffer;
-use std::str;
-
-/// Whether each byte is a decimal digit.
-fn is_all_digits(word: &[u8]) -> bool
-    ensures { result ≡ list_all is_ascii_digit word.now }
-{
-    word.iter().all(|byte| byte.is_ascii_digit())
-}
-
-/// The word as text, where each byte is a decimal digit.
-fn digits(word: &[u8]) -> Option<&str>
-    ensures { MatchOption result
-        (list_all is_ascii_digit word.now ≡ false)
-        (λ text. (list_all is_ascii_digit word.now ≡ true) × (text.now ≡ word.now)) }
-{
-    if !is_all_digits(word) {
-        return None;
-    }
-    str::from_utf8(word).ok()
-}
 
 /// The number that a word spells: decimal digits, leading zeros allowed, at most 18,446,744,073,709,551,615.
 #[tactic(auto, unfolding(crate::specs::Numbers::number_of))]
 pub fn read_number(word: &[u8]) -> Option<u64>
     ensures { result ≡ number_of word.now }
 {
-    digits(word)?.parse::<u64>().ok()
+    if word.is_empty() {
+        return None;
+    }
+    let mut number: u64 = 0;
+    for byte in word {
+        if !byte.is_ascii_digit() {
+            return None;
+        }
+        number = number
+            .checked_mul(10)?
+            .checked_add(u64::from(*byte - b'0'))?;
+    }
+    Some(number)
 }
 
 /// The notification value that a word spells: a number of at most 4,294,967,295. (GASPI: notifications)

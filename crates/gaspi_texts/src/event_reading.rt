@@ -4,11 +4,10 @@ ghost use Rattle.std.specs.Prelude.{◌≡◌, ◌<◌, ◌==◌, map, length, p
 ghost use Rattle.std.specs.Option.{option_map};
 ghost use Rattle.std.specs.Str.{bytes_eq};
 ghost use Rattle.gaspi_texts.specs.EventText.{arrow, outcome_word};
-ghost use Rattle.call_texts.specs.Words.{words_of};
 ghost use Rattle.gaspi_texts.specs.EventReading.{number_below, outcome_of, caller_of, called_with, called_of, moved_of, taken, put, event_of};
 
 use crate::reply_texts::read_reply_words;
-use call_texts::{read_recorded_call, read_value, words};
+use call_texts::{read_recorded_call, read_value};
 use gaspi_types::{CallerId, Event, NoMemory, Outcome, QueueId, RankId, ThreadId};
 use std::alloc::Global;
 
@@ -188,7 +187,7 @@ fn read_put(arguments: &[&[u8]]) -> Option<Event>
 
 /// The event that words spell. Only bytes and lists take memory.
 #[tactic(auto, unfolding(crate::specs::EventReading::event_of))]
-fn read_event_words(alloc: Global, words: &[&[u8]]) -> Result<Option<Event>, NoMemory>
+pub(crate) fn read_event_words(alloc: Global, words: &[&[u8]]) -> Result<Option<Event>, NoMemory>
     ensures { IfOk result (λ event. event ≡ event_of (map (λ word. word.now) words.now)) }
 {
     let [word, arguments @ ..] = words else {
@@ -204,12 +203,4 @@ fn read_event_words(alloc: Global, words: &[&[u8]]) -> Result<Option<Event>, NoM
         return Ok(read_put(arguments));
     }
     Ok(None)
-}
-
-/// The event that a text spells, its words apart by spaces and tabs.
-pub(crate) fn read_spelled_event(alloc: Global, text: &[u8]) -> Result<Option<Event>, NoMemory>
-    ensures { IfOk result (λ event. event ≡ event_of (words_of text.now)) }
-{
-    let words = words(alloc, text)?;
-    read_event_words(alloc, words.as_slice())
 }

@@ -1,13 +1,13 @@
 //! Texts of events.
 
-ghost use Rattle.std.specs.Prelude.{◌≡◌, ◌≢◌, ◌++◌, ◌∷◌, take, length, OnOk, OnErr, IfOk, MatchOption};
+ghost use Rattle.std.specs.Prelude.{◌≡◌, ◌≢◌, ◌++◌, ◌∷◌, ◌↔◌, IsTrue, take, length, OnOk, OnErr, IfOk, MatchOption};
 ghost use Rattle.gaspi_types.specs.declared.events.Event.{Event};
 ghost use Rattle.gaspi_texts.specs.EventText.{caller_word, event_text, IsInEventRange};
 
-use crate::event_reading::{outcome_word, read_spelled_event};
+use crate::event_reading::{outcome_word, read_event_words};
 use crate::reply_texts::write_reply;
 use crate::text_laws::{events_read_back, read_events_are_in_range};
-use call_texts::{append_line, append_word, write_call, write_number};
+use call_texts::{append_line, append_word, set_words, write_call, write_number};
 use gaspi_types::{Bytes, CallerId, Event, NoMemory, Rows};
 use std::alloc::Global;
 
@@ -79,12 +79,38 @@ pub fn write_event(text: &mut Bytes, event: &Event) -> Result<(), NoMemory>
     written
 }
 
-/// The event that a text spells; none exactly where it is the text of no event. What `scratch` holds afterwards is
-/// not said: its memory is used for the text that the event would have.
-pub fn read_event_with(
+/// The room that reading an event takes, kept from one event to the next: for the words of its text, and for the text
+/// that an event has.
+#[derive(Debug, Drop)]
+pub struct Scratch<'a> {
+    words: Vec<&'a [u8]>,
+    text: Bytes,
+}
+
+impl<'a> Scratch<'a> {
+    /// No room yet. It takes no memory.
+    pub fn new(alloc: Global) -> Scratch<'a> {
+        Scratch {
+            words: Vec::new(alloc),
+            text: Rows::new(alloc),
+        }
+    }
+}
+
+/// Whether a text is that of an event, which is written to be compared in place of what was written before.
+fn is_text_of(written: &mut Bytes, event: &Event, text: &[u8]) -> Result<bool, NoMemory>
+    ensures { IfOk result (λ same. IsTrue same ↔ (text.now ≡ event_text event.now)) }
+{
+    written.truncate(0);
+    write_event(written, event)?;
+    Ok(written.as_slice() == text)
+}
+
+/// The event that a text spells; none exactly where it is the text of no event.
+pub fn read_event_with<'a>(
     alloc: Global,
-    scratch: &mut Bytes,
-    text: &[u8],
+    scratch: &mut Scratch<'a>,
+    text: &'a [u8],
 ) -> Result<Option<Event>, NoMemory>
     ensures { IfOk result (λ found. MatchOption found
         ((event : Event) → IsInEventRange event → text.now ≢ event_text event)
@@ -93,12 +119,11 @@ pub fn read_event_with(
     // The laws that tie what is spelled to what would be written.
     events_read_back();
     read_events_are_in_range();
-    let Some(event) = read_spelled_event(alloc, text)? else {
+    set_words(&mut scratch.words, text)?;
+    let Some(event) = read_event_words(alloc, scratch.words.as_slice())? else {
         return Ok(None);
     };
-    scratch.truncate(0);
-    write_event(scratch, &event)?;
-    if scratch.as_slice() == text {
+    if is_text_of(&mut scratch.text, &event, text)? {
         Ok(Some(event))
     } else {
         Ok(None)
@@ -111,6 +136,6 @@ pub fn read_event(alloc: Global, text: &[u8]) -> Result<Option<Event>, NoMemory>
         ((event : Event) → IsInEventRange event → text.now ≢ event_text event)
         (λ event. IsInEventRange event × (text.now ≡ event_text event))) }
 {
-    let mut scratch: Bytes = Rows::new(alloc);
+    let mut scratch = Scratch::new(alloc);
     read_event_with(alloc, &mut scratch, text)
 }

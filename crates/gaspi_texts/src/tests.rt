@@ -267,7 +267,7 @@ fn called_is(alloc: Global, call: Call, reply: Reply, text: &[u8]) -> Result<boo
 
 /// Whether a text is read as an event.
 fn is_event_text(alloc: Global, text: &[u8]) -> Result<bool, NoMemory> {
-    let mut scratch: Bytes = Rows::copied_from(alloc, b"anything")?;
+    let mut scratch = Scratch::new(alloc);
     let read = read_event_with(alloc, &mut scratch, text)?;
     Ok(read.is_some())
 }
