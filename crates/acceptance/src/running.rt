@@ -1,7 +1,6 @@
 //! Runs of the command, compared with what they must give. A table of many cases is one text, since a proof goes over
 //! each row of a list, and over a text at once.
 
-use command_line::Command;
 use gaspi_io::{SureSink, SureSource};
 use gaspi_run::gaspirun;
 use gaspi_types::{Bytes, NoMemory};
@@ -13,20 +12,6 @@ use std::thread::Threads;
 
 /// The words of a run whose transcripts are written.
 pub const STEP: [&str; 2] = ["step", "--brief"];
-
-/// What these words ask for.
-pub const BRIEF: Command = Command::Step {
-    seed: 0,
-    limit: 1_000_000,
-    brief: true,
-};
-
-/// The same run, of which the journal is written.
-pub const JOURNAL: Command = Command::Step {
-    seed: 0,
-    limit: 1_000_000,
-    brief: false,
-};
 
 /// More bytes than any text that a test expects.
 const ROOM: usize = 4096;
