@@ -147,13 +147,18 @@ call_taken word words = do
 abbrev pub with_nothing_left : {A : Type 0} → A × List (List ℕ) → Option A
 with_nothing_left taken = if length taken.1 == 0 then Some taken.0 else None
 
+-- the call of a word whose arguments these words are, exactly
+abbrev pub call_by : CallWord → List (List ℕ) → Option Call
+call_by word arguments = do
+  taken ← call_taken word arguments
+  with_nothing_left taken
+
 -- the call that words spell: a call's word and exactly its arguments, without a timeout
 unfoldable pub call_of : List (List ℕ) → Option Call
 call_of [] = None
 call_of (first ∷ arguments) = do
   word ← call_word_of first
-  taken ← call_taken word arguments
-  with_nothing_left taken
+  call_by word arguments
 
 -- the word of a caller's end, which no script has
 abbrev pub end_word : List ℕ

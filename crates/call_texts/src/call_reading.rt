@@ -2,7 +2,7 @@
 
 ghost use Rattle.std.specs.Prelude.{◌≡◌, map, IfOk, OnErr, true};
 ghost use Rattle.std.specs.Option.{option_map};
-ghost use Rattle.call_texts.specs.CallText.{call_taken, holds_list, call_of, recorded_call_of, takes_memory, call_of_text};
+ghost use Rattle.call_texts.specs.CallText.{call_taken, holds_list, call_by, call_of, recorded_call_of, takes_memory, call_of_text};
 ghost use Rattle.call_texts.specs.FieldWords.{words_in};
 
 use crate::blanks::words;
@@ -41,6 +41,26 @@ fn take_call(
     }
 }
 
+/// The call of a word whose arguments these words are, exactly: a timeout is none of them. Only a list takes memory.
+pub fn read_arguments(
+    alloc: Global,
+    word: CallWord,
+    arguments: &[&[u8]],
+) -> Result<Option<Call>, NoMemory>
+    ensures ok { IfOk result (λ call. call ≡ call_by word (map (λ word. word.now) arguments.now)) }
+    ensures memory { OnErr result (holds_list word ≡ true) }
+{
+    let mut fields = FieldWords::new(arguments);
+    let Some(call) = take_call(alloc, word, &mut fields)? else {
+        return Ok(None);
+    };
+    if fields.is_empty() {
+        Ok(Some(call))
+    } else {
+        Ok(None)
+    }
+}
+
 /// The call that words spell: a call's word and exactly its arguments, without a timeout. Only the bytes of a `store`
 /// take memory.
 #[tactic(auto, unfolding(crate::specs::CallText::call_of))]
@@ -51,17 +71,9 @@ pub fn read_call_words(alloc: Global, words: &[&[u8]]) -> Result<Option<Call>, N
     let [word, arguments @ ..] = words else {
         return Ok(None);
     };
-    let Some(word) = CallWord::of(word) else {
-        return Ok(None);
-    };
-    let mut fields = FieldWords::new(arguments);
-    let Some(call) = take_call(alloc, word, &mut fields)? else {
-        return Ok(None);
-    };
-    if fields.is_empty() {
-        Ok(Some(call))
-    } else {
-        Ok(None)
+    match CallWord::of(word) {
+        Some(word) => read_arguments(alloc, word, arguments),
+        None => Ok(None),
     }
 }
 

@@ -15,7 +15,7 @@ mod text_laws;
 mod words_written;
 
 pub use blanks::{set_words, words};
-pub use call_reading::{read_call, read_call_words, read_recorded_call};
+pub use call_reading::{read_arguments, read_call, read_call_words, read_recorded_call};
 pub use call_words::CallWord;
 pub use call_writing::write_call;
 pub use hexes::{read_bytes, write_bytes};

@@ -41,6 +41,9 @@ pub fn write_number(text: &mut Bytes, number: u64) -> Result<(), NoMemory>
     ensures ok { OnOk result (text.new ≡ text.old ++ decimal number) }
     ensures err { OnErr result (text.new ≡ text.old) }
 {
+    if number < 10 {
+        return text.push(b'0' + number as u8);
+    }
     let mut buffer = Buffer::new();
     text.append(buffer.format(number).as_bytes())
 }

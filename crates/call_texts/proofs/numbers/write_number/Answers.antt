@@ -1,0 +1,6 @@
+use Rattle.std.proofs.Common.{◌≡◌, rules, arith}
+use Rattle.std.proofs.lemmas.Fmt.{decimal_digit}
+use Rattle.call_texts.proofs.numbers.write_number.Goals as goal
+
+pub returns-then-number-lt10-clause-ok : goal.returns-then-number-lt10-clause-ok
+returns-then-number-lt10-clause-ok c = rw (decimal_digit c.args.number (search rules)) (search rules)
