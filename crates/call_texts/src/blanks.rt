@@ -18,7 +18,9 @@ fn blank_in(text: &[u8]) -> Option<usize>
     ensures place { result ≡ position is_blank text.now }
     ensures bound { IfSome result (λ place. place < length text.now) }
 {
-    text.iter().position(|byte| is_blank(*byte))
+    // Most bytes are past the space, which one comparison tells.
+    text.iter()
+        .position(|byte| *byte <= b' ' && is_blank(*byte))
 }
 
 /// What stands before the first blank of a text, and the text behind that blank.
