@@ -5,7 +5,7 @@ use Rattle.std.specs.List.{list_any}
 use Rattle.std.specs.Fmt.{decimal}
 use Rattle.gaspi_types.specs.World.{World}
 use Rattle.gaspi_types.specs.declared.events.Event.{Event}
-use Rattle.gaspi_texts.specs.Lines.{fed_lines}
+use Rattle.text_lines.specs.Lines.{fed_lines}
 use Rattle.gaspi_io.specs.Faults.{HasCause}
 use Rattle.gaspi_io.specs.Sink.{with_more, AddsFront}
 use Rattle.gaspi_io.specs.Source.{without, TakesAtMost}
@@ -18,7 +18,7 @@ use Rattle.call_journal.specs.declared.verdicts.Verdict.{Verdict}
 use Rattle.call_journal.specs.declared.verdicts.Verdict.TheVariants.{Legal, Illegal}
 use Rattle.command_line.specs.declared.words.Command.{Command}
 use Rattle.command_line.specs.declared.words.Command.TheVariants.{Step, Check}
-use Rattle.rank_script.specs.WorldText.{Said, TextFault, world_text, journal_place}
+use Rattle.rank_script.specs.WorldText.{Said, TextFault, world_text, journal_place, checked_world}
 use Rattle.rank_script.specs.declared.scripts.Script.{Script}
 use Rattle.rank_script.specs.declared.scripts.RunOutcome.{RunOutcome}
 use Rattle.rank_script.specs.declared.scripts.RunOutcome.TheVariants as outcomes
@@ -82,19 +82,6 @@ pub record IsStepped (seed limit : ℕ) (brief : Bool) (input : List ℕ) (journ
   pub text_is : text ≡ run_text brief world scripts journal
 
 -- What `check` does with its input: a world text, and from the first line that begins with `journal` on a journal.
-
--- the world text in it
-abbrev pub world_part : List ℕ → List ℕ
-world_part input = before (journal_place input)
-  where
-    before : Option (ℕ × ℕ) → List ℕ
-    before None = input
-    before (Some place) = take place.0 input
-
--- what the world text gives; the whole input may not be too long
-abbrev pub checked_world : List ℕ → Result Said TextFault
-checked_world input =
-    if nat_lt 268435456 (length input) then Err (record { number = 1; line = 0 }) else world_text (world_part input)
 
 abbrev pub why_word : Why → List ℕ
 why_word whys.Caller = codes "caller"

@@ -1,7 +1,8 @@
 ghost use Rattle.std.specs.Prelude.{◌≡◌, ◌<◌};
 
 use crate::{
-    Cursor, Halted, RunOutcome, Script, ScriptFault, ScriptLine, Scripts, read_world, split_input,
+    Cursor, Halted, RunOutcome, Script, ScriptFault, ScriptLine, Scripts, read_input, read_world,
+    split_input,
 };
 use gaspi_types::{
     Call, CallerId, Load, NoMemory, RankId, Reply, Reset, Rows, Shape, Store, ThreadId, Timeout,
@@ -215,6 +216,30 @@ fn journals_are_found(rt: HostRuntime) {
     for (text, place) in rows {
         assert_eq!(rt; split_input(text), place);
     }
+}
+
+/// What an input gives. Nothing is claimed of it, as of `read`.
+fn read_both(
+    alloc: Global,
+    text: &[u8],
+) -> Result<(Shape, Scripts, Option<(u64, u64)>), ScriptFault> {
+    read_input(alloc, text)
+}
+
+#[test]
+fn inputs_are_read(rt: HostRuntime) -> Result<(), Fail> {
+    let alloc = rt.alloc();
+    let (shape, scripts, place) = read_both(
+        alloc,
+        b"world 2 1 4 8 4 1000\r\nrank 1 thread 0\njournal 1\nworld\n",
+    )?;
+    assert_eq!(rt; shape.ranks(), 2);
+    assert_eq!(rt; scripts.len(), 1);
+    assert_eq!(rt; place, Some((38, 3)));
+    let (_shape, scripts, place) = read_both(alloc, TWO_RANKS)?;
+    assert_eq!(rt; scripts.len(), 2);
+    assert_eq!(rt; place, None);
+    Ok(())
 }
 
 #[test]
