@@ -1,15 +1,10 @@
 -- What is told of an input, and how it is answered.
-use Rattle.std.proofs.Common.{◌≡◌, ℕ, ◌+◌, ◌≤◌, ◌⊎◌, Bool, false, nat_lt, if◌then◌else◌, inl, inr, List, Option, None, Some, [], Result, Ok, Err, IfOk, length, take, refl, ap, ◌∙◌, arith}
-use Rattle.std.proofs.Math.ListN.{drop}
+use Rattle.std.proofs.Common.{◌≡◌, ℕ, ◌⊎◌, inl, inr, List, Option, Some, [], Result, Ok, Err, IfOk}
 use Rattle.std.specs.Option.{ForSome}
 use Rattle.gaspi_types.specs.declared.events.Event.{Event}
-use Rattle.gaspi_types.specs.World.{World}
-use Rattle.text_lines.specs.Lines.{fed_lines}
-use Rattle.rank_script.specs.WorldText.{journal_place, checked_world}
-use Rattle.rank_script.specs.declared.scripts.Script.{Script}
 use Rattle.gaspi_io.specs.Faults.{HasCause}
 use Rattle.gaspi_io.specs.Sink.{with_more, AddsFront}
-use Rattle.gaspi_run.specs.Command.{IsTold, IsNoJournal, IsRead, IsChecked, Answers}
+use Rattle.gaspi_run.specs.Command.{IsTold, Answers}
 use Rattle.command_line.specs.declared.words.Command.{Command}
 use Rattle.gaspi_run.specs.declared.commands.Answer.{Answer}
 

@@ -1,5 +1,5 @@
 -- What the program does with its words and its input. (own choice)
-use Rattle.std.specs.Prelude.{◌≡◌, ◌⊎◌, ◌≤◌, ◌<◌, ℕ, ◌+◌, ◌-◌, nat_lt, length, take, drop, Bool, true, false, List, [], ◌++◌, Option, Some, None, Result, Ok, Err, codes, if◌then◌else◌}
+use Rattle.std.specs.Prelude.{◌≡◌, ◌⊎◌, ◌≤◌, ◌<◌, ℕ, ◌+◌, ◌-◌, length, drop, Bool, true, false, List, [], ◌++◌, Option, Some, None, Result, Ok, Err, codes, if◌then◌else◌}
 use Rattle.std.specs.Option.{ForSome}
 use Rattle.std.specs.List.{list_any}
 use Rattle.std.specs.Fmt.{decimal}
@@ -18,6 +18,7 @@ use Rattle.call_journal.specs.declared.verdicts.Verdict.{Verdict}
 use Rattle.call_journal.specs.declared.verdicts.Verdict.TheVariants.{Legal, Illegal}
 use Rattle.command_line.specs.declared.words.Command.{Command}
 use Rattle.command_line.specs.declared.words.Command.TheVariants.{Step, Check}
+use Rattle.rank_script.specs.Lines.{input_limit}
 use Rattle.rank_script.specs.WorldText.{Said, TextFault, world_text, journal_place, checked_world}
 use Rattle.rank_script.specs.declared.scripts.Script.{Script}
 use Rattle.rank_script.specs.declared.scripts.RunOutcome.{RunOutcome}
@@ -173,8 +174,8 @@ pub record TellsFault (command : Command) (before after : Option (List ℕ)) (te
   pub input : List ℕ
   pub fault : TextFault
   pub all : ForSome before (λ told. input ≡ told)
-  pub end : length input ≤ 268435456 → ForSome before (λ told. after ≡ Some [])
-  pub past : 268435456 < length input → after ≡ without before 268435457
+  pub end : length input ≤ input_limit → ForSome before (λ told. after ≡ Some [])
+  pub past : input_limit < length input → after ≡ without before (input_limit + 1)
   pub is : world_read command input ≡ Err fault
   pub text_is : text ≡ fault_text fault
 
@@ -204,7 +205,7 @@ pub record IsFaulty (command : Command) (before after held held' : Option (List 
 pub record CouldNotRead (before after held held' : Option (List ℕ)) (faults faults' sink_faults sink_faults' : ℕ) (answer : Answer) : Type 0 where
   pub cause : HasCause faults faults'
   pub still : sink_faults' ≡ sink_faults
-  pub taken : TakesAtMost 268435457 before after
+  pub taken : TakesAtMost (input_limit + 1) before after
   pub kept : held' ≡ held
   pub status : answer.status ≡ 5
   pub empty : answer.journal ≡ []
@@ -220,7 +221,7 @@ pub record CouldNotWrite (command : Command) (before after held held' : Option (
 
 -- want of memory, and nothing else: status 7; nothing was written, and at most one byte more was taken than an input may have
 pub record LacksMemory (before after held held' : Option (List ℕ)) (faults faults' sink_faults sink_faults' : ℕ) (answer : Answer) : Type 0 where
-  pub taken : TakesAtMost 268435457 before after
+  pub taken : TakesAtMost (input_limit + 1) before after
   pub kept : held' ≡ held
   pub still : NothingFailed faults faults' sink_faults sink_faults'
   pub status : answer.status ≡ 7

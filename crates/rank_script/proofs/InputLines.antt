@@ -4,9 +4,10 @@ use Rattle.std.specs.List.{concat}
 use Rattle.std.proofs.lemmas.List.{length-take}
 use Rattle.std.proofs.Math.Seq.{take-append-add}
 use Rattle.std.proofs.lemmas.Bool.Decides.{nat_tests}
-use Rattle.text_lines.specs.Lines.{fed_lines, plain_line, lines_of}
+use Rattle.text_lines.specs.Lines.{fed_lines, plain_line}
 use Rattle.text_lines.proofs.FedLines.{concat-fed_lines, fed_lines-take}
-use Rattle.rank_script.specs.WorldText.{Said, TextFault, nothing_said, read_lines, world_text, is_journal_line, journal_from, journal_place, world_part, checked_world, Reads, ReadsInput}
+use Rattle.rank_script.specs.WorldText.{nothing_said, read_lines, world_text, is_journal_line, journal_from, journal_place, world_part, checked_world, Reads, ReadsInput}
+use Rattle.rank_script.specs.Lines.{input_limit}
 use Rattle.rank_script.specs.UntilJournal.{lines_until, until_text}
 use Rattle.gaspi_types.specs.World.{World}
 use Rattle.rank_script.specs.declared.scripts.Script.{Script}
@@ -117,7 +118,7 @@ same-short true long first second same = refl
 same-short false long first second same = same refl
 
 pub input-until : (text : List ℕ) → until_text true text ≡ checked_world text
-input-until text = same-short (nat_lt 268435456 (length text)) _ _ _ (λ test.
-    let fits = not-long 268435456 (length text) test in
-    let within : length (world_part text) ≤ 268435456 = omega (arith, part-short text) in
-    ap (λ (lines : List (List ℕ)). read_lines nothing_said 1 (map plain_line lines)) (sym (part-lines text)) ∙ sym (within-limit 268435456 (length (world_part text)) _ _ within))
+input-until text = same-short (nat_lt input_limit (length text)) _ _ _ (λ test.
+    let fits = not-long input_limit (length text) test in
+    let within : length (world_part text) ≤ input_limit = omega (arith, part-short text) in
+    ap (λ (lines : List (List ℕ)). read_lines nothing_said 1 (map plain_line lines)) (sym (part-lines text)) ∙ sym (within-limit input_limit (length (world_part text)) _ _ within))

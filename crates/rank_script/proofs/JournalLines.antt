@@ -7,6 +7,7 @@ use Rattle.std.specs.Str.{bytes_eq}
 use Rattle.call_texts.specs.Words.{is_blank, words_of}
 use Rattle.text_lines.specs.Lines.{fed_lines, plain_line}
 use Rattle.rank_script.specs.WorldText.{Said, TextFault, first_word, nothing_said, fault_of, after_line, read_lines, is_journal_line, journal_from, ReadsInput}
+use Rattle.rank_script.specs.Lines.{input_limit}
 use Rattle.rank_script.specs.UntilJournal.{lines_until, until_text, until_from}
 use Rattle.rank_script.specs.Readings.{ReadsLine}
 use Rattle.gaspi_types.specs.World.{World}
@@ -92,11 +93,11 @@ pub within-limit : {A : Type 0} (limit n : ℕ) (long short : A) → n ≤ limit
 within-limit limit n long short fits = rw (not-over limit n fits) refl
 
 -- a line with a fault
-pub line-faulty : (fault : ScriptFault) (journal : Bool) (old new : Said) (number : ℕ) (text line : List ℕ) (lines : List (List ℕ)) (place : Option (ℕ × ℕ)) → length text ≤ 268435456
+pub line-faulty : (fault : ScriptFault) (journal : Bool) (old new : Said) (number : ℕ) (text line : List ℕ) (lines : List (List ℕ)) (place : Option (ℕ × ℕ)) → length text ≤ input_limit
     → read_lines nothing_said 1 (map plain_line (lines_until journal (fed_lines text))) ≡ read_lines old number (line ∷ lines) → ReadsLine (Err fault) old new number line
     → ReadsInput (Err fault) (until_text journal text) place
 line-faulty (faults.At fault at) journal old new number text line lines place fits same h =
-    within-limit 268435456 (length text) _ _ fits ∙ same ∙ rw h.0 (ap (λ (n : ℕ). Err (record { number = fault; line = n })) (sym h.1))
+    within-limit input_limit (length text) _ _ fits ∙ same ∙ rw h.0 (ap (λ (n : ℕ). Err (record { number = fault; line = n })) (sym h.1))
 line-faulty faults.NoMemory journal old new number text line lines place fits same h = tt
 
 -- the fault is passed on

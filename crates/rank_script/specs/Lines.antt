@@ -1,7 +1,11 @@
--- What a line may hold. (own choice)
+-- What a line may hold, and an input. (own choice)
 use Rattle.std.specs.Prelude.{ℕ, Bool, ◌==◌, ◌||◌, not, nat_lt, List, length}
 use Rattle.std.specs.List.{list_any}
 use Rattle.gaspi_types.specs.Ranges.{is_between}
+
+-- the most bytes that a world text may have, and an input that begins with one
+abbrev pub input_limit : ℕ
+input_limit = 268435456
 
 -- a byte that a line may hold: a printing one of ASCII, a space or a tab
 abbrev pub is_line_byte : ℕ → Bool

@@ -1,6 +1,7 @@
 -- The lines of a text up to its journal, where that is looked for, or all of them. (own choice)
 use Rattle.std.specs.Prelude.{map, ℕ, Bool, ◌&&◌, nat_lt, List, [], ◌∷◌, length, Option, None, Result, Err, if◌then◌else◌}
 use Rattle.text_lines.specs.Lines.{fed_lines, plain_line}
+use Rattle.rank_script.specs.Lines.{input_limit}
 use Rattle.rank_script.specs.WorldText.{Said, TextFault, nothing_said, read_lines, is_journal_line, journal_from}
 
 abbrev pub lines_until : Bool → List (List ℕ) → List (List ℕ)
@@ -10,7 +11,7 @@ lines_until journal (line ∷ lines) = if journal && is_journal_line (plain_line
 -- what they give
 abbrev pub until_text : Bool → List ℕ → Result Said TextFault
 until_text journal bytes =
-    if nat_lt 268435456 (length bytes) then Err (record { number = 1; line = 0 })
+    if nat_lt input_limit (length bytes) then Err (record { number = 1; line = 0 })
     else read_lines nothing_said 1 (map plain_line (lines_until journal (fed_lines bytes)))
 
 -- where the journal begins, where it is looked for

@@ -17,7 +17,7 @@ use Rattle.gaspi_types.specs.declared.shapes.ShapeFault.TheVariants as shape_fau
 use Rattle.gaspi_types.specs.declared.replies.Reply.{Reply}
 use Rattle.gaspi_types.specs.declared.calls.Timeout.{Timeout}
 use Rattle.gaspi_types.specs.declared.calls.Timeout.TheVariants.{Looks, Block}
-use Rattle.rank_script.specs.Lines.{is_bad_line}
+use Rattle.rank_script.specs.Lines.{is_bad_line, input_limit}
 use Rattle.rank_script.specs.declared.scripts.ScriptLine.{ScriptLine}
 use Rattle.rank_script.specs.declared.scripts.Script.{Script}
 use Rattle.rank_script.specs.declared.scripts.ScriptFault.{ScriptFault}
@@ -366,7 +366,7 @@ read_lines said number (line ∷ lines) =
 -- a text that is too long is faulty at line 0
 abbrev pub world_text : List ℕ → Result Said TextFault
 world_text bytes =
-    if nat_lt 268435456 (length bytes) then Err (record { number = 1; line = 0 }) else read_lines nothing_said 1 (lines_of bytes)
+    if nat_lt input_limit (length bytes) then Err (record { number = 1; line = 0 }) else read_lines nothing_said 1 (lines_of bytes)
 
 -- What reading a text gave: its world and scripts, or its first fault, unless memory ran out.
 abbrev pub Reads : Result (World × List Script) ScriptFault → Result Said TextFault → Type 0
@@ -407,7 +407,7 @@ world_part input = before (journal_place input)
 -- what that world text gives; the whole input may not be too long
 abbrev pub checked_world : List ℕ → Result Said TextFault
 checked_world input =
-    if nat_lt 268435456 (length input) then Err (record { number = 1; line = 0 }) else world_text (world_part input)
+    if nat_lt input_limit (length input) then Err (record { number = 1; line = 0 }) else world_text (world_part input)
 
 -- What reading an input gave: the world and the scripts of its world text, with the place of its journal, or the first
 -- fault, unless memory ran out.

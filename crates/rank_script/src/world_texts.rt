@@ -4,6 +4,7 @@ ghost use Rattle.std.specs.Prelude.{◌≡◌, ◌≤◌, ◌+◌, [], length, I
 ghost use Rattle.gaspi_types.specs.World.{IsWorld};
 ghost use Rattle.text_lines.specs.Lines.{fed_lines};
 ghost use Rattle.rank_script.specs.WorldText.{world_text, checked_world, journal_place, read_lines, Reads, ReadsInput, AreScriptsOf};
+ghost use Rattle.rank_script.specs.Lines.{input_limit};
 ghost use Rattle.rank_script.specs.UntilJournal.{until_text, until_from};
 ghost use Rattle.rank_script.specs.Readings.{said_of, Accords};
 
@@ -14,8 +15,8 @@ use gaspi_types::Shape;
 use std::alloc::Global;
 use text_lines::{first_line, plain_line};
 
-/// How many bytes a world text may have, and an input with one.
-const MOST_BYTES: usize = 268_435_456;
+/// The most bytes that a world text may have, and an input that begins with one.
+pub const MOST_INPUT_BYTES: usize = 268_435_456;
 
 /// Reads a world text: the shape of the world that it declares, and the scripts of its callers. Where a line has a
 /// fault, the answer is the first such line and the smallest number of its faults.
@@ -38,7 +39,7 @@ pub fn read_input(
     ensures exact { ReadsInput result (checked_world text.now) (journal_place text.now) }
     ensures world { IfOk result (λ read. IsWorld read.0) }
     ensures callers { IfOk result (λ read. AreScriptsOf read.0 read.1) }
-    ensures short { IfOk result (λ read. length text.now ≤ 268435456) }
+    ensures short { IfOk result (λ read. length text.now ≤ input_limit) }
     ensures within { IfOk result (λ read. IfSome read.2 (λ found. (1 ≤ found.1) × (found.1 ≤ found.0 + 1) × (found.0 ≤ length text.now))) }
 {
     read_until(alloc, text, true)
@@ -53,10 +54,10 @@ fn read_until(
     ensures exact { ReadsInput result (until_text journal text.now) (until_from journal 0 1 (fed_lines text.now)) }
     ensures world { IfOk result (λ read. IsWorld read.0) }
     ensures callers { IfOk result (λ read. AreScriptsOf read.0 read.1) }
-    ensures short { IfOk result (λ read. length text.now ≤ 268435456) }
+    ensures short { IfOk result (λ read. length text.now ≤ input_limit) }
     ensures within { IfOk result (λ read. IfSome read.2 (λ found. (1 ≤ found.1) × (found.1 ≤ found.0 + 1) × (found.0 ≤ length text.now))) }
 {
-    if text.len() > MOST_BYTES {
+    if text.len() > MOST_INPUT_BYTES {
         return Err(ScriptFault::At { number: 1, line: 0 });
     }
     let mut reading = Reading::new(alloc);

@@ -21,7 +21,7 @@ returns-in_err-read_line-clause-exact c =
       ];
     } in
     let same = c.loop-rest.invariant.same ∙ lines-later journal (said_of c.loop-rest.reading) c.loop-rest.number rest _ _ _ next in
-    let exact = line-faulty _ journal _ _ c.loop-rest.number text _ _ (until_from journal 0 1 (fed_lines text)) c.if-text-gt-MOST_BYTES.false same c.in_err-read_line.ensures.exact in
+    let exact = line-faulty _ journal _ _ c.loop-rest.number text _ _ (until_from journal 0 1 (fed_lines text)) c.if-text-gt-MOST_INPUT_BYTES.false same c.in_err-read_line.ensures.exact in
     passed-on result.result _ _ _ result.ensures.0 result.ensures.1 exact
 
 pub loop-rest-preserved : goal.loop-rest-preserved
