@@ -1,16 +1,16 @@
 -- The lines of a journal, each with its one line feed.
-use Rattle.std.proofs.Common.{◌≡◌, ℕ, zero, suc, ◌+◌, ◌<◌, ◌/◌, ◌%◌, Bool, true, false, cond, not, ◌==◌, List, [], ◌∷◌, ◌++◌, length, codes, refl, sym, ap, ◌∙◌, arith}
+use Rattle.std.proofs.Common.{◌≡◌, ℕ, zero, suc, ◌+◌, ◌<◌, ◌/◌, ◌%◌, Bool, true, false, cond, not, ◌&&◌, ◌==◌, List, [], ◌∷◌, ◌++◌, length, codes, refl, sym, ap, ◌∙◌, arith}
 use Rattle.std.specs.List.{list_all, All}
 use Rattle.std.specs.Fmt.{decimal, digits, digits_onto, digit_glyph}
-use Rattle.std.proofs.lemmas.Bool.{lt-ltb}
+use Rattle.std.proofs.lemmas.Bool.{lt-ltb, true≢false}
 use Rattle.std.proofs.lemmas.List.{append_cancel_left, append_cancel_right, same_from_push}
 use Rattle.std.proofs.lemmas.List.Folds.{list_all-append}
 use Rattle.std.proofs.lemmas.Bool.Decides.{nat_tests}
 use Rattle.gaspi_types.specs.declared.events.Event.{Event}
 use Rattle.gaspi_texts.specs.EventText.{event_text, IsInEventRange}
-use Rattle.gaspi_texts.specs.Lines.{fed_lines}
+use Rattle.text_lines.specs.Lines.{fed_lines}
 use Rattle.call_journal.specs.JournalText.{first_line, event_line, end_line, event_lines, journal_lines, journal_text, AreInRange}
-use Rattle.call_journal.proofs.FedLines.{apart, is_other, not-false, and-parts, IsWhole, AreWhole, fed_lines-concat}
+use Rattle.text_lines.proofs.FedLines.{is_other, IsWhole, AreWhole, fed_lines-concat}
 
 -- the laws of the texts of events: none has a line feed, and different events have different ones
 abbrev pub HaveNoFeeds : Type 0
@@ -56,12 +56,20 @@ abbrev first_byte : List ℕ → ℕ
 first_byte [] = 0
 first_byte (byte ∷ bytes) = byte
 
+not-false : (b : Bool) → not b ≡ true → b ≡ false
+not-false true h = sym h
+not-false false h = refl
+
+and-parts : (a b : Bool) → (a && b) ≡ true → (a ≡ true) × (b ≡ true)
+and-parts true b h = (refl, h)
+and-parts false b h = absurd (let no : ⊥ = cc in no)
+
 -- the line of an event is no end line: it begins with a digit or a space
 digits-no-end : (ds text more : List ℕ) → list_all is_no_e ds ≡ true → ds ++ 32 ∷ [] ++ text ++ 10 ∷ [] ≡ 101 ∷ more → ⊥
-digits-no-end [] text more h is = apart (ap (λ (bytes : List ℕ). first_byte bytes == 101) (sym is))
+digits-no-end [] text more h is = true≢false (ap (λ (bytes : List ℕ). first_byte bytes == 101) (sym is))
 digits-no-end (d ∷ ds) text more h is =
     let first : (d == 101) ≡ true = ap (λ (bytes : List ℕ). first_byte bytes == 101) is in
-    apart (sym first ∙ not-false (d == 101) (and-parts (is_no_e d) (list_all is_no_e ds) h).0)
+    true≢false (sym first ∙ not-false (d == 101) (and-parts (is_no_e d) (list_all is_no_e ds) h).0)
 
 pub event-no-end : (place count : ℕ) (e : Event) → event_line place e ≡ end_line count → ⊥
 event-no-end place count e is = digits-no-end (decimal place) (event_text e) _ (decimal-passes is_no_e digit-no-e place) is

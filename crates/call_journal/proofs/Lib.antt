@@ -1,4 +1,3 @@
-pub mod FedLines
 pub mod JournalLines
 pub mod RangesSoFar
 pub mod ReadJournals

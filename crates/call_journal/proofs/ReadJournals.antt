@@ -6,9 +6,9 @@ use Rattle.std.proofs.lemmas.Bool.Decides.{nat_tests}
 use Rattle.std.proofs.lemmas.List.Elements.{All-push}
 use Rattle.gaspi_types.specs.declared.events.Event.{Event}
 use Rattle.gaspi_texts.specs.EventText.{IsInEventRange}
-use Rattle.gaspi_texts.specs.Lines.{fed_lines}
+use Rattle.text_lines.specs.Lines.{fed_lines}
 use Rattle.call_journal.specs.JournalText.{first_line, event_line, end_line, event_lines, journal_lines, journal_text, AreInRange, Begins, IsFaultyAt}
-use Rattle.call_journal.proofs.FedLines.{concat-fed_lines}
+use Rattle.text_lines.proofs.FedLines.{concat-fed_lines}
 use Rattle.call_journal.proofs.JournalLines.{HaveNoFeeds, fed_lines-journal, event-no-end, first-in, rest-in}
 
 -- one more event

@@ -3,17 +3,17 @@ use Rattle.std.proofs.Common.{◌≡◌, ◌≢◌, ℕ, ◌-◌, true, false, n
 use Rattle.std.specs.Fmt.{decimal}
 use Rattle.std.specs.Cmp.Lexicographic.{pointwise, bytes_decides}
 use Rattle.std.proofs.lemmas.List.{take_at, take-append-drop, append_cancel_left, append_cancel_right}
+use Rattle.std.proofs.lemmas.Bool.{true≢false}
 use Rattle.std.proofs.lemmas.List.Prefix.{end_rest}
 use Rattle.gaspi_types.specs.declared.events.Event.{Event}
 use Rattle.gaspi_texts.specs.EventText.{event_text, IsInEventRange}
 use Rattle.call_journal.specs.JournalText.{event_line}
-use Rattle.call_journal.proofs.FedLines.{apart}
 
 -- a text that another one does not begin
 pub not-begun : (front line rest : List ℕ) → pointwise nat_eq (take (length front) line) front ≡ false → line ≡ front ++ rest → ⊥
 not-begun front line rest unlike is =
     let begun : take (length front) line ≡ front = ap (λ (bytes : List ℕ). take (length front) bytes) is ∙ take_at front rest (length front) refl in
-    apart (sym ((bytes_decides (take (length front) line) front).1 begun) ∙ unlike)
+    true≢false (sym ((bytes_decides (take (length front) line) front).1 begun) ∙ unlike)
 
 pub begun : (front line behind : List ℕ) → pointwise nat_eq (take (length front) line) front ≡ true → behind ≡ drop (length front) line → line ≡ front ++ behind
 begun front line behind like rest =
@@ -23,7 +23,7 @@ begun front line behind like rest =
 -- a text that another one does not end
 not-ended : (end line front : List ℕ) → pointwise nat_eq (drop (length line - length end) line) end ≡ false → line ≡ front ++ end → ⊥
 not-ended end line front unlike is =
-    apart (sym ((bytes_decides (drop (length line - length end) line) end).1 (end_rest line end front is)) ∙ unlike)
+    true≢false (sym ((bytes_decides (drop (length line - length end) line) end).1 (end_rest line end front is)) ∙ unlike)
 
 ended : (end line front : List ℕ) → pointwise nat_eq (drop (length line - length end) line) end ≡ true → front ≡ take (length line - length end) line → line ≡ front ++ end
 ended end line front like rest =

@@ -4,7 +4,7 @@ use Rattle.std.specs.Fmt.{decimal}
 use Rattle.std.specs.List.{concat, All}
 use Rattle.gaspi_types.specs.declared.events.Event.{Event}
 use Rattle.gaspi_texts.specs.EventText.{event_text, IsInEventRange}
-use Rattle.gaspi_texts.specs.Lines.{fed_lines}
+use Rattle.text_lines.specs.Lines.{fed_lines}
 
 -- The lines, each with its line feed: the version, the events with their places, and the end with their number.
 

@@ -1,35 +1,14 @@
 //! The lines of a journal's text.
 
-ghost use Rattle.std.specs.Prelude.{◌≡◌, ◌≢◌, ◌<◌, ◌∷◌, ◌++◌, ◌==◌, ◌↔◌, IsTrue, length, IfOk, OnOk, MatchOption};
-ghost use Rattle.std.specs.List.{position};
+ghost use Rattle.std.specs.Prelude.{◌≡◌, ◌≢◌, ◌++◌, ◌↔◌, IsTrue, IfOk, OnOk, MatchOption};
 ghost use Rattle.std.specs.Fmt.{decimal};
 ghost use Rattle.gaspi_types.specs.declared.events.Event.{Event};
 ghost use Rattle.gaspi_texts.specs.EventText.{IsInEventRange};
-ghost use Rattle.gaspi_texts.specs.Lines.{fed_lines};
 ghost use Rattle.call_journal.specs.JournalText.{event_line, end_line};
 
 use gaspi_texts::{Scratch, read_event_with, write_number};
 use gaspi_types::{Bytes, Event, NoMemory};
 use std::alloc::Global;
-
-/// The first line of a text that has one, with its line feed, which the last one may lack, and the text behind it.
-pub(crate) fn first_line(text: &[u8]) -> (&[u8], &[u8])
-    requires { 0 < length text.now }
-    ensures lines { fed_lines text.now ≡ result.0.now ∷ fed_lines result.1.now }
-    ensures shorter { length result.1.now < length text.now }
-{
-    match line_feed_in(text) {
-        Some(end) => text.split_at(end + 1),
-        None => (text, &[]),
-    }
-}
-
-/// The place of the first line feed.
-fn line_feed_in(text: &[u8]) -> Option<usize>
-    ensures { result ≡ position (λ byte. byte == 10) text.now }
-{
-    text.iter().position(|byte| *byte == b'\n')
-}
 
 /// Writes a number in decimal over a text, and what stands behind it.
 fn set_number(text: &mut Bytes, number: u64, behind: &[u8]) -> Result<(), NoMemory>

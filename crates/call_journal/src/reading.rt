@@ -5,10 +5,11 @@ ghost use Rattle.call_journal.specs.JournalText.{journal_text, AreInRange, IsFau
 ghost use Rattle.call_journal.specs.declared.reading.JournalFault.TheVariants as faults;
 
 use crate::Journal;
-use crate::lines::{first_line, is_end_line, read_event_line};
+use crate::lines::{is_end_line, read_event_line};
 use gaspi_texts::{Scratch, events_have_no_line_feed};
 use gaspi_types::{Bytes, NoMemory, Rows};
 use std::alloc::Global;
+use text_lines::first_line;
 use thiserror::Error;
 
 /// Why a text is no journal.

@@ -6,6 +6,7 @@ use Rattle.std.proofs.lemmas.List.{length-replicate}
 use Rattle.gaspi_io.specs.Faults.{HasCause}
 use Rattle.gaspi_io.specs.Sink.{with_more, AddsFront}
 use Rattle.gaspi_io.specs.Source.{without, TakesAtMost}
+use Rattle.rank_script.specs.Lines.{input_limit}
 use Rattle.rank_script.specs.WorldText.{TextFault}
 use Rattle.gaspi_run.specs.Command.{fault_text, world_read, Answers}
 use Rattle.command_line.specs.declared.words.Command.{Command}
@@ -16,20 +17,20 @@ use Rattle.gaspi_run.specs.declared.commands.Answer.{Answer}
 pub record KnowsFault (command : Command) (before after : Option (List ℕ)) (fault : TextFault) : Type 0 where
   input : List ℕ
   all : ForSome before (λ told. input ≡ told)
-  end : length input ≤ 268435456 → ForSome before (λ told. after ≡ Some [])
-  past : 268435456 < length input → after ≡ without before 268435457
+  end : length input ≤ input_limit → ForSome before (λ told. after ≡ Some [])
+  past : input_limit < length input → after ≡ without before (input_limit + 1)
   is : world_read command input ≡ Err fault
 
 -- an input that is too long
-long-text : (command : Command) (text : List ℕ) → 268435456 < length text → world_read command text ≡ Err (record { number = 1; line = 0 })
-long-text (Step seed limit brief) text long = rw (lt-ltb 268435456 (length text) long) refl
-long-text Check text long = rw (lt-ltb 268435456 (length text) long) refl
+long-text : (command : Command) (text : List ℕ) → input_limit < length text → world_read command text ≡ Err (record { number = 1; line = 0 })
+long-text (Step seed limit brief) text long = rw (lt-ltb input_limit (length text) long) refl
+long-text Check text long = rw (lt-ltb input_limit (length text) long) refl
 
 -- there is a longer text than of any length
 some-longer : (n : ℕ) → (text : List ℕ) × (n < length text)
 some-longer n = (replicate (n + 1) 0, (let many = length-replicate {A = ℕ} (n + 1) 0 in omega arith))
 
-pub long-fault : (command : Command) (before after : Option (List ℕ)) → ForSome before (λ told. 268435456 < length told) → after ≡ without before 268435457 → KnowsFault command before after (record { number = 1; line = 0 })
+pub long-fault : (command : Command) (before after : Option (List ℕ)) → ForSome before (λ told. input_limit < length told) → after ≡ without before (input_limit + 1) → KnowsFault command before after (record { number = 1; line = 0 })
 long-fault command (Some told) after long past = record {
   input = told;
   all = λ x is. (let same : told ≡ x = cc in same);
@@ -38,7 +39,7 @@ long-fault command (Some told) after long past = record {
   is = long-text command told (long told refl);
 }
 long-fault command None after long past =
-    let text = some-longer 268435456 in
+    let text = some-longer input_limit in
     record {
       input = text.0;
       all = λ x is. absurd (let no : ⊥ = cc in no);
@@ -47,11 +48,11 @@ long-fault command None after long past =
       is = long-text command text.0 text.1;
     }
 
-pub read-fault : (command : Command) (before after : Option (List ℕ)) (input : List ℕ) (fault : TextFault) → length input ≤ 268435456 → ForSome before (λ told. input ≡ told)
+pub read-fault : (command : Command) (before after : Option (List ℕ)) (input : List ℕ) (fault : TextFault) → length input ≤ input_limit → ForSome before (λ told. input ≡ told)
     → ForSome before (λ told. after ≡ Some []) → world_read command input ≡ Err fault → KnowsFault command before after fault
 read-fault command before after input fault short all end faulty = record { input = input; all = all; end = λ fits. end; past = λ long. absurd (omega arith); is = faulty }
 
-pub fault-answer : (command : Command) (before after held held' : Option (List ℕ)) (faults faults' sink_faults sink_faults' : ℕ) (answer : Answer) (fault : TextFault) → KnowsFault command before after fault → TakesAtMost 268435457 before after → faults' ≡ faults
+pub fault-answer : (command : Command) (before after held held' : Option (List ℕ)) (faults faults' sink_faults sink_faults' : ℕ) (answer : Answer) (fault : TextFault) → KnowsFault command before after fault → TakesAtMost (input_limit + 1) before after → faults' ≡ faults
     → ((answer.status ≡ 2) × (held' ≡ with_more held (fault_text fault)) × (sink_faults' ≡ sink_faults))
     ⊎ (((answer.status ≡ 6) × AddsFront (fault_text fault) held held' × HasCause sink_faults sink_faults') ⊎ ((answer.status ≡ 7) × (held' ≡ held) × (sink_faults' ≡ sink_faults)))
     → answer.journal ≡ [] → Answers command before after faults faults' held held' sink_faults sink_faults' answer

@@ -11,5 +11,4 @@ pub mod ScheduleLoop
 mod Calling
 mod Transcribing
 mod Answering
-mod LineCounts
 mod ToldInputs

@@ -1,11 +1,11 @@
 -- What the program does with its words and its input. (own choice)
-use Rattle.std.specs.Prelude.{◌≡◌, ◌⊎◌, ◌≤◌, ◌<◌, ℕ, ◌+◌, ◌-◌, nat_lt, length, take, drop, Bool, true, false, List, [], ◌++◌, Option, Some, None, Result, Ok, Err, codes, if◌then◌else◌}
+use Rattle.std.specs.Prelude.{◌≡◌, ◌⊎◌, ◌≤◌, ◌<◌, ℕ, ◌+◌, ◌-◌, length, drop, Bool, true, false, List, [], ◌++◌, Option, Some, None, Result, Ok, Err, codes, if◌then◌else◌}
 use Rattle.std.specs.Option.{ForSome}
 use Rattle.std.specs.List.{list_any}
 use Rattle.std.specs.Fmt.{decimal}
 use Rattle.gaspi_types.specs.World.{World}
 use Rattle.gaspi_types.specs.declared.events.Event.{Event}
-use Rattle.gaspi_texts.specs.Lines.{fed_lines}
+use Rattle.text_lines.specs.Lines.{fed_lines}
 use Rattle.gaspi_io.specs.Faults.{HasCause}
 use Rattle.gaspi_io.specs.Sink.{with_more, AddsFront}
 use Rattle.gaspi_io.specs.Source.{without, TakesAtMost}
@@ -18,7 +18,8 @@ use Rattle.call_journal.specs.declared.verdicts.Verdict.{Verdict}
 use Rattle.call_journal.specs.declared.verdicts.Verdict.TheVariants.{Legal, Illegal}
 use Rattle.command_line.specs.declared.words.Command.{Command}
 use Rattle.command_line.specs.declared.words.Command.TheVariants.{Step, Check}
-use Rattle.rank_script.specs.WorldText.{Said, TextFault, world_text, journal_place}
+use Rattle.rank_script.specs.Lines.{input_limit}
+use Rattle.rank_script.specs.WorldText.{Said, TextFault, world_text, journal_place, checked_world}
 use Rattle.rank_script.specs.declared.scripts.Script.{Script}
 use Rattle.rank_script.specs.declared.scripts.RunOutcome.{RunOutcome}
 use Rattle.rank_script.specs.declared.scripts.RunOutcome.TheVariants as outcomes
@@ -82,19 +83,6 @@ pub record IsStepped (seed limit : ℕ) (brief : Bool) (input : List ℕ) (journ
   pub text_is : text ≡ run_text brief world scripts journal
 
 -- What `check` does with its input: a world text, and from the first line that begins with `journal` on a journal.
-
--- the world text in it
-abbrev pub world_part : List ℕ → List ℕ
-world_part input = before (journal_place input)
-  where
-    before : Option (ℕ × ℕ) → List ℕ
-    before None = input
-    before (Some place) = take place.0 input
-
--- what the world text gives; the whole input may not be too long
-abbrev pub checked_world : List ℕ → Result Said TextFault
-checked_world input =
-    if nat_lt 268435456 (length input) then Err (record { number = 1; line = 0 }) else world_text (world_part input)
 
 abbrev pub why_word : Why → List ℕ
 why_word whys.Caller = codes "caller"
@@ -186,8 +174,8 @@ pub record TellsFault (command : Command) (before after : Option (List ℕ)) (te
   pub input : List ℕ
   pub fault : TextFault
   pub all : ForSome before (λ told. input ≡ told)
-  pub end : length input ≤ 268435456 → ForSome before (λ told. after ≡ Some [])
-  pub past : 268435456 < length input → after ≡ without before 268435457
+  pub end : length input ≤ input_limit → ForSome before (λ told. after ≡ Some [])
+  pub past : input_limit < length input → after ≡ without before (input_limit + 1)
   pub is : world_read command input ≡ Err fault
   pub text_is : text ≡ fault_text fault
 
@@ -217,7 +205,7 @@ pub record IsFaulty (command : Command) (before after held held' : Option (List 
 pub record CouldNotRead (before after held held' : Option (List ℕ)) (faults faults' sink_faults sink_faults' : ℕ) (answer : Answer) : Type 0 where
   pub cause : HasCause faults faults'
   pub still : sink_faults' ≡ sink_faults
-  pub taken : TakesAtMost 268435457 before after
+  pub taken : TakesAtMost (input_limit + 1) before after
   pub kept : held' ≡ held
   pub status : answer.status ≡ 5
   pub empty : answer.journal ≡ []
@@ -233,7 +221,7 @@ pub record CouldNotWrite (command : Command) (before after held held' : Option (
 
 -- want of memory, and nothing else: status 7; nothing was written, and at most one byte more was taken than an input may have
 pub record LacksMemory (before after held held' : Option (List ℕ)) (faults faults' sink_faults sink_faults' : ℕ) (answer : Answer) : Type 0 where
-  pub taken : TakesAtMost 268435457 before after
+  pub taken : TakesAtMost (input_limit + 1) before after
   pub kept : held' ≡ held
   pub still : NothingFailed faults faults' sink_faults sink_faults'
   pub status : answer.status ≡ 7

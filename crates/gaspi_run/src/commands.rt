@@ -13,7 +13,7 @@ use command_line::{Command, read_words};
 use gaspi_io::{Failed, ReadStop, Sink, Source, read_all, write_all};
 use gaspi_texts::write_number;
 use gaspi_types::{Bytes, NoMemory, Rows};
-use rank_script::ScriptFault;
+use rank_script::{MOST_INPUT_BYTES, ScriptFault};
 use std::alloc::Global;
 use std::sync::Wait;
 use std::thread::Threads;
@@ -36,9 +36,6 @@ pub struct Answer {
     pub status: u8,
     pub journal: Journal,
 }
-
-/// The most bytes that an input may have.
-const MOST: u64 = 268_435_456;
 
 /// The line that names a fault.
 fn fault_line(alloc: Global, number: u32, line: u64) -> Result<Bytes, NoMemory>
@@ -100,7 +97,7 @@ pub fn run_command<S: Source, K: Sink>(
     ensures { Answers command (S.left source.old) (S.left source.new) (S.faults source.old) (S.faults source.new)
         (K.held sink.old) (K.held sink.new) (K.faults sink.old) (K.faults sink.new) result }
 {
-    let input = match read_all(alloc, source, MOST) {
+    let input = match read_all(alloc, source, MOST_INPUT_BYTES as u64) {
         Ok(input) => input,
         Err(ReadStop::Fault) => return bare(alloc, 5),
         Err(ReadStop::Long) => return answer_fault(alloc, sink, 1, 0),

@@ -1,10 +1,10 @@
 //! What the commands tell of their inputs.
 
 ghost use Rattle.std.specs.Prelude.{◌≡◌, ◌<◌, ◌≤◌, ◌+◌, ◌^◌, ℕ, length, [], IfOk, IsErrOf, Err, true, false};
-ghost use Rattle.rank_script.specs.WorldText.{world_text};
+ghost use Rattle.rank_script.specs.WorldText.{world_text, checked_world};
 ghost use Rattle.rank_script.specs.declared.scripts.ScriptFault.TheVariants as script_faults;
-ghost use Rattle.gaspi_texts.specs.Lines.{fed_lines};
-ghost use Rattle.gaspi_run.specs.Command.{is_any_wrong, is_any_limit, run_status, run_text, HasLimit, IsStepped, IsChecked, IsTold, IsRead, IsNoJournal, HasVerdict, checked_world, world_read, why_word, no_journal_text, verdict_text, verdict_status};
+ghost use Rattle.text_lines.specs.Lines.{fed_lines};
+ghost use Rattle.gaspi_run.specs.Command.{is_any_wrong, is_any_limit, run_status, run_text, HasLimit, IsStepped, IsChecked, IsTold, IsRead, IsNoJournal, HasVerdict, world_read, why_word, no_journal_text, verdict_text, verdict_status};
 
 use crate::scheduling::schedule;
 use crate::transcripts::write_transcripts;
@@ -14,8 +14,9 @@ use command_line::Command;
 use gaspi_model::Why;
 use gaspi_texts::write_number;
 use gaspi_types::{Bytes, NoMemory, Rows, Shape};
-use rank_script::{RunOutcome, ScriptFault, Scripts, read_world, split_input};
+use rank_script::{RunOutcome, ScriptFault, Scripts, read_input, read_world};
 use std::alloc::Global;
+use text_lines::first_line;
 
 /// What a command tells of its input: the history, the status, and the text.
 #[derive(Debug, Drop)]
@@ -24,9 +25,6 @@ pub struct Told {
     pub status: u8,
     pub text: Bytes,
 }
-
-/// The most bytes that an input may have.
-const MOST_BYTES: usize = 268_435_456;
 
 /// Whether a caller has failed or is stuck.
 fn is_any_wrong(finished: &[Finished]) -> bool
@@ -185,10 +183,11 @@ fn line_count(text: &[u8]) -> u64
     ensures bound { result ≤ length text.now }
 {
     let mut count: u64 = 0;
-    let mut begun = false;
-    for byte in text {
-        count += u64::from(!begun);
-        begun = *byte != b'\n';
+    let mut rest = text;
+    while !rest.is_empty() {
+        let (_, later) = first_line(rest);
+        count += 1;
+        rest = later;
     }
     count
 }
@@ -211,17 +210,11 @@ fn tell_check(alloc: Global, input: &[u8]) -> Result<Told, ScriptFault>
     ensures fault { (number line : ℕ) → IsErrOf result (script_faults.At number line)
         → checked_world input.now ≡ Err (record { number = number; line = line }) }
 {
-    if input.len() > MOST_BYTES {
-        return Err(ScriptFault::At { number: 1, line: 0 });
-    }
-    match split_input(input) {
-        None => {
-            read_world(alloc, input)?;
-            Ok(tell_no_journal(alloc, line_count(input) + 1)?)
-        }
+    let (shape, _scripts, place) = read_input(alloc, input)?;
+    match place {
+        None => Ok(tell_no_journal(alloc, line_count(input) + 1)?),
         Some((place, number)) => {
-            let (world, journal) = input.split_at(place as usize);
-            let (shape, _scripts) = read_world(alloc, world)?;
+            let journal = &input[place as usize..];
             Ok(tell_journal(alloc, &shape, journal, number)?)
         }
     }

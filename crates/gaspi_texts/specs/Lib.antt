@@ -2,6 +2,5 @@ pub mod CallLaws
 pub mod CollectiveText
 pub mod EventReading
 pub mod EventText
-pub mod Lines
 pub mod RefusalText
 pub mod ReplyText

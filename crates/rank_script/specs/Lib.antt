@@ -5,3 +5,4 @@ pub mod WorldText
 pub mod Kinds
 pub mod Readings
 pub mod PlainScripts
+pub mod UntilJournal

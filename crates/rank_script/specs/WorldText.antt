@@ -4,7 +4,7 @@ use Rattle.std.specs.Str.{bytes_eq}
 use Rattle.std.specs.Option.{option_map, option_map_or}
 use Rattle.gaspi_types.specs.Ranges.{is_between}
 use Rattle.call_texts.specs.Words.{words_of}
-use Rattle.gaspi_texts.specs.Lines.{fed_lines}
+use Rattle.text_lines.specs.Lines.{fed_lines, plain_line, lines_of}
 use Rattle.call_texts.specs.Numbers.{number_of}
 use Rattle.call_texts.specs.CallText.{is_call_word, argument_count, takes_timeout, call_of}
 use Rattle.call_texts.specs.Fields.{◌>>=◌}
@@ -17,7 +17,7 @@ use Rattle.gaspi_types.specs.declared.shapes.ShapeFault.TheVariants as shape_fau
 use Rattle.gaspi_types.specs.declared.replies.Reply.{Reply}
 use Rattle.gaspi_types.specs.declared.calls.Timeout.{Timeout}
 use Rattle.gaspi_types.specs.declared.calls.Timeout.TheVariants.{Looks, Block}
-use Rattle.rank_script.specs.Lines.{lines_of, is_bad_line}
+use Rattle.rank_script.specs.Lines.{is_bad_line, input_limit}
 use Rattle.rank_script.specs.declared.scripts.ScriptLine.{ScriptLine}
 use Rattle.rank_script.specs.declared.scripts.Script.{Script}
 use Rattle.rank_script.specs.declared.scripts.ScriptFault.{ScriptFault}
@@ -366,7 +366,7 @@ read_lines said number (line ∷ lines) =
 -- a text that is too long is faulty at line 0
 abbrev pub world_text : List ℕ → Result Said TextFault
 world_text bytes =
-    if nat_lt 268435456 (length bytes) then Err (record { number = 1; line = 0 }) else read_lines nothing_said 1 (lines_of bytes)
+    if nat_lt input_limit (length bytes) then Err (record { number = 1; line = 0 }) else read_lines nothing_said 1 (lines_of bytes)
 
 -- What reading a text gave: its world and scripts, or its first fault, unless memory ran out.
 abbrev pub Reads : Result (World × List Script) ScriptFault → Result Said TextFault → Type 0
@@ -387,11 +387,31 @@ abbrev pub is_journal_line : List ℕ → Bool
 is_journal_line line = bytes_eq (codes "journal") (first_word (words_of line))
 
 -- where the first such line of these begins, where the first of them begins at a byte and has a number
-abbrev pub journal_from : ℕ → ℕ → List (List ℕ) → List (List ℕ) → Option (ℕ × ℕ)
-journal_from byte number (line ∷ lines) (fed ∷ others) =
-    if is_journal_line line then Some (byte, number) else journal_from (byte + length fed) (number + 1) lines others
-journal_from byte number lines others = None
+abbrev pub journal_from : ℕ → ℕ → List (List ℕ) → Option (ℕ × ℕ)
+journal_from byte number [] = None
+journal_from byte number (line ∷ lines) =
+    if is_journal_line (plain_line line) then Some (byte, number) else journal_from (byte + length line) (number + 1) lines
 
 -- the byte at which that line begins, and its number
 abbrev pub journal_place : List ℕ → Option (ℕ × ℕ)
-journal_place bytes = journal_from 0 1 (lines_of bytes) (fed_lines bytes)
+journal_place bytes = journal_from 0 1 (fed_lines bytes)
+
+-- the world text of an input: what stands before its journal, or all of it
+abbrev pub world_part : List ℕ → List ℕ
+world_part input = before (journal_place input)
+  where
+    before : Option (ℕ × ℕ) → List ℕ
+    before None = input
+    before (Some place) = take place.0 input
+
+-- what that world text gives; the whole input may not be too long
+abbrev pub checked_world : List ℕ → Result Said TextFault
+checked_world input =
+    if nat_lt input_limit (length input) then Err (record { number = 1; line = 0 }) else world_text (world_part input)
+
+-- What reading an input gave: the world and the scripts of its world text, with the place of its journal, or the first
+-- fault, unless memory ran out.
+abbrev pub ReadsInput : Result (World × List Script × Option (ℕ × ℕ)) ScriptFault → Result Said TextFault → Option (ℕ × ℕ) → Type 0
+ReadsInput (Ok read) text place = (text ≡ Ok (record { world = Some read.0; scripts = read.1 })) × (read.2 ≡ place)
+ReadsInput (Err (faults.At number line)) text place = text ≡ Err (record { number = number; line = line })
+ReadsInput (Err faults.NoMemory) text place = Unit {0}

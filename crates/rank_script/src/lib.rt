@@ -16,7 +16,7 @@ pub use cursors::Cursor;
 pub use run_laws::runs;
 pub use scripts::{Halted, RunOutcome, Script, ScriptFault, ScriptLine, Scripts};
 pub use split::split_input;
-pub use world_texts::read_world;
+pub use world_texts::{MOST_INPUT_BYTES, read_input, read_world};
 
 #[cfg(test)]
 mod tests;

@@ -7,7 +7,7 @@ ghost use Rattle.call_texts.specs.Words.{is_blank};
 ghost use Rattle.rank_script.specs.WorldText.{is_journal_line, journal_place};
 
 use crate::kinds::is_word;
-use crate::lines::first_line;
+use text_lines::{first_line, plain_line};
 
 /// The byte at which the first line begins whose first word is `journal`, and that line's number, from 1; none exactly
 /// where no line begins so. It takes no memory.
@@ -19,7 +19,7 @@ pub fn split_input(text: &[u8]) -> Option<(u64, u64)>
     let mut number: u64 = 1;
     while !rest.is_empty() {
         let (line, later) = first_line(rest);
-        if is_journal_line(line) {
+        if is_journal_line(plain_line(line)) {
             return Some(((text.len() - rest.len()) as u64, number));
         }
         number += 1;
@@ -29,7 +29,7 @@ pub fn split_input(text: &[u8]) -> Option<(u64, u64)>
 }
 
 /// Whether the first word of a line is `journal`.
-fn is_journal_line(line: &[u8]) -> bool
+pub(crate) fn is_journal_line(line: &[u8]) -> bool
     ensures { result ≡ is_journal_line line.now }
 {
     match first_word(line) {

@@ -1,4 +1,4 @@
-use crate::{Cursor, Halted, RunOutcome, ScriptFault, Scripts, read_world, split_input};
+use crate::{Cursor, Halted, RunOutcome, ScriptFault, Scripts, read_input, read_world, split_input};
 use gaspi_types::{Call, CallerId, RankId, Reply, Reset, Shape, ThreadId, Timeout, Wait};
 use std::alloc::Global;
 use std::process::Abort;
@@ -70,6 +70,25 @@ fn a_run_is_stopped_without_memory(rt: HostRuntime) -> Result<(), Fail> {
 #[test]
 fn a_journal_begins_behind_the_world(rt: HostRuntime) {
     assert_eq!(rt; split_input(b"world\njournal 1\nend 0\n"), Some((6, 2)));
+}
+
+/// What an input gives. Nothing is claimed of it, as of `read`.
+fn read_both(
+    alloc: Global,
+    text: &[u8],
+) -> Result<(Shape, Scripts, Option<(u64, u64)>), ScriptFault> {
+    read_input(alloc, text)
+}
+
+// Where a journal begins, and where none does, is in `tests/no_journals.table`.
+#[test]
+fn inputs_are_read(rt: HostRuntime) -> Result<(), Fail> {
+    let input: &[u8] = b"world 2 1 4 8 4 1000\r\nrank 1 thread 0\njournal 1\nworld\n";
+    let (shape, scripts, place) = read_both(rt.alloc(), input)?;
+    assert_eq!(rt; shape.ranks(), 2);
+    assert_eq!(rt; scripts.len(), 1);
+    assert_eq!(rt; place, Some((38, 3)));
+    Ok(())
 }
 
 #[test]

@@ -1,17 +1,22 @@
 //! World texts.
 
-ghost use Rattle.std.specs.Prelude.{◌≡◌, IfOk};
+ghost use Rattle.std.specs.Prelude.{◌≡◌, ◌≤◌, ◌+◌, [], length, IfOk, IfSome};
 ghost use Rattle.gaspi_types.specs.World.{IsWorld};
-ghost use Rattle.rank_script.specs.WorldText.{world_text, Reads, AreScriptsOf};
+ghost use Rattle.text_lines.specs.Lines.{fed_lines};
+ghost use Rattle.rank_script.specs.WorldText.{world_text, checked_world, journal_place, read_lines, Reads, ReadsInput, AreScriptsOf};
+ghost use Rattle.rank_script.specs.Lines.{input_limit};
+ghost use Rattle.rank_script.specs.UntilJournal.{until_text, until_from};
+ghost use Rattle.rank_script.specs.Readings.{said_of, Accords};
 
-use crate::lines::first_line;
 use crate::readings::Reading;
 use crate::scripts::{ScriptFault, Scripts};
+use crate::split::is_journal_line;
 use gaspi_types::Shape;
 use std::alloc::Global;
+use text_lines::{first_line, plain_line};
 
-/// How many bytes a world text may have.
-const MOST_BYTES: usize = 268_435_456;
+/// The most bytes that a world text may have, and an input that begins with one.
+pub const MOST_INPUT_BYTES: usize = 268_435_456;
 
 /// Reads a world text: the shape of the world that it declares, and the scripts of its callers. Where a line has a
 /// fault, the answer is the first such line and the smallest number of its faults.
@@ -20,7 +25,39 @@ pub fn read_world(alloc: Global, text: &[u8]) -> Result<(Shape, Scripts), Script
     ensures world { IfOk result (λ read. IsWorld read.0) }
     ensures callers { IfOk result (λ read. AreScriptsOf read.0 read.1) }
 {
-    if text.len() > MOST_BYTES {
+    let (shape, scripts, _) = read_until(alloc, text, false)?;
+    Ok((shape, scripts))
+}
+
+/// Reads the world text of an input, and finds where its journal begins: the byte at which the first line begins whose
+/// first word is `journal`, and that line's number, from 1. The world text is what stands before, or the whole input.
+/// Its faults are those that `read_world` names, and the whole input may not be too long.
+pub fn read_input(
+    alloc: Global,
+    text: &[u8],
+) -> Result<(Shape, Scripts, Option<(u64, u64)>), ScriptFault>
+    ensures exact { ReadsInput result (checked_world text.now) (journal_place text.now) }
+    ensures world { IfOk result (λ read. IsWorld read.0) }
+    ensures callers { IfOk result (λ read. AreScriptsOf read.0 read.1) }
+    ensures short { IfOk result (λ read. length text.now ≤ input_limit) }
+    ensures within { IfOk result (λ read. IfSome read.2 (λ found. (1 ≤ found.1) × (found.1 ≤ found.0 + 1) × (found.0 ≤ length text.now))) }
+{
+    read_until(alloc, text, true)
+}
+
+/// Reads the lines of a text, up to its journal where that is looked for.
+fn read_until(
+    alloc: Global,
+    text: &[u8],
+    journal: bool,
+) -> Result<(Shape, Scripts, Option<(u64, u64)>), ScriptFault>
+    ensures exact { ReadsInput result (until_text journal text.now) (until_from journal 0 1 (fed_lines text.now)) }
+    ensures world { IfOk result (λ read. IsWorld read.0) }
+    ensures callers { IfOk result (λ read. AreScriptsOf read.0 read.1) }
+    ensures short { IfOk result (λ read. length text.now ≤ input_limit) }
+    ensures within { IfOk result (λ read. IfSome read.2 (λ found. (1 ≤ found.1) × (found.1 ≤ found.0 + 1) × (found.0 ≤ length text.now))) }
+{
+    if text.len() > MOST_INPUT_BYTES {
         return Err(ScriptFault::At { number: 1, line: 0 });
     }
     let mut reading = Reading::new(alloc);
@@ -28,10 +65,27 @@ pub fn read_world(alloc: Global, text: &[u8]) -> Result<(Shape, Scripts), Script
     let mut number: u64 = 1;
     while !rest.is_empty() {
         let (line, later) = first_line(rest);
+        let line = plain_line(line);
+        if journal && is_journal_line(line) {
+            let (shape, scripts) = finish(reading, number)?;
+            let place = (text.len() - rest.len()) as u64;
+            return Ok((shape, scripts, Some((place, number))));
+        }
         reading.read_line(alloc, number, line)?;
         number += 1;
         rest = later;
     }
+    let (shape, scripts) = finish(reading, number)?;
+    Ok((shape, scripts, None))
+}
+
+/// What was read, where the lines end before one of that number.
+fn finish(reading: Reading, number: u64) -> Result<(Shape, Scripts), ScriptFault>
+    requires { Accords (said_of reading) }
+    ensures exact { Reads result (read_lines (said_of reading) number []) }
+    ensures world { IfOk result (λ read. IsWorld read.0) }
+    ensures callers { IfOk result (λ read. AreScriptsOf read.0 read.1) }
+{
     let Reading { shape, scripts } = reading;
     let Some(shape) = shape else {
         return Err(ScriptFault::At {

@@ -1,5 +1,5 @@
 use Rattle.std.proofs.Common.{Err, ap, inl, arith}
-use Rattle.gaspi_run.proofs.LineCounts.{lines-short}
+use Rattle.text_lines.proofs.FedLines.{lines-short}
 use Rattle.gaspi_run.proofs.ToldInputs.{if-ok}
 use Rattle.gaspi_run.proofs.telling.tell_journal.Goals as goal
 

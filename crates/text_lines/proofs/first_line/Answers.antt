@@ -1,5 +1,5 @@
-use Rattle.call_journal.proofs.FedLines.{fed_lines-feed, fed_lines-last}
-use Rattle.call_journal.proofs.lines.first_line.Goals as goal
+use Rattle.text_lines.proofs.FedLines.{fed_lines-feed, fed_lines-last}
+use Rattle.text_lines.proofs.first_line.Goals as goal
 
 pub returns-in-Some-clause-lines : goal.returns-in-Some-clause-lines
 returns-in-Some-clause-lines c = rw (c.split_at.ensures.front, c.split_at.ensures.back) (fed_lines-feed c.args.text.now c.in-Some.end c.in-Some.ensures)

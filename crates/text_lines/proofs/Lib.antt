@@ -1,0 +1,2 @@
+pub mod FedLines
+pub mod PlainLines
