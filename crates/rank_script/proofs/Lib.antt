@@ -1,7 +1,7 @@
 pub mod AddedLines
+pub mod EarlyFaults
 pub mod Following
 pub mod JournalLines
-pub mod KindFaults
 pub mod LateFaults
 pub mod LineFeeds
 pub mod ReadLines
