@@ -1,57 +1,46 @@
--- The kinds of lines, by the words that say what they are. (own choice)
-use Rattle.std.specs.Prelude.{◌≡◌, ℕ, ◌+◌, Bool, true, false, ◌==◌, ◌||◌, not, List, length, Some, is_some, codes, if◌then◌else◌}
-use Rattle.std.specs.Option.{option_map_or}
-use Rattle.call_texts.specs.CallText.{call_word_of, arguments_of, has_timeout}
-use Rattle.call_texts.specs.declared.call_words.CallWord.{CallWord}
-use Rattle.rank_script.specs.WorldText.{Said, first_word, is_world_word, is_segment_word, is_rank_word, from_call, asked_words, expected_words, is_call_line, is_unknown}
-use Rattle.rank_script.specs.declared.kinds.LineKind.{LineKind}
-use Rattle.rank_script.specs.declared.kinds.LineKind.TheVariants.{World, Segment, Section, Call, Again}
+-- Lines as they are cut. (own choice)
+use Rattle.std.specs.Prelude.{◌≡◌, map, ℕ, List, [], ◌∷◌, Some}
+use Rattle.std.specs.Option.{option_copied, option_map}
+use Rattle.call_texts.specs.CallText.{call_word_of}
+use Rattle.rank_script.specs.WorldText.{LineCall, Line, WorldLine, SegmentLine, SectionLine, CallLine, LoneAgain, UnknownLine, first_word}
+use Rattle.rank_script.specs.declared.call_lines.CallParts.{CallParts}
+use Rattle.rank_script.specs.declared.kinds.LineParts.{LineParts}
+use Rattle.rank_script.specs.declared.kinds.LineParts.TheVariants.{World, Segment, Section, Call, Again, Unknown}
 
--- the line is no declaration
-abbrev pub IsNoDeclaration : List (List ℕ) → Type 0
-IsNoDeclaration words =
-    (is_world_word (first_word words) ≡ false) × (is_segment_word (first_word words) ≡ false) × (is_rank_word (first_word words) ≡ false)
+abbrev pub later_words : List (List ℕ) → List (List ℕ)
+later_words [] = []
+later_words (word ∷ words) = words
 
--- the line is one of that call
-abbrev pub IsLineOf : CallWord → List (List ℕ) → Type 0
-IsLineOf call words = (is_call_line words ≡ true) × (call_word_of (first_word (from_call words)) ≡ Some call)
+-- the call's word, and its arguments and its timeout behind it
+abbrev pub asked_in : CallParts → List (List ℕ)
+asked_in call = map (λ word. word.now) call.asked.now
 
--- the words are those of a line of this kind
-abbrev pub IsKind : LineKind → List (List ℕ) → Type 0
-IsKind World words = first_word words ≡ codes "world"
-IsKind Segment words = first_word words ≡ codes "segment"
-IsKind Section words = first_word words ≡ codes "rank"
-IsKind (Call call) words = IsNoDeclaration words × IsLineOf call words
-IsKind Again words = (first_word words ≡ codes "again") × (length (from_call words) ≡ 0)
+-- the call of a line that was cut
+abbrev pub call_in : CallParts → LineCall
+call_in call = record {
+  tries = option_copied call.tries;
+  word = call.word;
+  given = later_words (asked_in call);
+  expected = option_map (λ reply. map (λ word. word.now) reply.now) call.expected;
+}
 
--- the words are those of no line
-abbrev pub IsNoKind : List (List ℕ) → Type 0
-IsNoKind words = (is_world_word (first_word words) ≡ false) × (is_unknown words ≡ true)
+-- the first word of a call spells it
+abbrev pub IsSpelledCall : CallParts → Type 0
+IsSpelledCall call = call_word_of (first_word (asked_in call)) ≡ Some call.word
 
-abbrev pub is_world_kind : LineKind → Bool
-is_world_kind World = true
-is_world_kind Segment = false
-is_world_kind Section = false
-is_world_kind (Call call) = false
-is_world_kind Again = false
+-- a line that was cut
+abbrev pub line_in : LineParts → Line
+line_in (World words) = WorldLine (map (λ word. word.now) words.now)
+line_in (Segment words) = SegmentLine (map (λ word. word.now) words.now)
+line_in (Section words) = SectionLine (map (λ word. word.now) words.now)
+line_in (Call call) = CallLine (call_in call)
+line_in Again = LoneAgain
+line_in Unknown = UnknownLine
 
--- a line of this kind may not stand there
-abbrev pub is_misplaced_kind : Said → LineKind → Bool
-is_misplaced_kind said World = is_some said.world
-is_misplaced_kind said Segment = not (length said.scripts == 0)
-is_misplaced_kind said Section = false
-is_misplaced_kind said (Call call) = length said.scripts == 0
-is_misplaced_kind said Again = length said.scripts == 0
-
--- how many words a call has, with its own and its timeout
-abbrev pub asked_count : CallWord → ℕ
-asked_count call = arguments_of call + 1 + (if has_timeout call then 1 else 0)
-
--- a line of this kind has another number of words
-abbrev pub is_miscounted_kind : LineKind → List (List ℕ) → Bool
-is_miscounted_kind World words = not (length words == 7)
-is_miscounted_kind Segment words = not (length words == 4)
-is_miscounted_kind Section words = not (length words == 4)
-is_miscounted_kind (Call call) words =
-    not (length (asked_words (from_call words)) == asked_count call) || option_map_or (λ reply. length reply == 0) (expected_words words) false
-is_miscounted_kind Again words = true
+abbrev pub IsSpelled : LineParts → Type 0
+IsSpelled (World words) = Unit {0}
+IsSpelled (Segment words) = Unit {0}
+IsSpelled (Section words) = Unit {0}
+IsSpelled (Call call) = IsSpelledCall call
+IsSpelled Again = Unit {0}
+IsSpelled Unknown = Unit {0}

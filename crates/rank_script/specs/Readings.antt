@@ -1,12 +1,10 @@
 -- What reading a line does to what was said before it. (own choice)
-use Rattle.std.specs.Prelude.{◌≡◌, map, ℕ, ◌&&◌, ◌||◌, false, is_none, List, [], Option, None, Some, Result, Ok, Err, if◌then◌else◌}
-use Rattle.std.specs.Option.{option_map_or}
+use Rattle.std.specs.Prelude.{◌≡◌, map, ℕ, List, [], Option, None, Some, Result, Ok, Err, if◌then◌else◌}
 use Rattle.gaspi_types.specs.World.{World}
 use Rattle.gaspi_types.specs.declared.shapes.CallerId.{CallerId}
 use Rattle.gaspi_types.specs.declared.shapes.ShapeFault.{ShapeFault}
 use Rattle.gaspi_types.specs.declared.shapes.ShapeFault.TheVariants as shape_faults
-use Rattle.rank_script.specs.WorldText.{Said, lacks_world, is_unknown, is_misplaced, is_miscounted, is_malformed, is_outside, is_repeated, is_crowded, fault_of, after_line, said_after, line_tries, are_tries_within, call_words_of, line_timeout, is_timeout_within, line_expected, script_line}
-use Rattle.call_texts.specs.CallText.{call_of}
+use Rattle.rank_script.specs.WorldText.{Said, Line, LineCall, lacks_world, is_unknown, is_misplaced, is_miscounted, is_malformed, is_malformed_call, is_outside, is_outside_call, is_repeated, is_crowded, fault_of, after_line, said_after, script_line}
 use Rattle.rank_script.specs.Lines.{is_bad_line}
 use Rattle.rank_script.specs.declared.readings.Reading.{Reading}
 use Rattle.rank_script.specs.declared.scripts.ScriptFault.{ScriptFault}
@@ -17,21 +15,21 @@ abbrev pub said_of : Reading → Said
 said_of reading = record { world = reading.shape; scripts = reading.scripts }
 
 -- the first of the faults of a line that show before its arguments are read
-abbrev pub early_fault : Said → List ℕ → List (List ℕ) → Option ℕ
-early_fault said line words =
-    if lacks_world said words then Some 1
-    else (if is_bad_line line then Some 2
-    else (if is_unknown words then Some 3
-    else (if is_misplaced said words then Some 4
-    else (if is_miscounted words then Some 5 else None))))
+abbrev pub early_fault : Said → List ℕ → Line → Option ℕ
+early_fault said bytes line =
+    if lacks_world said line then Some 1
+    else (if is_bad_line bytes then Some 2
+    else (if is_unknown line then Some 3
+    else (if is_misplaced said line then Some 4
+    else (if is_miscounted line then Some 5 else None))))
 
 -- the first of the faults of a line that show in its arguments
-abbrev pub late_fault : Said → List (List ℕ) → Option ℕ
-late_fault said words =
-    if is_malformed words then Some 6
-    else (if is_outside said words then Some 7
-    else (if is_repeated said words then Some 8
-    else (if is_crowded said words then Some 9 else None)))
+abbrev pub late_fault : Said → Line → Option ℕ
+late_fault said line =
+    if is_malformed line then Some 6
+    else (if is_outside said line then Some 7
+    else (if is_repeated said line then Some 8
+    else (if is_crowded said line then Some 9 else None)))
 
 -- A line was read: it has no fault and was added, or its fault is named. Want of memory is no fault of it.
 abbrev pub ReadsLine : Result (Unit {0}) ScriptFault → Said → Said → ℕ → List ℕ → Type 0
@@ -39,25 +37,21 @@ ReadsLine (Ok done) old new number line = (fault_of old line ≡ None) × (new �
 ReadsLine (Err (faults.At fault at)) old new number line = (fault_of old line ≡ Some fault) × (at ≡ number)
 ReadsLine (Err faults.NoMemory) old new number line = Unit {0}
 
--- the same of the arguments of a line whose early faults were ruled out
-abbrev pub ReadsWords : Result (Unit {0}) ScriptFault → Said → Said → ℕ → List (List ℕ) → Type 0
-ReadsWords (Ok done) old new number words = (late_fault old words ≡ None) × (new ≡ said_after old number words)
-ReadsWords (Err (faults.At fault at)) old new number words = (late_fault old words ≡ Some fault) × (at ≡ number)
-ReadsWords (Err faults.NoMemory) old new number words = Unit {0}
+-- the same of the parts of a line whose early faults were ruled out
+abbrev pub ReadsParts : Result (Unit {0}) ScriptFault → Said → Said → ℕ → Line → Type 0
+ReadsParts (Ok done) old new number line = (late_fault old line ≡ None) × (new ≡ said_after old number line)
+ReadsParts (Err (faults.At fault at)) old new number line = (late_fault old line ≡ Some fault) × (at ≡ number)
+ReadsParts (Err faults.NoMemory) old new number line = Unit {0}
 
 -- a fault of a call line that shows in its arguments
-abbrev pub call_fault : List (List ℕ) → Option ℕ
-call_fault words =
-    if is_none (line_tries words) || (is_none (call_of (call_words_of words)) || (is_none (line_timeout words) || is_none (line_expected words)))
-    then Some 6
-    else (if option_map_or are_tries_within (line_tries words) false && option_map_or is_timeout_within (line_timeout words) false then None
-    else Some 7)
+abbrev pub call_fault : LineCall → Option ℕ
+call_fault call = if is_malformed_call call then Some 6 else (if is_outside_call call then Some 7 else None)
 
--- the line of a script that the words of a call line give, or their fault
-abbrev pub GivesLine : Result ScriptLine ScriptFault → ℕ → List (List ℕ) → Type 0
-GivesLine (Ok line) number words = (call_fault words ≡ None) × (Some line ≡ script_line number words)
-GivesLine (Err (faults.At fault at)) number words = (call_fault words ≡ Some fault) × (at ≡ number)
-GivesLine (Err faults.NoMemory) number words = Unit {0}
+-- the line of a script that a call line gives, or its fault
+abbrev pub GivesLine : Result ScriptLine ScriptFault → ℕ → LineCall → Type 0
+GivesLine (Ok line) number call = (call_fault call ≡ None) × (Some line ≡ script_line number call)
+GivesLine (Err (faults.At fault at)) number call = (call_fault call ≡ Some fault) × (at ≡ number)
+GivesLine (Err faults.NoMemory) number call = Unit {0}
 
 -- the fault that a refused declaration is
 abbrev pub fault_for : ShapeFault → ℕ → ScriptFault

@@ -1,19 +1,21 @@
 -- World texts: the shape and the scripts that a text gives, or its first fault. (own choice)
-use Rattle.std.specs.Prelude.{◌≡◌, map, ℕ, ◌+◌, Bool, true, false, ◌==◌, ◌&&◌, ◌||◌, not, nat_lt, List, [], ◌∷◌, ◌++◌, length, Option, None, Some, Result, Ok, Err, if◌then◌else◌, codes, is_none, is_some, take, drop, option_and_then}
+use Rattle.std.specs.Prelude.{◌≡◌, map, ℕ, ◌+◌, Bool, true, false, ◌==◌, ◌&&◌, ◌||◌, not, nat_lt, List, [], ◌∷◌, ◌++◌, length, Option, None, Some, Result, Ok, Err, if◌then◌else◌, codes, is_none, is_some, take, option_and_then}
 use Rattle.std.specs.Str.{bytes_eq}
 use Rattle.std.specs.Option.{option_map, option_map_or}
 use Rattle.gaspi_types.specs.Ranges.{is_between}
 use Rattle.call_texts.specs.Words.{words_of}
 use Rattle.text_lines.specs.Lines.{fed_lines, plain_line, lines_of}
 use Rattle.call_texts.specs.Numbers.{number_of}
-use Rattle.call_texts.specs.CallText.{is_call_word, argument_count, takes_timeout, call_of}
+use Rattle.call_texts.specs.CallText.{call_word_of, arguments_of, has_timeout, call_taken, with_nothing_left}
+use Rattle.call_texts.specs.declared.call_words.CallWord.{CallWord}
 use Rattle.call_texts.specs.Fields.{◌>>=◌}
 use Rattle.gaspi_texts.specs.ReplyText.{reply_of}
-use Rattle.gaspi_types.specs.World.{World, are_limits, world_of, segment_added, caller_added, is_caller}
+use Rattle.gaspi_types.specs.World.{World, world_of, segment_added, caller_added, is_caller}
 use Rattle.gaspi_types.specs.declared.shapes.Limits.{Limits}
 use Rattle.gaspi_types.specs.declared.shapes.CallerId.{CallerId}
 use Rattle.gaspi_types.specs.declared.shapes.ShapeFault.{ShapeFault}
 use Rattle.gaspi_types.specs.declared.shapes.ShapeFault.TheVariants as shape_faults
+use Rattle.gaspi_types.specs.declared.calls.Call.{Call}
 use Rattle.gaspi_types.specs.declared.replies.Reply.{Reply}
 use Rattle.gaspi_types.specs.declared.calls.Timeout.{Timeout}
 use Rattle.gaspi_types.specs.declared.calls.Timeout.TheVariants.{Looks, Block}
@@ -37,10 +39,6 @@ abbrev pub first_word : List (List ℕ) → List ℕ
 first_word [] = []
 first_word (word ∷ words) = word
 
-abbrev pub later_words : List (List ℕ) → List (List ℕ)
-later_words [] = []
-later_words (word ∷ words) = words
-
 abbrev pub is_world_word : List ℕ → Bool
 is_world_word word = bytes_eq (codes "world") word
 
@@ -53,6 +51,12 @@ is_rank_word word = bytes_eq (codes "rank") word
 abbrev pub is_thread_word : List ℕ → Bool
 is_thread_word word = bytes_eq (codes "thread") word
 
+abbrev pub is_again_word : List ℕ → Bool
+is_again_word word = bytes_eq (codes "again") word
+
+abbrev pub is_equals_word : List ℕ → Bool
+is_equals_word word = bytes_eq (codes "=") word
+
 abbrev pub is_comment : List (List ℕ) → Bool
 is_comment [] = false
 is_comment (word ∷ words) = begins_hash word
@@ -61,21 +65,25 @@ is_comment (word ∷ words) = begins_hash word
     begins_hash [] = false
     begins_hash (byte ∷ bytes) = byte == 35
 
--- The words of a call line: `again` and a number may stand before the call's own word, and `=` and a reply behind its
--- arguments.
+-- The parts of a line.
 
-abbrev pub is_again_word : List ℕ → Bool
-is_again_word word = bytes_eq (codes "again") word
+-- The call of a line: the word behind `again`, none without it; the call's word; its arguments, and its timeout where it
+-- takes one, up to the first `=`; and the words behind that, where there is one.
+pub record LineCall : Type 0 where
+  pub tries : Option (List ℕ)
+  pub word : CallWord
+  pub given : List (List ℕ)
+  pub expected : Option (List (List ℕ))
 
-abbrev pub is_equals_word : List ℕ → Bool
-is_equals_word word = bytes_eq (codes "=") word
-
-abbrev pub second_word : List (List ℕ) → List ℕ
-second_word words = first_word (later_words words)
-
--- the words from the call's own word on
-abbrev pub from_call : List (List ℕ) → List (List ℕ)
-from_call words = if is_again_word (first_word words) then drop 2 words else words
+-- A line by its parts: a declaration with the words behind its first, a call, `again` with at most one word behind it, so
+-- without its call, or none of these.
+pub data Line : Type 0 where
+  WorldLine : (words : List (List ℕ)) → Line
+  SegmentLine : (words : List (List ℕ)) → Line
+  SectionLine : (words : List (List ℕ)) → Line
+  CallLine : (call : LineCall) → Line
+  LoneAgain : Line
+  UnknownLine : Line
 
 -- the words before the first `=`
 abbrev pub before_equals : List (List ℕ) → List (List ℕ)
@@ -87,33 +95,26 @@ abbrev pub after_equals : List (List ℕ) → Option (List (List ℕ))
 after_equals [] = None
 after_equals (word ∷ words) = if is_equals_word word then Some words else after_equals words
 
--- the call's word, its arguments and its timeout
-abbrev pub asked_words : List (List ℕ) → List (List ℕ)
-asked_words [] = []
-asked_words (word ∷ words) = word ∷ before_equals words
+-- the line of a call with that word, where it is one's, and with the words behind it
+abbrev pub call_line : Option (List ℕ) → Option CallWord → List (List ℕ) → Line
+call_line tries None words = UnknownLine
+call_line tries (Some word) words =
+    CallLine (record { tries = tries; word = word; given = before_equals words; expected = after_equals words })
 
--- the words of the reply that is expected, where there is an `=`
-abbrev pub expected_words : List (List ℕ) → Option (List (List ℕ))
-expected_words words = after_equals (later_words (from_call words))
+-- the line of `again` and the words behind it
+abbrev pub again_line : List (List ℕ) → Line
+again_line [] = LoneAgain
+again_line (tries ∷ []) = LoneAgain
+again_line (tries ∷ word ∷ words) = call_line (Some tries) (call_word_of word) words
 
--- a line of a call: it begins with `again` or with the call's word
-abbrev pub is_call_line : List (List ℕ) → Bool
-is_call_line words = is_again_word (first_word words) || is_call_word (first_word words)
-
--- how often a line's call is made at most
-abbrev pub line_tries : List (List ℕ) → Option ℕ
-line_tries words = if is_again_word (first_word words) then number_of (second_word words) else Some 1
-
-abbrev pub are_tries_within : ℕ → Bool
-are_tries_within tries = is_between 1 1000000 tries
-
--- what a line expects: nothing, or a reply; none where the words behind `=` spell no reply
-abbrev pub line_expected : List (List ℕ) → Option (Option Reply)
-line_expected words = read_expected (expected_words words)
-  where
-    read_expected : Option (List (List ℕ)) → Option (Option Reply)
-    read_expected None = Some None
-    read_expected (Some reply) = option_map Some (reply_of reply)
+-- the words of a line, cut into its parts
+abbrev pub parts_of : List (List ℕ) → Line
+parts_of [] = UnknownLine
+parts_of (word ∷ words) =
+    if is_world_word word then WorldLine words
+    else (if is_segment_word word then SegmentLine words
+    else (if is_rank_word word then SectionLine words
+    else (if is_again_word word then again_line words else call_line None (call_word_of word) words)))
 
 -- Timeouts.
 
@@ -131,22 +132,40 @@ abbrev pub as_timeout : Option ℕ → Timeout
 as_timeout None = Block
 as_timeout (Some looks) = Looks looks
 
+-- Calls.
+
 -- the last of the words, which is the timeout of a call that takes one
 abbrev pub last_word : List (List ℕ) → List ℕ
 last_word [] = []
 last_word (word ∷ []) = word
 last_word (word ∷ next ∷ words) = last_word (next ∷ words)
 
--- the call's word and its arguments
-abbrev pub call_words_of : List (List ℕ) → List (List ℕ)
-call_words_of words = take (argument_count (first_word (from_call words)) + 1) (asked_words (from_call words))
+-- how many arguments a call has, with its timeout
+abbrev pub given_count : CallWord → ℕ
+given_count word = arguments_of word + (if has_timeout word then 1 else 0)
+
+-- how often a line's call is made at most
+abbrev pub line_tries : LineCall → Option ℕ
+line_tries call = option_map_or number_of call.tries (Some 1)
+
+abbrev pub are_tries_within : ℕ → Bool
+are_tries_within tries = is_between 1 1000000 tries
+
+-- the call that a line's words spell, its timeout aside
+abbrev pub line_call : LineCall → Option Call
+line_call call = do
+  taken ← call_taken call.word (take (arguments_of call.word) call.given)
+  with_nothing_left taken
 
 -- what a line's timeout is; a call that takes none makes one look
-abbrev pub line_timeout : List (List ℕ) → Option (Option ℕ)
-line_timeout words =
-    if takes_timeout (first_word (from_call words)) then timeout_of (last_word (asked_words (from_call words))) else Some (Some 1)
+abbrev pub line_timeout : LineCall → Option (Option ℕ)
+line_timeout call = if has_timeout call.word then timeout_of (last_word call.given) else Some (Some 1)
 
--- Numbers of a line.
+-- what a line expects: nothing, or a reply; none where the words behind `=` spell no reply
+abbrev pub line_expected : LineCall → Option (Option Reply)
+line_expected call = option_map_or (λ reply. option_map Some (reply_of reply)) call.expected (Some None)
+
+-- Declarations.
 
 abbrev pub all_numbers : List (List ℕ) → Bool
 all_numbers [] = true
@@ -163,154 +182,152 @@ number_at words place = value_or (number_in words place)
     number_in : List (List ℕ) → ℕ → Option ℕ
     number_in words place = option_and_then number_of (Rattle.std.specs.List.slice_get words place)
 
--- what a world line, a segment line and a section line declare
+-- the limits that the words of a world line give
 abbrev pub limits_of : List (List ℕ) → Limits
 limits_of words = record {
-  ranks = number_at words 1;
-  queues = number_at words 2;
-  depth = number_at words 3;
-  notes = number_at words 4;
-  inbox = number_at words 5;
-  events = number_at words 6;
+  ranks = number_at words 0;
+  queues = number_at words 1;
+  depth = number_at words 2;
+  notes = number_at words 3;
+  inbox = number_at words 4;
+  events = number_at words 5;
 }
-
-abbrev pub segment_declared : World → List (List ℕ) → Result World ShapeFault
-segment_declared w words = segment_added w (number_at words 1) (number_at words 2) (number_at words 3)
-
-abbrev pub caller_declared : World → List (List ℕ) → Result World ShapeFault
-caller_declared w words = caller_added w (number_at words 1) (number_at words 3)
-
--- what a declaration of a line gives: of a segment or of a section, in a world
-abbrev pub declared : World → List (List ℕ) → Result World ShapeFault
-declared w words =
-    if is_segment_word (first_word words) then segment_declared w words
-    else (if is_rank_word (first_word words) then caller_declared w words else Ok w)
-
-abbrev pub is_limit_fault : Result World ShapeFault → Bool
-is_limit_fault (Ok w) = false
-is_limit_fault (Err shape_faults.Limit) = true
-is_limit_fault (Err shape_faults.Twice) = false
-is_limit_fault (Err shape_faults.Threads) = false
-is_limit_fault (Err shape_faults.NoMemory) = false
-
-abbrev pub is_twice_fault : Result World ShapeFault → Bool
-is_twice_fault (Ok w) = false
-is_twice_fault (Err shape_faults.Limit) = false
-is_twice_fault (Err shape_faults.Twice) = true
-is_twice_fault (Err shape_faults.Threads) = false
-is_twice_fault (Err shape_faults.NoMemory) = false
-
-abbrev pub is_threads_fault : Result World ShapeFault → Bool
-is_threads_fault (Ok w) = false
-is_threads_fault (Err shape_faults.Limit) = false
-is_threads_fault (Err shape_faults.Twice) = false
-is_threads_fault (Err shape_faults.Threads) = true
-is_threads_fault (Err shape_faults.NoMemory) = false
-
--- The faults of a line with words that is no comment. Each is a test of its own on the line and on what the lines
--- before it said.
-
--- S1: the first line with words does not begin with `world`
-abbrev pub lacks_world : Said → List (List ℕ) → Bool
-lacks_world said words = is_none said.world && not (is_world_word (first_word words))
-
--- S3: the first word is no word of a line or call; behind `again` and one word more stands no word of a call
-abbrev pub is_unknown : List (List ℕ) → Bool
-is_unknown words =
-    if is_again_word (first_word words) then nat_lt 2 (length words) && not (is_call_word (first_word (from_call words)))
-    else not (is_world_word (first_word words) || (is_segment_word (first_word words)
-    || (is_rank_word (first_word words) || is_call_word (first_word words))))
-
--- S4: a second world line, a segment line after a section, or a call before any section
-abbrev pub is_misplaced : Said → List (List ℕ) → Bool
-is_misplaced said words =
-    (is_world_word (first_word words) && is_some said.world)
-    || ((is_segment_word (first_word words) && not (length said.scripts == 0))
-    || (is_call_line words && (length said.scripts == 0)))
-
--- how many words a call has, with its own and its timeout
-abbrev pub call_word_count : List ℕ → ℕ
-call_word_count word = argument_count word + 1 + (if takes_timeout word then 1 else 0)
-
--- a call line has its call, with all its words, and something behind `=`
-abbrev pub is_miscounted_call : List (List ℕ) → Bool
-is_miscounted_call words =
-    (length (from_call words) == 0)
-    || (not (length (asked_words (from_call words)) == call_word_count (first_word (from_call words)))
-    || is_empty_reply (expected_words words))
-  where
-    is_empty_reply : Option (List (List ℕ)) → Bool
-    is_empty_reply None = false
-    is_empty_reply (Some reply) = length reply == 0
-
--- S5: the number of words is wrong for the line
-abbrev pub is_miscounted : List (List ℕ) → Bool
-is_miscounted words =
-    if is_world_word (first_word words) then not (length words == 7)
-    else (if is_segment_word (first_word words) || is_rank_word (first_word words) then not (length words == 4)
-    else is_miscounted_call words)
 
 -- a number, the word `thread` and a number
 abbrev pub is_section_line : List (List ℕ) → Bool
-is_section_line [] = false
-is_section_line (rank ∷ []) = false
-is_section_line (rank ∷ thread ∷ []) = false
 is_section_line (rank ∷ thread ∷ number ∷ words) = is_some (number_of rank) && (is_thread_word thread && is_some (number_of number))
+is_section_line _ = false
+
+-- the caller that the words of a section line give
+abbrev pub section_caller : List (List ℕ) → CallerId
+section_caller words = record { rank = number_at words 0; thread = number_at words 2 }
+
+abbrev pub segment_declared : World → List (List ℕ) → Result World ShapeFault
+segment_declared w words = segment_added w (number_at words 0) (number_at words 1) (number_at words 2)
+
+abbrev pub caller_declared : World → List (List ℕ) → Result World ShapeFault
+caller_declared w words = caller_added w (number_at words 0) (number_at words 2)
+
+-- what the declaration of a line gives: that of the world itself, or that of a segment or of a section in it
+abbrev pub declared : Option World → Line → Option (Result World ShapeFault)
+declared world (WorldLine words) = Some (world_of (limits_of words))
+declared world (SegmentLine words) = option_map (λ w. segment_declared w words) world
+declared world (SectionLine words) = option_map (λ w. caller_declared w words) world
+declared world (CallLine call) = None
+declared world LoneAgain = None
+declared world UnknownLine = None
+
+abbrev pub is_limit_fault : Option (Result World ShapeFault) → Bool
+is_limit_fault (Some (Err shape_faults.Limit)) = true
+is_limit_fault _ = false
+
+abbrev pub is_twice_fault : Option (Result World ShapeFault) → Bool
+is_twice_fault (Some (Err shape_faults.Twice)) = true
+is_twice_fault _ = false
+
+abbrev pub is_threads_fault : Option (Result World ShapeFault) → Bool
+is_threads_fault (Some (Err shape_faults.Threads)) = true
+is_threads_fault _ = false
+
+-- The faults of a line with words that is no comment. Each is a test of its own on the line's parts and on what the lines
+-- before it said.
+
+abbrev pub is_world_line : Line → Bool
+is_world_line (WorldLine words) = true
+is_world_line _ = false
+
+-- S1: the first line with words does not begin with `world`
+abbrev pub lacks_world : Said → Line → Bool
+lacks_world said line = is_none said.world && not (is_world_line line)
+
+-- S3: the first word is no word of a line or call; behind `again` and one word more stands no word of a call
+abbrev pub is_unknown : Line → Bool
+is_unknown UnknownLine = true
+is_unknown _ = false
+
+-- S4: a second world line, a segment line after a section, or a call before any section
+abbrev pub is_misplaced : Said → Line → Bool
+is_misplaced said (WorldLine words) = is_some said.world
+is_misplaced said (SegmentLine words) = not (length said.scripts == 0)
+is_misplaced said (SectionLine words) = false
+is_misplaced said (CallLine call) = length said.scripts == 0
+is_misplaced said LoneAgain = length said.scripts == 0
+is_misplaced said UnknownLine = false
+
+-- a call has its arguments, and something behind `=`
+abbrev pub is_miscounted_call : LineCall → Bool
+is_miscounted_call call =
+    not (length call.given == given_count call.word) || option_map_or (λ reply. length reply == 0) call.expected false
+
+-- S5: the number of words is wrong for the line
+abbrev pub is_miscounted : Line → Bool
+is_miscounted (WorldLine words) = not (length words == 6)
+is_miscounted (SegmentLine words) = not (length words == 3)
+is_miscounted (SectionLine words) = not (length words == 3)
+is_miscounted (CallLine call) = is_miscounted_call call
+is_miscounted LoneAgain = true
+is_miscounted UnknownLine = false
+
+abbrev pub is_malformed_call : LineCall → Bool
+is_malformed_call call =
+    is_none (line_tries call) || (is_none (line_call call) || (is_none (line_timeout call) || is_none (line_expected call)))
 
 -- S6: a word is not of its form
-abbrev pub is_malformed : List (List ℕ) → Bool
-is_malformed words =
-    if is_world_word (first_word words) || is_segment_word (first_word words) then not (all_numbers (later_words words))
-    else (if is_rank_word (first_word words) then not (is_section_line (later_words words))
-    else is_none (line_tries words)
-    || (is_none (call_of (call_words_of words)) || (is_none (line_timeout words) || is_none (line_expected words))))
+abbrev pub is_malformed : Line → Bool
+is_malformed (WorldLine words) = not (all_numbers words)
+is_malformed (SegmentLine words) = not (all_numbers words)
+is_malformed (SectionLine words) = not (is_section_line words)
+is_malformed (CallLine call) = is_malformed_call call
+is_malformed LoneAgain = false
+is_malformed UnknownLine = false
+
+abbrev pub is_outside_call : LineCall → Bool
+is_outside_call call =
+    not (option_map_or are_tries_within (line_tries call) false && option_map_or is_timeout_within (line_timeout call) false)
 
 -- S7: a number of a world, segment or rank line, of `again` or of a timeout is outside its limits
-abbrev pub is_outside : Said → List (List ℕ) → Bool
-is_outside said words =
-    if is_world_word (first_word words) then not (are_limits (limits_of words))
-    else (if is_call_line words
-    then not (option_map_or are_tries_within (line_tries words) false && option_map_or is_timeout_within (line_timeout words) false)
-    else option_map_or (λ w. is_limit_fault (declared w words)) said.world false)
+abbrev pub is_outside : Said → Line → Bool
+is_outside said (CallLine call) = is_outside_call call
+is_outside said line = is_limit_fault (declared said.world line)
 
 -- S8: a segment or a caller is declared twice
-abbrev pub is_repeated : Said → List (List ℕ) → Bool
-is_repeated said words = option_map_or (λ w. is_twice_fault (declared w words)) said.world false
+abbrev pub is_repeated : Said → Line → Bool
+is_repeated said line = is_twice_fault (declared said.world line)
 
 -- S9: the section gives its rank more threads than events
-abbrev pub is_crowded : Said → List (List ℕ) → Bool
-is_crowded said words = option_map_or (λ w. is_threads_fault (declared w words)) said.world false
+abbrev pub is_crowded : Said → Line → Bool
+is_crowded said line = is_threads_fault (declared said.world line)
 
--- of a line's faults, the one with the smallest number
-abbrev pub fault_in : Said → List ℕ → List (List ℕ) → Option ℕ
-fault_in said line words =
-    if lacks_world said words then Some 1
-    else (if is_bad_line line then Some 2
-    else (if is_unknown words then Some 3
-    else (if is_misplaced said words then Some 4
-    else (if is_miscounted words then Some 5
-    else (if is_malformed words then Some 6
-    else (if is_outside said words then Some 7
-    else (if is_repeated said words then Some 8
-    else (if is_crowded said words then Some 9 else None))))))))
+-- of the faults of a line with these parts, the one with the smallest number
+abbrev pub fault_in : Said → List ℕ → Line → Option ℕ
+fault_in said bytes line =
+    if lacks_world said line then Some 1
+    else (if is_bad_line bytes then Some 2
+    else (if is_unknown line then Some 3
+    else (if is_misplaced said line then Some 4
+    else (if is_miscounted line then Some 5
+    else (if is_malformed line then Some 6
+    else (if is_outside said line then Some 7
+    else (if is_repeated said line then Some 8
+    else (if is_crowded said line then Some 9 else None))))))))
 
 -- the fault of any line: a comment has none, and a line without words at most that of its length
 abbrev pub fault_of : Said → List ℕ → Option ℕ
 fault_of said line =
     if is_comment (words_of line) then None
     else (if length (words_of line) == 0 then (if is_bad_line line then Some 2 else None)
-    else fault_in said line (words_of line))
+    else fault_in said line (parts_of (words_of line)))
 
 -- What a line without a fault adds.
 
 -- the line of a script
-abbrev pub script_line : ℕ → List (List ℕ) → Option ScriptLine
-script_line number words = do
-  tries ← line_tries words
-  call ← call_of (call_words_of words)
-  timeout ← line_timeout words
-  expected ← line_expected words
-  Some (record { number = number; call = call; timeout = as_timeout timeout; tries = tries; expected = expected })
+abbrev pub script_line : ℕ → LineCall → Option ScriptLine
+script_line number call = do
+  tries ← line_tries call
+  made ← line_call call
+  timeout ← line_timeout call
+  expected ← line_expected call
+  Some (record { number = number; call = made; timeout = as_timeout timeout; tries = tries; expected = expected })
 
 -- a line added to the newest section
 abbrev pub with_line : List Script → Option ScriptLine → List Script
@@ -323,27 +340,25 @@ with_line (script ∷ next ∷ scripts) line = script ∷ with_line (next ∷ sc
 abbrev pub with_section : List Script → CallerId → List Script
 with_section scripts caller = scripts ++ record { caller = caller; lines = [] } ∷ []
 
-abbrev pub world_or : Option World → Result World ShapeFault → Option World
-world_or old (Ok new) = Some new
-world_or old (Err fault) = old
+abbrev pub world_after : Option World → Option (Result World ShapeFault) → Option World
+world_after old (Some (Ok new)) = Some new
+world_after old _ = old
 
-abbrev pub declared_in : Option World → List (List ℕ) → Option World
-declared_in None words = None
-declared_in (Some w) words = world_or (Some w) (declared w words)
+abbrev pub scripts_after : List Script → ℕ → Line → List Script
+scripts_after scripts number (SectionLine words) = with_section scripts (section_caller words)
+scripts_after scripts number (CallLine call) = with_line scripts (script_line number call)
+scripts_after scripts number _ = scripts
 
-abbrev pub said_after : Said → ℕ → List (List ℕ) → Said
-said_after said number words =
-    if is_world_word (first_word words) then record { world = world_or None (world_of (limits_of words)); scripts = said.scripts }
-    else (if is_segment_word (first_word words) then record { world = declared_in said.world words; scripts = said.scripts }
-    else (if is_rank_word (first_word words)
-    then record { world = declared_in said.world words; scripts = with_section said.scripts (record { rank = number_at words 1; thread = number_at words 3 }) }
-    else record { world = said.world; scripts = with_line said.scripts (script_line number words) }))
+abbrev pub said_after : Said → ℕ → Line → Said
+said_after said number line =
+    record { world = world_after said.world (declared said.world line); scripts = scripts_after said.scripts number line }
 
 abbrev pub is_skipped : List (List ℕ) → Bool
 is_skipped words = is_comment words || (length words == 0)
 
 abbrev pub after_line : Said → ℕ → List ℕ → Said
-after_line said number line = if is_skipped (words_of line) then said else said_after said number (words_of line)
+after_line said number line =
+    if is_skipped (words_of line) then said else said_after said number (parts_of (words_of line))
 
 -- Whole texts.
 

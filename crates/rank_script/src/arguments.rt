@@ -1,13 +1,12 @@
 //! The arguments of lines.
 
-ghost use Rattle.std.specs.Prelude.{◌≡◌, ◌<◌, ◌+◌, map, take, length, true, Some, None, if◌then◌else◌, IfOk};
-ghost use Rattle.call_texts.specs.CallText.{arguments_of, has_timeout, call_of};
+ghost use Rattle.std.specs.Prelude.{◌≡◌, map, length, Some, None, if◌then◌else◌};
 ghost use Rattle.gaspi_types.specs.World.{world_of};
-ghost use Rattle.rank_script.specs.WorldText.{later_words, all_numbers, number_at, limits_of, timeout_of, is_timeout_within, as_timeout, are_tries_within, is_section_line, last_word};
+ghost use Rattle.rank_script.specs.WorldText.{all_numbers, number_at, limits_of, timeout_of, is_timeout_within, as_timeout, are_tries_within, is_section_line};
 
 use crate::kinds::is_word;
-use gaspi_texts::{CallWord, read_call_words, read_number};
-use gaspi_types::{Call, NoMemory, Shape, ShapeFault, Timeout};
+use gaspi_texts::read_number;
+use gaspi_types::{Shape, ShapeFault, Timeout};
 use std::alloc::Global;
 
 /// The most looks that a timeout may have.
@@ -16,24 +15,24 @@ const MOST_LOOKS: u64 = 100_000_000;
 /// How often a line may have its call made at most.
 const MOST_TRIES: u64 = 1_000_000;
 
-/// The shape that a world line declares; none where a word is no number.
+/// The shape that the words of a world line declare; none where a word is no number.
 pub(crate) fn read_shape(alloc: Global, words: &[&[u8]]) -> Option<Result<Shape, ShapeFault>>
-    requires { length words.now ≡ 7 }
+    requires { length words.now ≡ 6 }
     ensures { let words = map (λ word. word.now) words.now in
-        result ≡ (if all_numbers (later_words words) then Some (world_of (limits_of words)) else None) }
+        result ≡ (if all_numbers words then Some (world_of (limits_of words)) else None) }
 {
     let (ranks, queues, depth, notes, inbox, events) = read_limits(words)?;
     Some(Shape::new(alloc, ranks, queues, depth, notes, inbox, events))
 }
 
-/// The six limits that a world line gives; none where a word is no number.
+/// The six limits that the words of a world line give; none where a word is no number.
 fn read_limits(words: &[&[u8]]) -> Option<(u64, u64, u64, u64, u64, u64)>
-    requires { length words.now ≡ 7 }
-    ensures { let words = map (λ word. word.now) words.now in result ≡ (if all_numbers (later_words words)
-        then Some (number_at words 1, number_at words 2, number_at words 3, number_at words 4, number_at words 5, number_at words 6)
+    requires { length words.now ≡ 6 }
+    ensures { let words = map (λ word. word.now) words.now in result ≡ (if all_numbers words
+        then Some (number_at words 0, number_at words 1, number_at words 2, number_at words 3, number_at words 4, number_at words 5)
         else None) }
 {
-    let [_, ranks, queues, depth, notes, inbox, events] = words else {
+    let [ranks, queues, depth, notes, inbox, events] = words else {
         unreachable!()
     };
     let ranks = read_number(ranks)?;
@@ -45,13 +44,13 @@ fn read_limits(words: &[&[u8]]) -> Option<(u64, u64, u64, u64, u64, u64)>
     Some((ranks, queues, depth, notes, inbox, events))
 }
 
-/// The rank, the number and the size that a segment line gives; none where a word is no number.
+/// The rank, the number and the size that the words of a segment line give; none where a word is no number.
 pub(crate) fn read_segment(words: &[&[u8]]) -> Option<(u64, u64, u64)>
-    requires { length words.now ≡ 4 }
+    requires { length words.now ≡ 3 }
     ensures { let words = map (λ word. word.now) words.now in
-        result ≡ (if all_numbers (later_words words) then Some (number_at words 1, number_at words 2, number_at words 3) else None) }
+        result ≡ (if all_numbers words then Some (number_at words 0, number_at words 1, number_at words 2) else None) }
 {
-    let [_, rank, segment, size] = words else {
+    let [rank, segment, size] = words else {
         unreachable!()
     };
     let rank = read_number(rank)?;
@@ -60,13 +59,13 @@ pub(crate) fn read_segment(words: &[&[u8]]) -> Option<(u64, u64, u64)>
     Some((rank, segment, size))
 }
 
-/// The rank and the thread that a section line gives; none where a word is not of its form.
+/// The rank and the thread that the words of a section line give; none where a word is not of its form.
 pub(crate) fn read_section(words: &[&[u8]]) -> Option<(u64, u64)>
-    requires { length words.now ≡ 4 }
+    requires { length words.now ≡ 3 }
     ensures { let words = map (λ word. word.now) words.now in
-        result ≡ (if is_section_line (later_words words) then Some (number_at words 1, number_at words 3) else None) }
+        result ≡ (if is_section_line words then Some (number_at words 0, number_at words 2) else None) }
 {
-    let [_, rank, word, thread] = words else {
+    let [rank, word, thread] = words else {
         unreachable!()
     };
     let rank = read_number(rank)?;
@@ -77,20 +76,8 @@ pub(crate) fn read_section(words: &[&[u8]]) -> Option<(u64, u64)>
     Some((rank, thread))
 }
 
-/// The call that a call's words give, its timeout aside; none where they spell none.
-pub(crate) fn read_call(
-    alloc: Global,
-    call: CallWord,
-    asked: &[&[u8]],
-) -> Result<Option<Call>, NoMemory>
-    requires { arguments_of call < length asked.now }
-    ensures { IfOk result (λ read. read ≡ call_of (take (arguments_of call + 1) (map (λ word. word.now) asked.now))) }
-{
-    read_call_words(alloc, &asked[..call.argument_count() + 1])
-}
-
 /// How many looks a word allows, where it is a timeout: a number of looks, or looks without end.
-fn read_looks(word: &[u8]) -> Option<Option<u64>>
+pub(crate) fn read_looks(word: &[u8]) -> Option<Option<u64>>
     ensures { result ≡ timeout_of word.now }
 {
     if is_word(word, b"test") {
@@ -101,27 +88,6 @@ fn read_looks(word: &[u8]) -> Option<Option<u64>>
     }
     let looks = read_number(word)?;
     Some(Some(looks))
-}
-
-/// How many looks a call's words allow, where its timeout is one. A call that takes no timeout makes one look.
-pub(crate) fn read_line_looks(call: CallWord, asked: &[&[u8]]) -> Option<Option<u64>>
-    ensures { result ≡ (if has_timeout call then timeout_of (last_word (map (λ word. word.now) asked.now)) else Some (Some 1)) }
-{
-    if call.takes_timeout() {
-        read_looks(last_word(asked))
-    } else {
-        Some(Some(1))
-    }
-}
-
-/// The last of the words; no byte where there is none.
-fn last_word<'a>(words: &[&'a [u8]]) -> &'a [u8]
-    ensures { result.now ≡ last_word (map (λ word. word.now) words.now) }
-{
-    match words.split_last() {
-        Some((last, _)) => last,
-        None => &[],
-    }
 }
 
 /// The timeout of that many looks, where they are within the limits.

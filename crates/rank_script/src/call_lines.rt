@@ -1,45 +1,122 @@
-//! The parts of a line that calls: `again` and a number before the call, and `=` and a reply behind it.
+//! The calls of lines: `again` and a number may stand before a call, and `=` and a reply behind it.
 
-ghost use Rattle.std.specs.Prelude.{◌≡◌, map, IfOk};
+ghost use Rattle.std.specs.Prelude.{◌≡◌, ◌≢◌, ◌≤◌, map, length, IfOk, IfSome};
 ghost use Rattle.std.specs.List.{position};
 ghost use Rattle.std.specs.Option.{option_map};
-ghost use Rattle.rank_script.specs.WorldText.{first_word, second_word, is_again_word, is_equals_word, from_call, asked_words, expected_words, line_tries, line_expected};
+ghost use Rattle.call_texts.specs.CallText.{arguments_of};
+ghost use Rattle.gaspi_types.specs.declared.calls.Call.TheVariants.{End};
+ghost use Rattle.rank_script.specs.WorldText.{is_equals_word, before_equals, after_equals, last_word, given_count, is_miscounted_call, line_tries, line_call, line_timeout, line_expected};
+ghost use Rattle.rank_script.specs.Kinds.{later_words, asked_in, call_in, IsSpelledCall};
 
+use crate::arguments::read_looks;
 use crate::kinds::is_word;
-use gaspi_texts::{read_number, read_reply_words};
-use gaspi_types::{NoMemory, Reply};
+use call_texts::words_spell_no_end;
+use gaspi_texts::{CallWord, read_call_words, read_number, read_reply_words};
+use gaspi_types::{Call, NoMemory, Reply};
 use std::alloc::Global;
 
-/// Whether a line begins with `again`.
-fn begins_again(words: &[&[u8]]) -> bool
-    ensures { result ≡ is_again_word (first_word (map (λ word. word.now) words.now)) }
-{
-    match words {
-        [first, ..] => is_word(first, b"again"),
-        [] => false,
+/// The call of a line by its parts.
+#[derive(Clone, Copy)]
+pub(crate) struct CallParts<'b, 'a> {
+    /// The word behind `again`; none without it.
+    pub(crate) tries: Option<&'a [u8]>,
+    pub(crate) word: CallWord,
+    /// The call's word, its arguments, and its timeout where it takes one: up to the first `=`.
+    pub(crate) asked: &'b [&'a [u8]],
+    /// The words behind the first `=`, where there is one.
+    pub(crate) expected: Option<&'b [&'a [u8]]>,
+}
+
+impl<'b, 'a> CallParts<'b, 'a> {
+    /// Its arguments, and its timeout where it takes one.
+    fn given(self) -> &'b [&'a [u8]]
+        ensures { map (λ word. word.now) result.now ≡ later_words (asked_in self.entry) }
+    {
+        let [_, given @ ..] = self.asked else {
+            return self.asked;
+        };
+        given
+    }
+
+    /// Whether it has another number of arguments, or nothing behind `=`.
+    pub(crate) fn is_miscounted(self) -> bool
+        ensures { result ≡ is_miscounted_call (call_in self.entry) }
+    {
+        self.given().len() != given_count(self.word)
+            || self.expected.is_some_and(|reply| reply.is_empty())
+    }
+
+    /// How often it is made at most: once without `again`; none where the word behind it is no number.
+    pub(crate) fn read_tries(self) -> Option<u64>
+        ensures { result ≡ line_tries (call_in self.entry) }
+    {
+        match self.tries {
+            Some(word) => read_number(word),
+            None => Some(1),
+        }
+    }
+
+    /// The call, its timeout aside; none where its words spell none.
+    pub(crate) fn read_call(self, alloc: Global) -> Result<Option<Call>, NoMemory>
+        requires spelled { IsSpelledCall self }
+        requires count { arguments_of self.word ≤ length (later_words (asked_in self)) }
+        ensures exact { IfOk result (λ call. call ≡ line_call (call_in self.entry)) }
+        ensures plain { IfOk result (λ call. IfSome call (λ made. made ≢ End)) }
+    {
+        words_spell_no_end();
+        read_call_words(alloc, &self.asked[..self.word.argument_count() + 1])
+    }
+
+    /// How many looks its words allow. A call that takes no timeout makes one look.
+    pub(crate) fn read_looks(self) -> Option<Option<u64>>
+        ensures { result ≡ line_timeout (call_in self.entry) }
+    {
+        if self.word.takes_timeout() {
+            read_looks(last_word(self.given()))
+        } else {
+            Some(Some(1))
+        }
+    }
+
+    /// What it expects: nothing, or a reply; none where the words behind `=` spell no reply.
+    pub(crate) fn read_expected(self, alloc: Global) -> Result<Option<Option<Reply>>, NoMemory>
+        ensures { IfOk result (λ expected. expected ≡ line_expected (call_in self.entry)) }
+    {
+        let Some(reply) = self.expected else {
+            return Ok(Some(None));
+        };
+        let reply = read_reply_words(alloc, reply)?;
+        Ok(reply.map(Some))
     }
 }
 
-/// The second of the words; no byte where there is none.
-fn second_word<'a>(words: &[&'a [u8]]) -> &'a [u8]
-    ensures { result.now ≡ second_word (map (λ word. word.now) words.now) }
+/// How many arguments a call has, with its timeout.
+fn given_count(call: CallWord) -> usize
+    ensures { result ≡ given_count call }
 {
-    match words {
-        [_, second, ..] => second,
-        _ => &[],
+    call.argument_count() + if call.takes_timeout() { 1 } else { 0 }
+}
+
+/// The last of the words; no byte where there is none.
+fn last_word<'a>(words: &[&'a [u8]]) -> &'a [u8]
+    ensures { result.now ≡ last_word (map (λ word. word.now) words.now) }
+{
+    match words.split_last() {
+        Some((last, _)) => last,
+        None => &[],
     }
 }
 
-/// The words from the call's own word on.
-pub(crate) fn from_call<'b, 'a>(words: &'b [&'a [u8]]) -> &'b [&'a [u8]]
-    ensures { map (λ word. word.now) result.now ≡ from_call (map (λ word. word.now) words.now) }
+/// The words before the first `=`, and those behind it where there is one.
+pub(crate) fn before_and_after_equals<'b, 'a>(
+    words: &'b [&'a [u8]],
+) -> (&'b [&'a [u8]], Option<&'b [&'a [u8]]>)
+    ensures before { map (λ word. word.now) result.0.now ≡ before_equals (map (λ word. word.now) words.now) }
+    ensures after { option_map (λ reply. map (λ word. word.now) reply.now) result.1 ≡ after_equals (map (λ word. word.now) words.now) }
 {
-    if !begins_again(words) {
-        return words;
-    }
-    match words {
-        [_, _, later @ ..] => later,
-        _ => &[],
+    match equals_in(words) {
+        Some(place) => (&words[..place], Some(&words[place + 1..])),
+        None => (words, None),
     }
 }
 
@@ -48,53 +125,4 @@ fn equals_in(words: &[&[u8]]) -> Option<usize>
     ensures { result ≡ position (λ word. is_equals_word word.now) words.now }
 {
     words.iter().position(|word| is_word(word, b"="))
-}
-
-/// The call's word, its arguments and its timeout, of the words from the call's own on.
-pub(crate) fn asked_words<'b, 'a>(words: &'b [&'a [u8]]) -> &'b [&'a [u8]]
-    ensures { map (λ word. word.now) result.now ≡ asked_words (map (λ word. word.now) words.now) }
-{
-    let [_, later @ ..] = words else {
-        return words;
-    };
-    match equals_in(later) {
-        Some(place) => &words[..place + 1],
-        None => words,
-    }
-}
-
-/// The words of the reply that is expected, where there is an `=`.
-pub(crate) fn expected_words<'b, 'a>(words: &'b [&'a [u8]]) -> Option<&'b [&'a [u8]]>
-    ensures { option_map (λ reply. map (λ word. word.now) reply.now) result ≡ expected_words (map (λ word. word.now) words.now) }
-{
-    let [_, later @ ..] = from_call(words) else {
-        return None;
-    };
-    let place = equals_in(later)?;
-    Some(&later[place + 1..])
-}
-
-/// How often a line's call is made at most: once without `again`; none where the word behind it is no number.
-pub(crate) fn read_tries(words: &[&[u8]]) -> Option<u64>
-    ensures { result ≡ line_tries (map (λ word. word.now) words.now) }
-{
-    if begins_again(words) {
-        read_number(second_word(words))
-    } else {
-        Some(1)
-    }
-}
-
-/// What a line expects: nothing, or a reply; none where the words behind `=` spell no reply.
-pub(crate) fn read_expected(
-    alloc: Global,
-    words: &[&[u8]],
-) -> Result<Option<Option<Reply>>, NoMemory>
-    ensures { IfOk result (λ expected. expected ≡ line_expected (map (λ word. word.now) words.now)) }
-{
-    let Some(reply) = expected_words(words) else {
-        return Ok(Some(None));
-    };
-    let reply = read_reply_words(alloc, reply)?;
-    Ok(reply.map(Some))
 }

@@ -1,85 +1,117 @@
-//! The kinds of lines.
+//! Lines by their parts.
 
-ghost use Rattle.std.specs.Prelude.{◌≡◌, ◌<◌, map, length, codes, MatchOption};
+ghost use Rattle.std.specs.Prelude.{◌≡◌, ◌<◌, map, length};
+ghost use Rattle.std.specs.Option.{option_copied};
 ghost use Rattle.std.specs.Str.{bytes_eq};
-ghost use Rattle.rank_script.specs.WorldText.{first_word};
-ghost use Rattle.rank_script.specs.Kinds.{IsKind, IsNoKind, asked_count, is_miscounted_kind};
+ghost use Rattle.call_texts.specs.CallText.{call_word_of};
+ghost use Rattle.rank_script.specs.WorldText.{first_word, parts_of, again_line, call_line, is_world_line, is_unknown, is_miscounted};
+ghost use Rattle.rank_script.specs.Kinds.{later_words, line_in, IsSpelled};
 
-use crate::call_lines::{asked_words, expected_words, from_call};
+use crate::call_lines::{CallParts, before_and_after_equals};
 use gaspi_texts::CallWord;
 
-/// What a line is.
-#[derive(Clone, Copy, Debug, PartialEq, Eq)]
-pub(crate) enum LineKind {
+/// A line by its parts. The words of a declaration are those behind its first.
+#[derive(Clone, Copy)]
+pub(crate) enum LineParts<'b, 'a> {
     /// The limits of the world.
-    World,
+    World(&'b [&'a [u8]]),
     /// A declared segment.
-    Segment,
+    Segment(&'b [&'a [u8]]),
     /// The caller whose lines follow.
-    Section,
+    Section(&'b [&'a [u8]]),
     /// A call of the present caller.
-    Call(CallWord),
+    Call(CallParts<'b, 'a>),
     /// `again` with at most one word behind it, so without its call.
     Again,
+    /// None of these.
+    Unknown,
 }
 
-impl LineKind {
-    /// The kind of a line of these words.
-    pub(crate) fn of(words: &[&[u8]]) -> Option<LineKind>
-        requires { 0 < length words.now }
-        ensures { let words = map (λ word. word.now) words.now in MatchOption result (IsNoKind words) (λ kind. IsKind kind words) }
+impl<'b, 'a> LineParts<'b, 'a> {
+    /// The parts of a line of these words.
+    pub(crate) fn of(words: &'b [&'a [u8]]) -> LineParts<'b, 'a>
+        ensures exact { line_in result ≡ parts_of (map (λ word. word.now) words.now) }
+        ensures spelled { IsSpelled result }
     {
-        let [word, ..] = words else { unreachable!() };
-        if is_word(word, b"world") {
-            return Some(LineKind::World);
-        }
-        if is_word(word, b"segment") {
-            return Some(LineKind::Segment);
-        }
-        if is_word(word, b"rank") {
-            return Some(LineKind::Section);
-        }
-        if is_word(word, b"again") {
-            return LineKind::of_again(words);
-        }
-        let call = CallWord::of(word)?;
-        Some(LineKind::Call(call))
-    }
-
-    /// The kind of a line that begins with `again`.
-    fn of_again(words: &[&[u8]]) -> Option<LineKind>
-        requires { first_word (map (λ word. word.now) words.now) ≡ codes "again" }
-        ensures { let words = map (λ word. word.now) words.now in MatchOption result (IsNoKind words) (λ kind. IsKind kind words) }
-    {
-        let [_, _, word, ..] = words else {
-            return Some(LineKind::Again);
+        let Some((first, later)) = words.split_first() else {
+            return LineParts::Unknown;
         };
-        let call = CallWord::of(word)?;
-        Some(LineKind::Call(call))
+        if is_word(first, b"world") {
+            return LineParts::World(later);
+        }
+        if is_word(first, b"segment") {
+            return LineParts::Segment(later);
+        }
+        if is_word(first, b"rank") {
+            return LineParts::Section(later);
+        }
+        if is_word(first, b"again") {
+            return LineParts::of_again(later);
+        }
+        LineParts::of_call(None, words)
     }
 
-    /// Whether a line of this kind has another number of words.
-    pub(crate) fn is_miscounted(self, words: &[&[u8]]) -> bool
-        ensures { result ≡ is_miscounted_kind self (map (λ word. word.now) words.now) }
+    /// The parts of a line of `again` and these words.
+    fn of_again(words: &'b [&'a [u8]]) -> LineParts<'b, 'a>
+        ensures exact { line_in result ≡ again_line (map (λ word. word.now) words.now) }
+        ensures spelled { IsSpelled result }
+    {
+        match words.split_first() {
+            Some((tries, call)) if !call.is_empty() => LineParts::of_call(Some(tries), call),
+            _ => LineParts::Again,
+        }
+    }
+
+    /// The parts of a line of these words from the call's own on, with the word behind `again` before them, where there
+    /// is one.
+    fn of_call(tries: Option<&'a [u8]>, words: &'b [&'a [u8]]) -> LineParts<'b, 'a>
+        requires { 0 < length words.now }
+        ensures exact { let words = map (λ word. word.now) words.now in
+            line_in result ≡ call_line (option_copied tries.entry) (call_word_of (first_word words)) (later_words words) }
+        ensures spelled { IsSpelled result }
+    {
+        let Some((first, _)) = words.split_first() else {
+            unreachable!()
+        };
+        let Some(word) = CallWord::of(first) else {
+            return LineParts::Unknown;
+        };
+        let (asked, expected) = before_and_after_equals(words);
+        LineParts::Call(CallParts {
+            tries,
+            word,
+            asked,
+            expected,
+        })
+    }
+
+    /// Whether it is the world's line.
+    pub(crate) fn is_world(self) -> bool
+        ensures { result ≡ is_world_line (line_in self.entry) }
+    {
+        matches!(self, LineParts::World(_))
+    }
+
+    /// Whether its first word says nothing of what it is.
+    pub(crate) fn is_unknown(self) -> bool
+        ensures { result ≡ is_unknown (line_in self.entry) }
+    {
+        matches!(self, LineParts::Unknown)
+    }
+
+    /// Whether it has another number of words than such a line has.
+    pub(crate) fn is_miscounted(self) -> bool
+        ensures { result ≡ is_miscounted (line_in self.entry) }
     {
         match self {
-            LineKind::World => words.len() != 7,
-            LineKind::Segment => words.len() != 4,
-            LineKind::Section => words.len() != 4,
-            LineKind::Call(call) => {
-                asked_words(from_call(words)).len() != asked_count(call)
-                    || expected_words(words).is_some_and(|reply| reply.is_empty())
-            }
-            LineKind::Again => true,
+            LineParts::World(words) => words.len() != 6,
+            LineParts::Segment(words) => words.len() != 3,
+            LineParts::Section(words) => words.len() != 3,
+            LineParts::Call(call) => call.is_miscounted(),
+            LineParts::Again => true,
+            LineParts::Unknown => false,
         }
     }
-}
-
-/// How many words a call has, with its own and its timeout.
-fn asked_count(call: CallWord) -> usize
-    ensures { result ≡ asked_count call }
-{
-    call.argument_count() + 1 + if call.takes_timeout() { 1 } else { 0 }
 }
 
 /// Whether a word is spelled so.

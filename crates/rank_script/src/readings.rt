@@ -1,22 +1,18 @@
 //! Reading a world text line by line.
 
-ghost use Rattle.std.specs.Prelude.{◌≡◌, ◌<◌, ◌+◌, map, length, true, false, None, Some, IsSome, MatchResult, OnOk, IfOk, is_none, not, ◌&&◌};
-ghost use Rattle.std.specs.Option.{option_map_or};
-ghost use Rattle.rank_script.specs.Kinds.{IsKind, IsLineOf, is_world_kind, is_misplaced_kind, is_miscounted_kind};
-ghost use Rattle.rank_script.specs.WorldText.{is_comment};
+ghost use Rattle.std.specs.Prelude.{◌≡◌, ◌<◌, ◌+◌, map, length, true, false, None, Some, IsSome, OnOk, IfOk};
+ghost use Rattle.rank_script.specs.WorldText.{WorldLine, SegmentLine, SectionLine, CallLine, is_comment, is_unknown, lacks_world, is_misplaced, is_miscounted, is_miscounted_call};
+ghost use Rattle.rank_script.specs.Kinds.{line_in, call_in, IsSpelled, IsSpelledCall};
 ghost use Rattle.rank_script.specs.Readings.{fault_for, GivesLine};
 ghost use Rattle.rank_script.specs.PlainScripts.{IsPlain};
 ghost use Rattle.rank_script.specs.declared.scripts.ScriptFault.TheVariants.{At};
 
-use crate::arguments::{
-    read_call, read_line_looks, read_section, read_segment, read_shape, timeout_of, tries_of,
-};
-use crate::call_lines::{asked_words, from_call, read_expected, read_tries};
-use crate::kinds::LineKind;
+use crate::arguments::{read_section, read_segment, read_shape, timeout_of, tries_of};
+use crate::call_lines::CallParts;
+use crate::kinds::LineParts;
 use crate::lines::is_bad_line;
 use crate::scripts::{ScriptFault, ScriptLine, Scripts};
-use call_texts::words_spell_no_end;
-use gaspi_texts::{CallWord, words};
+use gaspi_texts::words;
 use gaspi_types::{Shape, ShapeFault};
 use std::alloc::Global;
 
@@ -29,7 +25,7 @@ pub(crate) struct Reading {
 
 impl Reading {
     ghost use Rattle.rank_script.specs.WorldText.{nothing_said};
-    ghost use Rattle.rank_script.specs.Readings.{said_of, early_fault, late_fault, ReadsLine, ReadsWords, Accords};
+    ghost use Rattle.rank_script.specs.Readings.{said_of, early_fault, ReadsLine, ReadsParts, Accords};
 
     /// Nothing said. It takes no memory.
     pub(crate) fn new(alloc: Global) -> Reading
@@ -66,82 +62,71 @@ impl Reading {
                 Ok(())
             };
         }
-        match self.place(line, words) {
-            Ok(kind) => self.read_words(alloc, kind, number, words),
-            Err(fault) => Err(ScriptFault::At {
+        let parts = LineParts::of(words);
+        match self.early_fault(line, parts) {
+            Some(fault) => Err(ScriptFault::At {
                 number: fault,
                 line: number,
             }),
+            None => self.read_parts(alloc, number, parts),
         }
     }
 
-    /// What a line with words is, or the first of the faults that show before its arguments are read.
-    fn place(&self, line: &[u8], words: &[&[u8]]) -> Result<LineKind, u32>
-        requires { 0 < length words.now }
-        ensures { let words = map (λ word. word.now) words.now in MatchResult result
-            (λ kind. (early_fault (said_of self.now) line.now words ≡ None)
-            × IsKind kind words × (is_miscounted_kind kind words ≡ false))
-            (λ fault. early_fault (said_of self.now) line.now words ≡ Some fault) }
+    /// The first of the faults of a line that show before its arguments are read.
+    fn early_fault(&self, line: &[u8], parts: LineParts) -> Option<u32>
+        ensures { result ≡ early_fault (said_of self.now) line.now (line_in parts.entry) }
     {
-        let kind = LineKind::of(words);
-        if self.lacks_world(kind) {
-            return Err(1);
+        if self.shape.is_none() && !parts.is_world() {
+            return Some(1);
         }
         if is_bad_line(line) {
-            return Err(2);
+            return Some(2);
         }
-        let Some(kind) = kind else {
-            return Err(3);
-        };
-        if self.is_misplaced(kind) {
-            return Err(4);
+        if parts.is_unknown() {
+            return Some(3);
         }
-        if kind.is_miscounted(words) {
-            return Err(5);
+        if self.is_misplaced(parts) {
+            return Some(4);
         }
-        Ok(kind)
+        if parts.is_miscounted() {
+            return Some(5);
+        }
+        None
     }
 
-    /// Whether the world's line is still to come, and such a line is another one.
-    fn lacks_world(&self, kind: Option<LineKind>) -> bool
-        ensures { result ≡ (is_none self.now.shape && not (option_map_or is_world_kind kind false)) }
+    /// Whether a line of these parts may not come next.
+    fn is_misplaced(&self, parts: LineParts) -> bool
+        ensures { result ≡ is_misplaced (said_of self.now) (line_in parts.entry) }
     {
-        self.shape.is_none() && !matches!(kind, Some(LineKind::World))
-    }
-
-    /// Whether a line of this kind may not come next.
-    fn is_misplaced(&self, kind: LineKind) -> bool
-        ensures { result ≡ is_misplaced_kind (said_of self.now) kind }
-    {
-        match kind {
-            LineKind::World => self.shape.is_some(),
-            LineKind::Segment => !self.scripts.is_empty(),
-            LineKind::Section => false,
-            LineKind::Call(_) | LineKind::Again => self.scripts.is_empty(),
+        match parts {
+            LineParts::World(_) => self.shape.is_some(),
+            LineParts::Segment(_) => !self.scripts.is_empty(),
+            LineParts::Call(_) | LineParts::Again => self.scripts.is_empty(),
+            LineParts::Section(_) | LineParts::Unknown => false,
         }
     }
 
     /// Reads the arguments of a line that has its place.
-    fn read_words(
+    fn read_parts(
         &mut self,
         alloc: Global,
-        kind: LineKind,
         number: u64,
-        words: &[&[u8]],
+        parts: LineParts,
     ) -> Result<(), ScriptFault>
-        requires kind { IsKind kind (map (λ word. word.now) words.now) }
-        requires count { is_miscounted_kind kind (map (λ word. word.now) words.now) ≡ false }
-        requires placed { is_misplaced_kind (said_of self.old) kind ≡ false }
-        requires world { (is_none self.old.shape && not (is_world_kind kind)) ≡ false }
-        ensures exact { ReadsWords result (said_of self.old) (said_of self.new) number (map (λ word. word.now) words.now) }
+        requires spelled { IsSpelled parts }
+        requires known { is_unknown (line_in parts) ≡ false }
+        requires world { lacks_world (said_of self.old) (line_in parts) ≡ false }
+        requires placed { is_misplaced (said_of self.old) (line_in parts) ≡ false }
+        requires count { is_miscounted (line_in parts) ≡ false }
+        ensures exact { ReadsParts result (said_of self.old) (said_of self.new) number (line_in parts.entry) }
         ensures accords { Accords (said_of self.old) → OnOk result (Accords (said_of self.new)) }
     {
-        match kind {
-            LineKind::World => self.read_world_line(alloc, number, words),
-            LineKind::Segment => self.read_segment_line(number, words),
-            LineKind::Section => self.read_section_line(alloc, number, words),
-            LineKind::Call(call) => self.read_call_line(alloc, call, number, words),
-            LineKind::Again => unreachable!(),
+        match parts {
+            LineParts::World(words) => self.read_world_line(alloc, number, words),
+            LineParts::Segment(words) => self.read_segment_line(number, words),
+            LineParts::Section(words) => self.read_section_line(alloc, number, words),
+            LineParts::Call(call) => self.read_call_line(alloc, number, call),
+            LineParts::Again | LineParts::Unknown => unreachable!(),
         }
     }
 
@@ -152,10 +137,9 @@ impl Reading {
         number: u64,
         words: &[&[u8]],
     ) -> Result<(), ScriptFault>
-        requires kind { IsKind LineKind.World (map (λ word. word.now) words.now) }
-        requires count { length words.now ≡ 7 }
+        requires count { length words.now ≡ 6 }
         requires first { self.old.shape ≡ None }
-        ensures exact { ReadsWords result (said_of self.old) (said_of self.new) number (map (λ word. word.now) words.now) }
+        ensures exact { ReadsParts result (said_of self.old) (said_of self.new) number (WorldLine (map (λ word. word.now) words.now)) }
         ensures accords { Accords (said_of self.old) → OnOk result (Accords (said_of self.new)) }
     {
         match read_shape(alloc, words) {
@@ -170,10 +154,9 @@ impl Reading {
 
     /// Reads a declared segment.
     fn read_segment_line(&mut self, number: u64, words: &[&[u8]]) -> Result<(), ScriptFault>
-        requires kind { IsKind LineKind.Segment (map (λ word. word.now) words.now) }
-        requires count { length words.now ≡ 4 }
+        requires count { length words.now ≡ 3 }
         requires world { IsSome self.old.shape }
-        ensures exact { ReadsWords result (said_of self.old) (said_of self.new) number (map (λ word. word.now) words.now) }
+        ensures exact { ReadsParts result (said_of self.old) (said_of self.new) number (SegmentLine (map (λ word. word.now) words.now)) }
         ensures accords { Accords (said_of self.old) → OnOk result (Accords (said_of self.new)) }
     {
         let Some(shape) = &mut self.shape else {
@@ -195,10 +178,9 @@ impl Reading {
         number: u64,
         words: &[&[u8]],
     ) -> Result<(), ScriptFault>
-        requires kind { IsKind LineKind.Section (map (λ word. word.now) words.now) }
-        requires count { length words.now ≡ 4 }
+        requires count { length words.now ≡ 3 }
         requires world { IsSome self.old.shape }
-        ensures exact { ReadsWords result (said_of self.old) (said_of self.new) number (map (λ word. word.now) words.now) }
+        ensures exact { ReadsParts result (said_of self.old) (said_of self.new) number (SectionLine (map (λ word. word.now) words.now)) }
         ensures accords { Accords (said_of self.old) → OnOk result (Accords (said_of self.new)) }
     {
         let Some(shape) = &mut self.shape else {
@@ -222,46 +204,38 @@ impl Reading {
     fn read_call_line(
         &mut self,
         alloc: Global,
-        word: CallWord,
         number: u64,
-        words: &[&[u8]],
+        call: CallParts,
     ) -> Result<(), ScriptFault>
-        requires kind { IsKind (LineKind.Call word) (map (λ word. word.now) words.now) }
-        requires count { is_miscounted_kind (LineKind.Call word) (map (λ word. word.now) words.now) ≡ false }
+        requires spelled { IsSpelledCall call }
+        requires count { is_miscounted_call (call_in call) ≡ false }
         requires section { 0 < length self.old.scripts }
-        ensures exact { ReadsWords result (said_of self.old) (said_of self.new) number (map (λ word. word.now) words.now) }
+        ensures exact { ReadsParts result (said_of self.old) (said_of self.new) number (CallLine (call_in call.entry)) }
         ensures accords { Accords (said_of self.old) → OnOk result (Accords (said_of self.new)) }
     {
-        let line = read_script_line(alloc, word, number, words)?;
+        let line = read_script_line(alloc, number, call)?;
         self.scripts.add_line(line)?;
         Ok(())
     }
 }
 
 /// The line of a script that a call line gives.
-fn read_script_line(
-    alloc: Global,
-    word: CallWord,
-    number: u64,
-    words: &[&[u8]],
-) -> Result<ScriptLine, ScriptFault>
-    requires kind { IsLineOf word (map (λ word. word.now) words.now) }
-    requires count { is_miscounted_kind (LineKind.Call word) (map (λ word. word.now) words.now) ≡ false }
-    ensures exact { GivesLine result number (map (λ word. word.now) words.now) }
+fn read_script_line(alloc: Global, number: u64, parts: CallParts) -> Result<ScriptLine, ScriptFault>
+    requires spelled { IsSpelledCall parts }
+    requires count { is_miscounted_call (call_in parts) ≡ false }
+    ensures exact { GivesLine result number (call_in parts.entry) }
     ensures plain { IfOk result IsPlain }
 {
-    words_spell_no_end();
-    let asked = asked_words(from_call(words));
-    let Some(tries) = read_tries(words) else {
+    let Some(tries) = parts.read_tries() else {
         return Err(malformed(number));
     };
-    let Some(call) = read_call(alloc, word, asked)? else {
+    let Some(call) = parts.read_call(alloc)? else {
         return Err(malformed(number));
     };
-    let Some(looks) = read_line_looks(word, asked) else {
+    let Some(looks) = parts.read_looks() else {
         return Err(malformed(number));
     };
-    let Some(expected) = read_expected(alloc, words)? else {
+    let Some(expected) = parts.read_expected(alloc)? else {
         return Err(malformed(number));
     };
     let (Some(tries), Some(timeout)) = (tries_of(tries), timeout_of(looks)) else {

@@ -1,29 +1,41 @@
-use Rattle.std.proofs.Common.{◌≡◌, ◌==◌, false, length, map, List, ℕ, refl, sym, ◌∙◌}
+use Rattle.std.proofs.Common.{map, List, ℕ, refl, sym, ◌∙◌}
 use Rattle.std.proofs.lemmas.List.{length-map}
-use Rattle.call_texts.specs.Words.{words_of}
-use Rattle.rank_script.specs.WorldText.{is_comment}
+use Rattle.rank_script.specs.Kinds.{line_in}
 use Rattle.rank_script.specs.Readings.{said_of}
-use Rattle.rank_script.proofs.KindFaults.{kind-placed}
-use Rattle.rank_script.proofs.ReadLines.{reads-words, early-fault}
+use Rattle.rank_script.proofs.EarlyFaults.{placed}
+use Rattle.rank_script.proofs.ReadLines.{HasParts, reads-parts, early-fault}
 use Rattle.rank_script.proofs.readings.Reading.read_line.Goals as goal
-
-pub returns-in-Ok-clause-exact : goal.returns-in-Ok-clause-exact
-returns-in-Ok-clause-exact c =
-    let words : List (List ℕ) = map (λ word. word.now) c.as_slice-words.result.now in
-    let is : words ≡ words_of c.args.line.now = rw c.as_slice-words.ensures.value c.in_ok-words.ensures in
-    let comment : is_comment words ≡ false = sym c.is_comment.ensures ∙ c.if-is_comment.false in
-    let filled : (length words == 0) ≡ false = rw length-map (sym c.is_empty.ensures ∙ c.if-is_empty.false) in
-    reads-words c.read_words.result (said_of c.args.self.now) (said_of c.read_words.new.self) c.args.number c.args.line.now words is comment filled c.in-Ok.ensures.0 c.read_words.ensures.exact
 
 pub returns-clause-exact : goal.returns-clause-exact
 returns-clause-exact c =
     let words : List (List ℕ) = map (λ word. word.now) c.as_slice-words.result.now in
-    let is : words ≡ words_of c.args.line.now = rw c.as_slice-words.ensures.value c.in_ok-words.ensures in
-    let comment : is_comment words ≡ false = sym c.is_comment.ensures ∙ c.if-is_comment.false in
-    let filled : (length words == 0) ≡ false = rw length-map (sym c.is_empty.ensures ∙ c.if-is_empty.false) in
-    (early-fault (said_of c.args.self.now) c.args.line.now words c.in-Err.fault is comment filled c.in-Err.ensures, refl)
+    let has : HasParts c.args.line.now words (line_in c.of-parts.result) = record {
+      is = rw c.as_slice-words.ensures.value c.in_ok-words.ensures;
+      comment = sym c.is_comment.ensures ∙ c.if-is_comment.false;
+      filled = rw length-map (sym c.is_empty.ensures ∙ c.if-is_empty.false);
+      parts = c.of-parts.ensures.exact;
+    } in
+    reads-parts c.read_parts.result (said_of c.args.self.now) (said_of c.read_parts.new.self) c.args.number c.args.line.now words _ has c.in-None.ensures c.read_parts.ensures.exact
 
-pub read_words-requires-clause-placed : goal.read_words-requires-clause-placed
-read_words-requires-clause-placed c =
+pub returns-in-Some-clause-exact : goal.returns-in-Some-clause-exact
+returns-in-Some-clause-exact c =
     let words : List (List ℕ) = map (λ word. word.now) c.as_slice-words.result.now in
-    (kind-placed (said_of c.args.self.now) c.args.line.now words c.in-Ok.kind c.in-Ok.ensures.1 c.in-Ok.ensures.0).0
+    let has : HasParts c.args.line.now words (line_in c.of-parts.result) = record {
+      is = rw c.as_slice-words.ensures.value c.in_ok-words.ensures;
+      comment = sym c.is_comment.ensures ∙ c.if-is_comment.false;
+      filled = rw length-map (sym c.is_empty.ensures ∙ c.if-is_empty.false);
+      parts = c.of-parts.ensures.exact;
+    } in
+    (early-fault (said_of c.args.self.now) c.args.line.now words _ c.in-Some.fault has c.in-Some.ensures, refl)
+
+pub read_parts-requires-clause-known : goal.read_parts-requires-clause-known
+read_parts-requires-clause-known c = (placed (said_of c.args.self.now) c.args.line.now _ c.in-None.ensures).known
+
+pub read_parts-requires-clause-world : goal.read_parts-requires-clause-world
+read_parts-requires-clause-world c = (placed (said_of c.args.self.now) c.args.line.now _ c.in-None.ensures).world
+
+pub read_parts-requires-clause-placed : goal.read_parts-requires-clause-placed
+read_parts-requires-clause-placed c = (placed (said_of c.args.self.now) c.args.line.now _ c.in-None.ensures).placed
+
+pub read_parts-requires-clause-count : goal.read_parts-requires-clause-count
+read_parts-requires-clause-count c = (placed (said_of c.args.self.now) c.args.line.now _ c.in-None.ensures).count
