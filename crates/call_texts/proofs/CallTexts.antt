@@ -2,7 +2,7 @@
 use Rattle.std.proofs.Common.{◌≡◌, ◌≢◌, ◌<◌, ℕ, true, false, Bool, cond, ◌==◌, length, List, [], ◌∷◌, Option, Some, None, lit<, refl, sym, ap, subst, ◌∙◌, append-nil}
 use Rattle.std.specs.List.{AllByRecursion, list_all}
 use Rattle.std.proofs.lemmas.Option.{cond_some, option_and_then_some, same_Some, none-some}
-use Rattle.call_texts.specs.CallText.{Spelled, spelling_of, form_of, call_word_of, has_timeout, spelled, call_with, call_taken, with_nothing_left, call_of, is_end_text, recorded_call_of, call_of_text, end_word, words_of_spelled, words_of_call, call_text, IsSpelledInRange, IsWritable}
+use Rattle.call_texts.specs.CallText.{Spelled, spelling_of, form_of, call_word_of, has_timeout, spelled, call_with, call_taken, with_nothing_left, call_by, call_of, is_end_text, recorded_call_of, call_of_text, end_word, words_of_spelled, words_of_call, call_text, IsSpelledInRange, IsWritable}
 use Rattle.call_texts.specs.Fields.{Fields, AreInRange, words_of_fields, fields_taken}
 use Rattle.call_texts.specs.Words.{is_plain, IsPlainWord}
 use Rattle.gaspi_types.specs.CallRows.{row_of}
@@ -101,13 +101,15 @@ found-word word words taken is =
 alone : (taken : Call × List (List ℕ)) (call : Call) → with_nothing_left taken ≡ Some call → HasWord taken.0 → HasWord call
 alone taken call is has = subst (λ (c : Call). HasWord c) (cond_some (length taken.1 == 0) taken.0 call is).1 has
 
+by-word : (word : CallWord) (arguments : List (List ℕ)) (call : Call) → call_by word arguments ≡ Some call → HasWord call
+by-word word arguments call is =
+    option_and_then_some _ (call_taken word arguments) call is (λ taken read whole. alone taken call whole (found-word word arguments taken read))
+
 call-word : (words : List (List ℕ)) (call : Call) → call_of words ≡ Some call → HasWord call
 unfolding call_of
 call-word [] call is = absurd (none-some call is)
 call-word (first ∷ arguments) call is =
-    option_and_then_some _ (call_word_of first) call is (λ word spells found.
-    option_and_then_some _ (call_taken word arguments) call found (λ taken read whole.
-    alone taken call whole (found-word word arguments taken read)))
+    option_and_then_some _ (call_word_of first) call is (λ word spells found. by-word word arguments call found)
 
 word-writable : (call : Call) → HasWord call → IsWritable call
 word-writable call has = subst (λ (s : Option Spelled). IsSpelledInRange s) (sym has.spells) has.range
@@ -120,10 +122,14 @@ pub recorded_call_of-range : (words : List (List ℕ)) (call : Call) → recorde
 unfolding recorded_call_of
 recorded_call_of-range words call is = recorded-range words call (is_end_text words) is
 
+no-end-spelled : (call : Call) → HasWord call → call ≢ calls.End
+no-end-spelled call has end = none-some has.what (ap spelled (sym end) ∙ has.spells)
+
+pub call_by-no_end : (word : CallWord) (words : List (List ℕ)) (call : Call) → call_by word words ≡ Some call → call ≢ calls.End
+call_by-no_end word words call is = no-end-spelled call (by-word word words call is)
+
 pub call_of-no_end : (words : List (List ℕ)) (call : Call) → call_of words ≡ Some call → call ≢ calls.End
-call_of-no_end words call is end =
-    let has = call-word words call is in
-    none-some has.what (ap spelled (sym end) ∙ has.spells)
+call_of-no_end words call is = no-end-spelled call (call-word words call is)
 
 -- The timeouts of words are those of the calls' rows.
 

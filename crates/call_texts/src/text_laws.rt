@@ -4,7 +4,7 @@ ghost use Rattle.std.specs.Prelude.{◌≡◌, ◌≢◌, ◌^◌, ◌<◌, ℕ,
 ghost use Rattle.std.specs.Fmt.{decimal};
 ghost use Rattle.std.specs.List.{AllByRecursion, join_with_byte};
 ghost use Rattle.hex.specs.Hex.{IsBytes};
-ghost use Rattle.call_texts.specs.CallText.{call_of, recorded_call_of, call_of_text, call_with, form_of, has_timeout, words_of_call, call_text, IsWritable};
+ghost use Rattle.call_texts.specs.CallText.{call_by, call_of, recorded_call_of, call_of_text, call_with, form_of, has_timeout, words_of_call, call_text, IsWritable};
 ghost use Rattle.call_texts.specs.Fields.{Fields};
 ghost use Rattle.call_texts.specs.declared.call_words.CallWord.{CallWord};
 ghost use Rattle.gaspi_types.specs.CallRows.{row_of};
@@ -38,7 +38,8 @@ pub fn calls_read_back()
 
 /// The words of a script spell no end of a caller.
 pub fn words_spell_no_end()
-    ensures { (words : List (List ℕ)) (call : Call) → call_of words ≡ Some call → call ≢ End }
+    ensures arguments { (word : CallWord) (words : List (List ℕ)) (call : Call) → call_by word words ≡ Some call → call ≢ End }
+    ensures words { (words : List (List ℕ)) (call : Call) → call_of words ≡ Some call → call ≢ End }
 {}
 
 /// A word's call has a timeout where the call's row says so. (GASPI: timeouts)

@@ -1,17 +1,9 @@
 -- Some of the words of a line.
-use Rattle.std.proofs.Common.{codes, ◌≡◌, ℕ, suc, ◌+◌, ◌-◌, ◌∙◌, ◌<◌, ◌≤◌, Bool, true, false, cond, not, nat_lt, take, drop, Some, None, List, [], ◌∷◌, ◌++◌, length, map, Bor, refl, ap, subst, arith, add-one}
+use Rattle.std.proofs.Common.{◌≡◌, ℕ, suc, ◌+◌, ◌-◌, ◌∙◌, ◌<◌, ◌≤◌, Bool, true, false, cond, not, nat_lt, take, drop, Some, None, List, [], ◌∷◌, ◌++◌, length, map, Bor, refl, ap, subst, arith, add-one}
 use Rattle.std.specs.List.{position, prefix_len}
-use Rattle.std.specs.Option.{option_copied, option_map}
 use Rattle.std.proofs.lemmas.Grind.{common_steps}
 use Rattle.std.proofs.lemmas.Bool.Decides.{nat_tests}
-use Rattle.std.proofs.lemmas.List.{take-map}
-use Rattle.std.proofs.lemmas.Slice.Eq.{bytes_eq-Decides}
-use Rattle.call_texts.specs.CallText.{call_word_of, arguments_of, call_of, call_taken, with_nothing_left}
-use Rattle.call_texts.specs.Fields.{◌>>=◌}
-use Rattle.call_texts.specs.declared.call_words.CallWord.{CallWord}
-use Rattle.rank_script.specs.WorldText.{CallLine, first_word, is_equals_word, before_equals, after_equals, call_line, last_word, line_call}
-use Rattle.rank_script.specs.Kinds.{later_words, asked_in, call_in, IsSpelledCall}
-use Rattle.rank_script.specs.declared.call_lines.CallParts.{CallParts}
+use Rattle.rank_script.specs.WorldText.{is_equals_word, before_equals, after_equals, last_word}
 
 last_word-push : (front : List (List ℕ)) (word : List ℕ) → last_word (front ++ word ∷ []) ≡ word
 last_word-push [] word = refl
@@ -90,53 +82,3 @@ equals-absent words h =
 
 pub dropped : (words : List (Bor (List ℕ))) (n : ℕ) → take (length words - n) (drop n words) ≡ drop n words
 dropped words n = grind (arith, common_steps)
-
--- The words of a call from its own on.
-
--- a call's word is no `=`
-other : (word : List ℕ) (call : CallWord) → call_word_of word ≡ Some call → is_equals_word word ≡ false
-unfolding call_word_of
-other word call is = go (is_equals_word word) refl
-  where
-    go : (equals : Bool) → is_equals_word word ≡ equals → is_equals_word word ≡ false
-    go true equals =
-        let same : codes "=" ≡ word = (bytes_eq-Decides (codes "=") word).0 equals in
-        absurd (let no : None ≡ Some call = rw (← same) at is in cc)
-    go false equals = equals
-
-pub given-cut : (words asked : List (List ℕ)) (call : CallWord) → 0 < length words → call_word_of (first_word words) ≡ Some call → asked ≡ before_equals words
-    → (later_words asked ≡ before_equals (later_words words)) × (first_word asked ≡ first_word words)
-given-cut [] asked call filled is cut = absurd (omega arith)
-given-cut (word ∷ words) asked call filled is cut = rw cut (rw (other word call is) (refl, refl))
-
-pub expected-cut : (words : List (List ℕ)) (call : CallWord) → 0 < length words → call_word_of (first_word words) ≡ Some call
-    → after_equals words ≡ after_equals (later_words words)
-expected-cut [] call filled is = absurd (omega arith)
-expected-cut (word ∷ words) call filled is = rw (other word call is) refl
-
--- a call's words are one more than its arguments
-pub asked-length : (asked : List (List ℕ)) (call : CallWord) → call_word_of (first_word asked) ≡ Some call → length asked ≡ length (later_words asked) + 1
-unfolding call_word_of
-asked-length [] call is = absurd (let no : ⊥ = cc in no)
-asked-length (word ∷ words) call is = omega arith
-
--- the call that a call's words spell
-pub call-read : (asked : List (List ℕ)) (call : CallWord) (n : ℕ) → call_word_of (first_word asked) ≡ Some call
-    → call_of (take (n + 1) asked) ≡ (call_taken call (take n (later_words asked)) >>= with_nothing_left)
-unfolding call_of call_word_of
-call-read [] call n is = absurd (let no : ⊥ = cc in no)
-call-read (word ∷ words) call n is = rw add-one (rw is refl)
-
--- a call that was cut
-pub call-cut : (call : CallParts) (words : List (List ℕ)) → 0 < length words → call_word_of (first_word words) ≡ Some call.word
-    → asked_in call ≡ before_equals words → option_map (λ (reply : Bor (List (Bor (List ℕ)))). map (λ (w : Bor (List ℕ)). w.now) reply.now) call.expected ≡ after_equals words
-    → (CallLine (call_in call) ≡ call_line (option_copied call.tries) (call_word_of (first_word words)) (later_words words)) × IsSpelledCall call
-call-cut call words filled is asked expected =
-    let given = given-cut words (asked_in call) call.word filled is asked in
-    let behind = expected ∙ expected-cut words call.word filled is in
-    (rw (is, given.0, behind) refl, rw given.1 is)
-
-pub spelled-call : (call : CallParts) (n : ℕ) → IsSpelledCall call → n ≡ arguments_of call.word
-    → call_of (map (λ (w : Bor (List ℕ)). w.now) (take (n + 1) call.asked.now)) ≡ line_call (call_in call)
-spelled-call call n is count =
-    rw (count, ← take-map (λ (w : Bor (List ℕ)). w.now) (arguments_of call.word + 1) call.asked.now) (call-read (asked_in call) call.word (arguments_of call.word) is)

@@ -6,7 +6,7 @@ use Rattle.gaspi_types.specs.Ranges.{is_between}
 use Rattle.call_texts.specs.Words.{words_of}
 use Rattle.text_lines.specs.Lines.{fed_lines, plain_line, lines_of}
 use Rattle.call_texts.specs.Numbers.{number_of}
-use Rattle.call_texts.specs.CallText.{call_word_of, arguments_of, has_timeout, call_taken, with_nothing_left}
+use Rattle.call_texts.specs.CallText.{call_word_of, arguments_of, has_timeout, call_by}
 use Rattle.call_texts.specs.declared.call_words.CallWord.{CallWord}
 use Rattle.call_texts.specs.Fields.{◌>>=◌}
 use Rattle.gaspi_texts.specs.ReplyText.{reply_of}
@@ -153,9 +153,7 @@ are_tries_within tries = is_between 1 1000000 tries
 
 -- the call that a line's words spell, its timeout aside
 abbrev pub line_call : LineCall → Option Call
-line_call call = do
-  taken ← call_taken call.word (take (arguments_of call.word) call.given)
-  with_nothing_left taken
+line_call call = call_by call.word (take (arguments_of call.word) call.given)
 
 -- what a line's timeout is; a call that takes none makes one look
 abbrev pub line_timeout : LineCall → Option (Option ℕ)

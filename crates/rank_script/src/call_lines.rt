@@ -6,12 +6,12 @@ ghost use Rattle.std.specs.Option.{option_map};
 ghost use Rattle.call_texts.specs.CallText.{arguments_of};
 ghost use Rattle.gaspi_types.specs.declared.calls.Call.TheVariants.{End};
 ghost use Rattle.rank_script.specs.WorldText.{is_equals_word, before_equals, after_equals, last_word, given_count, is_miscounted_call, line_tries, line_call, line_timeout, line_expected};
-ghost use Rattle.rank_script.specs.Kinds.{later_words, asked_in, call_in, IsSpelledCall};
+ghost use Rattle.rank_script.specs.Kinds.{call_in};
 
 use crate::arguments::read_looks;
 use crate::kinds::is_word;
-use call_texts::words_spell_no_end;
-use gaspi_texts::{CallWord, read_call_words, read_number, read_reply_words};
+use call_texts::{read_arguments, words_spell_no_end};
+use gaspi_texts::{CallWord, read_number, read_reply_words};
 use gaspi_types::{Call, NoMemory, Reply};
 use std::alloc::Global;
 
@@ -21,28 +21,18 @@ pub(crate) struct CallParts<'b, 'a> {
     /// The word behind `again`; none without it.
     pub(crate) tries: Option<&'a [u8]>,
     pub(crate) word: CallWord,
-    /// The call's word, its arguments, and its timeout where it takes one: up to the first `=`.
-    pub(crate) asked: &'b [&'a [u8]],
+    /// Its arguments, and its timeout where it takes one: up to the first `=`.
+    pub(crate) given: &'b [&'a [u8]],
     /// The words behind the first `=`, where there is one.
     pub(crate) expected: Option<&'b [&'a [u8]]>,
 }
 
 impl<'b, 'a> CallParts<'b, 'a> {
-    /// Its arguments, and its timeout where it takes one.
-    fn given(self) -> &'b [&'a [u8]]
-        ensures { map (λ word. word.now) result.now ≡ later_words (asked_in self.entry) }
-    {
-        let [_, given @ ..] = self.asked else {
-            return self.asked;
-        };
-        given
-    }
-
     /// Whether it has another number of arguments, or nothing behind `=`.
     pub(crate) fn is_miscounted(self) -> bool
         ensures { result ≡ is_miscounted_call (call_in self.entry) }
     {
-        self.given().len() != given_count(self.word)
+        self.given.len() != given_count(self.word)
             || self.expected.is_some_and(|reply| reply.is_empty())
     }
 
@@ -58,13 +48,12 @@ impl<'b, 'a> CallParts<'b, 'a> {
 
     /// The call, its timeout aside; none where its words spell none.
     pub(crate) fn read_call(self, alloc: Global) -> Result<Option<Call>, NoMemory>
-        requires spelled { IsSpelledCall self }
-        requires count { arguments_of self.word ≤ length (later_words (asked_in self)) }
+        requires { arguments_of self.word ≤ length self.given.now }
         ensures exact { IfOk result (λ call. call ≡ line_call (call_in self.entry)) }
         ensures plain { IfOk result (λ call. IfSome call (λ made. made ≢ End)) }
     {
         words_spell_no_end();
-        read_call_words(alloc, &self.asked[..self.word.argument_count() + 1])
+        read_arguments(alloc, self.word, &self.given[..self.word.argument_count()])
     }
 
     /// How many looks its words allow. A call that takes no timeout makes one look.
@@ -72,7 +61,7 @@ impl<'b, 'a> CallParts<'b, 'a> {
         ensures { result ≡ line_timeout (call_in self.entry) }
     {
         if self.word.takes_timeout() {
-            read_looks(last_word(self.given()))
+            read_looks(last_word(self.given))
         } else {
             Some(Some(1))
         }

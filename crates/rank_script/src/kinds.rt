@@ -1,11 +1,11 @@
 //! Lines by their parts.
 
-ghost use Rattle.std.specs.Prelude.{◌≡◌, ◌<◌, map, length};
+ghost use Rattle.std.specs.Prelude.{◌≡◌, map};
 ghost use Rattle.std.specs.Option.{option_copied};
 ghost use Rattle.std.specs.Str.{bytes_eq};
 ghost use Rattle.call_texts.specs.CallText.{call_word_of};
-ghost use Rattle.rank_script.specs.WorldText.{first_word, parts_of, again_line, call_line, is_world_line, is_unknown, is_miscounted};
-ghost use Rattle.rank_script.specs.Kinds.{later_words, line_in, IsSpelled};
+ghost use Rattle.rank_script.specs.WorldText.{parts_of, again_line, call_line, is_world_line, is_unknown, is_miscounted};
+ghost use Rattle.rank_script.specs.Kinds.{line_in};
 
 use crate::call_lines::{CallParts, before_and_after_equals};
 use gaspi_texts::CallWord;
@@ -30,8 +30,7 @@ pub(crate) enum LineParts<'b, 'a> {
 impl<'b, 'a> LineParts<'b, 'a> {
     /// The parts of a line of these words.
     pub(crate) fn of(words: &'b [&'a [u8]]) -> LineParts<'b, 'a>
-        ensures exact { line_in result ≡ parts_of (map (λ word. word.now) words.now) }
-        ensures spelled { IsSpelled result }
+        ensures { line_in result ≡ parts_of (map (λ word. word.now) words.now) }
     {
         let Some((first, later)) = words.split_first() else {
             return LineParts::Unknown;
@@ -48,39 +47,32 @@ impl<'b, 'a> LineParts<'b, 'a> {
         if is_word(first, b"again") {
             return LineParts::of_again(later);
         }
-        LineParts::of_call(None, words)
+        LineParts::of_call(None, first, later)
     }
 
     /// The parts of a line of `again` and these words.
     fn of_again(words: &'b [&'a [u8]]) -> LineParts<'b, 'a>
-        ensures exact { line_in result ≡ again_line (map (λ word. word.now) words.now) }
-        ensures spelled { IsSpelled result }
+        ensures { line_in result ≡ again_line (map (λ word. word.now) words.now) }
     {
-        match words.split_first() {
-            Some((tries, call)) if !call.is_empty() => LineParts::of_call(Some(tries), call),
+        match words {
+            [tries, word, later @ ..] => LineParts::of_call(Some(tries), word, later),
             _ => LineParts::Again,
         }
     }
 
-    /// The parts of a line of these words from the call's own on, with the word behind `again` before them, where there
-    /// is one.
-    fn of_call(tries: Option<&'a [u8]>, words: &'b [&'a [u8]]) -> LineParts<'b, 'a>
-        requires { 0 < length words.now }
-        ensures exact { let words = map (λ word. word.now) words.now in
-            line_in result ≡ call_line (option_copied tries.entry) (call_word_of (first_word words)) (later_words words) }
-        ensures spelled { IsSpelled result }
+    /// The parts of a line of a call with this word, with the word behind `again`, where there is one, and the words
+    /// behind its own.
+    fn of_call(tries: Option<&'a [u8]>, word: &[u8], words: &'b [&'a [u8]]) -> LineParts<'b, 'a>
+        ensures { line_in result ≡ call_line (option_copied tries.entry) (call_word_of word.now) (map (λ word. word.now) words.now) }
     {
-        let Some((first, _)) = words.split_first() else {
-            unreachable!()
-        };
-        let Some(word) = CallWord::of(first) else {
+        let Some(word) = CallWord::of(word) else {
             return LineParts::Unknown;
         };
-        let (asked, expected) = before_and_after_equals(words);
+        let (given, expected) = before_and_after_equals(words);
         LineParts::Call(CallParts {
             tries,
             word,
-            asked,
+            given,
             expected,
         })
     }

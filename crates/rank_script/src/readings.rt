@@ -2,7 +2,7 @@
 
 ghost use Rattle.std.specs.Prelude.{◌≡◌, ◌<◌, ◌+◌, map, length, true, false, None, Some, IsSome, OnOk, IfOk};
 ghost use Rattle.rank_script.specs.WorldText.{WorldLine, SegmentLine, SectionLine, CallLine, is_comment, is_unknown, lacks_world, is_misplaced, is_miscounted, is_miscounted_call};
-ghost use Rattle.rank_script.specs.Kinds.{line_in, call_in, IsSpelled, IsSpelledCall};
+ghost use Rattle.rank_script.specs.Kinds.{line_in, call_in};
 ghost use Rattle.rank_script.specs.Readings.{fault_for, GivesLine};
 ghost use Rattle.rank_script.specs.PlainScripts.{IsPlain};
 ghost use Rattle.rank_script.specs.declared.scripts.ScriptFault.TheVariants.{At};
@@ -12,7 +12,7 @@ use crate::call_lines::CallParts;
 use crate::kinds::LineParts;
 use crate::lines::is_bad_line;
 use crate::scripts::{ScriptFault, ScriptLine, Scripts};
-use gaspi_texts::words;
+use call_texts::set_words;
 use gaspi_types::{Shape, ShapeFault};
 use std::alloc::Global;
 
@@ -37,18 +37,19 @@ impl Reading {
         }
     }
 
-    /// Reads the next line.
-    pub(crate) fn read_line(
+    /// Reads the next line, with its words in a list that is kept from one line to the next.
+    pub(crate) fn read_line<'a>(
         &mut self,
         alloc: Global,
+        list: &mut Vec<&'a [u8]>,
         number: u64,
-        line: &[u8],
+        line: &'a [u8],
     ) -> Result<(), ScriptFault>
         ensures exact { ReadsLine result (said_of self.old) (said_of self.new) number line.now }
         ensures accords { Accords (said_of self.old) → OnOk result (Accords (said_of self.new)) }
     {
-        let words = words(alloc, line)?;
-        let words = words.as_slice();
+        set_words(list, line)?;
+        let words = list.as_slice();
         if is_comment(words) {
             return Ok(());
         }
@@ -113,7 +114,6 @@ impl Reading {
         number: u64,
         parts: LineParts,
     ) -> Result<(), ScriptFault>
-        requires spelled { IsSpelled parts }
         requires known { is_unknown (line_in parts) ≡ false }
         requires world { lacks_world (said_of self.old) (line_in parts) ≡ false }
         requires placed { is_misplaced (said_of self.old) (line_in parts) ≡ false }
@@ -207,7 +207,6 @@ impl Reading {
         number: u64,
         call: CallParts,
     ) -> Result<(), ScriptFault>
-        requires spelled { IsSpelledCall call }
         requires count { is_miscounted_call (call_in call) ≡ false }
         requires section { 0 < length self.old.scripts }
         ensures exact { ReadsParts result (said_of self.old) (said_of self.new) number (CallLine (call_in call.entry)) }
@@ -221,8 +220,7 @@ impl Reading {
 
 /// The line of a script that a call line gives.
 fn read_script_line(alloc: Global, number: u64, parts: CallParts) -> Result<ScriptLine, ScriptFault>
-    requires spelled { IsSpelledCall parts }
-    requires count { is_miscounted_call (call_in parts) ≡ false }
+    requires { is_miscounted_call (call_in parts) ≡ false }
     ensures exact { GivesLine result number (call_in parts.entry) }
     ensures plain { IfOk result IsPlain }
 {

@@ -1,4 +1,6 @@
-use crate::{Cursor, Halted, RunOutcome, ScriptFault, Scripts, read_input, read_world, split_input};
+use crate::{
+    Cursor, Halted, RunOutcome, ScriptFault, Scripts, read_input, read_world, split_input,
+};
 use gaspi_types::{Call, CallerId, RankId, Reply, Reset, Shape, ThreadId, Timeout, Wait};
 use std::alloc::Global;
 use std::process::Abort;

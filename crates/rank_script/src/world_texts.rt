@@ -61,6 +61,7 @@ fn read_until(
         return Err(ScriptFault::At { number: 1, line: 0 });
     }
     let mut reading = Reading::new(alloc);
+    let mut list = Vec::new(alloc);
     let mut rest = text;
     let mut number: u64 = 1;
     while !rest.is_empty() {
@@ -71,7 +72,7 @@ fn read_until(
             let place = (text.len() - rest.len()) as u64;
             return Ok((shape, scripts, Some((place, number))));
         }
-        reading.read_line(alloc, number, line)?;
+        reading.read_line(alloc, &mut list, number, line)?;
         number += 1;
         rest = later;
     }

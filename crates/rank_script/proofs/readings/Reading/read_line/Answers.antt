@@ -6,14 +6,14 @@ use Rattle.rank_script.proofs.EarlyFaults.{placed}
 use Rattle.rank_script.proofs.ReadLines.{HasParts, reads-parts, early-fault}
 use Rattle.rank_script.proofs.readings.Reading.read_line.Goals as goal
 
-pub returns-clause-exact : goal.returns-clause-exact
-returns-clause-exact c =
+pub returns-in-None-clause-exact : goal.returns-in-None-clause-exact
+returns-in-None-clause-exact c =
     let words : List (List ℕ) = map (λ word. word.now) c.as_slice-words.result.now in
     let has : HasParts c.args.line.now words (line_in c.of-parts.result) = record {
-      is = rw c.as_slice-words.ensures.value c.in_ok-words.ensures;
+      is = rw c.as_slice-words.ensures.value c.in_ok-set_words.ensures;
       comment = sym c.is_comment.ensures ∙ c.if-is_comment.false;
       filled = rw length-map (sym c.is_empty.ensures ∙ c.if-is_empty.false);
-      parts = c.of-parts.ensures.exact;
+      parts = c.of-parts.ensures;
     } in
     reads-parts c.read_parts.result (said_of c.args.self.now) (said_of c.read_parts.new.self) c.args.number c.args.line.now words _ has c.in-None.ensures c.read_parts.ensures.exact
 
@@ -21,10 +21,10 @@ pub returns-in-Some-clause-exact : goal.returns-in-Some-clause-exact
 returns-in-Some-clause-exact c =
     let words : List (List ℕ) = map (λ word. word.now) c.as_slice-words.result.now in
     let has : HasParts c.args.line.now words (line_in c.of-parts.result) = record {
-      is = rw c.as_slice-words.ensures.value c.in_ok-words.ensures;
+      is = rw c.as_slice-words.ensures.value c.in_ok-set_words.ensures;
       comment = sym c.is_comment.ensures ∙ c.if-is_comment.false;
       filled = rw length-map (sym c.is_empty.ensures ∙ c.if-is_empty.false);
-      parts = c.of-parts.ensures.exact;
+      parts = c.of-parts.ensures;
     } in
     (early-fault (said_of c.args.self.now) c.args.line.now words _ c.in-Some.fault has c.in-Some.ensures, refl)
 
