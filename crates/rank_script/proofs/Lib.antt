@@ -4,5 +4,6 @@ pub mod Following
 pub mod InputLines
 pub mod JournalLines
 pub mod LateFaults
+pub mod OtherBytes
 pub mod ReadLines
 pub mod SomeWords
