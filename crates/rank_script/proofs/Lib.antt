@@ -6,3 +6,4 @@ pub mod KindFaults
 pub mod LateFaults
 pub mod ReadLines
 pub mod SomeWords
+pub mod UntilJournal
