@@ -13,7 +13,7 @@ use Rattle.gaspi_types.specs.World.{World}
 use Rattle.rank_script.specs.declared.scripts.Script.{Script}
 use Rattle.rank_script.specs.declared.scripts.ScriptFault.{ScriptFault}
 use Rattle.rank_script.specs.declared.scripts.ScriptFault.TheVariants as faults
-use Rattle.rank_script.proofs.JournalLines.{within-limit}
+use Rattle.rank_script.proofs.UntilJournal.{within-limit}
 
 -- All lines are read where no journal is looked for.
 lines-all : (lines : List (List ℕ)) → lines_until false lines ≡ lines

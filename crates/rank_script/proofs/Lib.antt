@@ -7,3 +7,4 @@ pub mod LateFaults
 pub mod OtherBytes
 pub mod ReadLines
 pub mod SomeWords
+pub mod UntilJournal

@@ -2,7 +2,8 @@ use Rattle.std.proofs.Common.{length, sym, ◌∙◌, arith}
 use Rattle.text_lines.specs.Lines.{fed_lines}
 use Rattle.rank_script.specs.Readings.{said_of}
 use Rattle.rank_script.specs.UntilJournal.{until_from}
-use Rattle.rank_script.proofs.JournalLines.{IsNext, fed-length, not-first, not-second, lines-later, place-later, line-faulty, passed-on, line-read}
+use Rattle.rank_script.proofs.JournalLines.{fed-length}
+use Rattle.rank_script.proofs.UntilJournal.{IsNext, not-first, not-second, lines-later, place-later, line-faulty, passed-on, line-read}
 use Rattle.rank_script.proofs.world_texts.read_until.Goals.{else-journal-via-then-journal+else-is_journal_line, else-journal-via-else-journal}
 use Rattle.rank_script.proofs.world_texts.read_until.Goals as goal
 
