@@ -27,5 +27,5 @@ fn has_other_byte(line: &[u8]) -> bool
     ensures { result ≡ list_any (λ byte. not (is_line_byte byte)) line.now }
 {
     line.iter()
-        .fold(false, |found, byte| found || !is_line_byte(*byte))
+        .fold(false, |found, byte| found | !is_line_byte(*byte))
 }
