@@ -1,8 +1,8 @@
 -- Lines with their line feeds.
 use Rattle.std.proofs.Common.{◌≡◌, ℕ, zero, suc, ◌+◌, ◌<◌, ◌≤◌, Bool, true, false, cond, not, ◌&&◌, ◌==◌, List, [], ◌∷◌, ◌++◌, length, get_or, take, drop, Some, None, refl, sym, ap, ◌∙◌, arith, add-one, append_assoc}
-use Rattle.std.specs.List.{list_all, concat}
+use Rattle.std.specs.List.{list_all, concat, onto_first}
 use Rattle.memchr.specs.Find.{IsFirstByte, is_byte}
-use Rattle.text_lines.specs.Lines.{onto_first, fed_lines}
+use Rattle.text_lines.specs.Lines.{fed_lines}
 
 -- The first line.
 

@@ -1,12 +1,8 @@
 -- The lines of a text. (own choice)
 use Rattle.std.specs.Prelude.{map, ℕ, Bool, false, ◌==◌, List, [], ◌∷◌, if◌then◌else◌}
+use Rattle.std.specs.List.{onto_first}
 
 -- Each with its line feed, which the last one may lack.
-
--- a byte at the front of the first line
-abbrev pub onto_first : ℕ → List (List ℕ) → List (List ℕ)
-onto_first byte [] = (byte ∷ []) ∷ []
-onto_first byte (line ∷ lines) = (byte ∷ line) ∷ lines
 
 abbrev pub fed_lines : List ℕ → List (List ℕ)
 fed_lines [] = []
