@@ -1,10 +1,7 @@
-use Rattle.std.proofs.Common.{◌≡◌, ℕ, ◌+◌, ◌-◌, ◌*◌, ◌^◌, ◌<◌, ◌≤◌, true, false, List, length, get_or, take, All, subst, arith, rules, take_all}
+use Rattle.std.proofs.Common.{◌≡◌, ◌+◌, ◌^◌, ◌≤◌, true, take, All, subst, arith, rules, take_all}
 use Rattle.std.specs.Char.{is_ascii_digit}
-use Rattle.std.specs.List.{list_all}
 use Rattle.std.specs.Str.Parse.{digits_value}
-use Rattle.std.proofs.lemmas.Bool.Decides.{nat_tests}
 use Rattle.std.proofs.lemmas.List.Elements.{All-more}
-use Rattle.call_texts.specs.Numbers.{number_of}
 use Rattle.call_texts.proofs.NumberWords.{next-value, number_of-large, number_of-numeral}
 use Rattle.call_texts.proofs.numbers.read_number.Goals as goal
 
