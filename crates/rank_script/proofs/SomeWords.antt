@@ -1,5 +1,5 @@
 -- Some of the words of a line.
-use Rattle.std.proofs.Common.{◌≡◌, ℕ, suc, ◌+◌, ◌-◌, ◌∙◌, ◌<◌, ◌≤◌, Bool, true, false, cond, not, nat_lt, take, drop, Some, None, List, [], ◌∷◌, ◌++◌, length, map, Bor, refl, ap, subst, arith, add-one}
+use Rattle.std.proofs.Common.{◌≡◌, ℕ, suc, ◌+◌, ◌-◌, ◌<◌, ◌≤◌, Bool, true, false, cond, not, nat_lt, take, drop, Some, None, List, [], ◌∷◌, ◌++◌, length, map, Bor, refl, ap, subst, arith, add-one}
 use Rattle.std.specs.List.{position, prefix_len}
 use Rattle.std.proofs.lemmas.Grind.{common_steps}
 use Rattle.std.proofs.lemmas.Bool.Decides.{nat_tests}

@@ -1,4 +1,4 @@
-use Rattle.std.proofs.Common.{◌≡◌, ◌||◌, not, false, ◌∙◌, rules, tests}
+use Rattle.std.proofs.Common.{◌||◌, not, false, ◌∙◌, rules, tests}
 use Rattle.std.proofs.lemmas.Iterator.{YieldsList-from_slice}
 use Rattle.std.proofs.lemmas.Iterator.Consumers.{fold_from_yields_List}
 use Rattle.rank_script.specs.Lines.{is_line_byte}
