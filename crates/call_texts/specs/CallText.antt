@@ -1,5 +1,5 @@
 -- The texts of calls.
-use Rattle.std.specs.Prelude.{ℕ, Bool, true, false, List, [], ◌∷◌, length, Option, Some, None, is_some, find, ◌==◌, if◌then◌else◌, codes}
+use Rattle.std.specs.Prelude.{ℕ, Bool, true, false, List, [], ◌∷◌, length, Option, Some, None, find, ◌==◌, if◌then◌else◌, codes}
 use Rattle.std.specs.List.{join_with_byte}
 use Rattle.std.specs.Str.{bytes_eq}
 use Rattle.std.specs.Option.{option_map_or}
@@ -77,16 +77,6 @@ has_timeout word = false
 -- whether the call's text holds a list, which takes memory as it is read
 abbrev pub holds_list : CallWord → Bool
 holds_list word = has_list (form_of word)
-
--- the same of a word of a text
-abbrev pub is_call_word : List ℕ → Bool
-is_call_word word = is_some (call_word_of word)
-
-abbrev pub argument_count : List ℕ → ℕ
-argument_count word = option_map_or arguments_of (call_word_of word) 0
-
-abbrev pub takes_timeout : List ℕ → Bool
-takes_timeout word = option_map_or has_timeout (call_word_of word) false
 
 -- Calls and what is spelled.
 

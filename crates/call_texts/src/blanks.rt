@@ -23,7 +23,7 @@ fn blank_in(text: &[u8]) -> Option<usize>
         .position(|byte| *byte <= b' ' && is_blank(*byte))
 }
 
-/// What stands before the first blank of a text, and the text behind that blank.
+/// What stands before the first blank of a text, and the text behind that blank; none where there is no blank.
 fn first_piece(text: &[u8]) -> Option<(&[u8], &[u8])>
     ensures words { MatchOption result (words_of text.now ≡ words_in_piece text.now)
         (λ parts. words_of text.now ≡ words_in_piece parts.0.now ++ words_of parts.1.now) }
@@ -44,7 +44,7 @@ fn push_piece<'a>(list: &mut Vec<&'a [u8]>, piece: &'a [u8]) -> Result<(), NoMem
 }
 
 /// Puts the words of a text into a list, in their order and in place of what it held: the longest runs of bytes other
-/// than spaces and tabs. A list that had room for as many words takes no memory.
+/// than spaces and tabs. What the list holds without memory is not said.
 pub fn set_words<'a>(list: &mut Vec<&'a [u8]>, text: &'a [u8]) -> Result<(), NoMemory>
     ensures { OnOk result (map (λ word. word.now) list.new.items ≡ words_of text.now) }
 {

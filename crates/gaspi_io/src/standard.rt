@@ -11,7 +11,7 @@ use crate::source::Source;
 use std::io::{ErrorKind, Read, Write};
 use std::marker::Model;
 
-/// How often a call that a signal interrupted is made again before it counts as a fault.
+/// How often a call is made at most, where signals interrupt it, before that counts as a fault.
 const TRIES: u32 = 64;
 
 /// A source over a reader of the system, as standard input. It tells no bytes. Contracts see it as

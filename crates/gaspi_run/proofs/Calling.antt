@@ -16,23 +16,6 @@ use Rattle.gaspi_run.specs.OwnCalls.{pairs_of, HasCallers, IsCallTable}
 use Rattle.gaspi_run.specs.declared.own_calls.OwnCall.{OwnCall}
 use Rattle.gaspi_run.proofs.Running.{own_calls-append, own-same, own-other}
 
--- the table of no call has all callers, and is that of no event
-pub empty-table : IsCallTable (replicate 16 (replicate 4 [])) []
-empty-table = record {
-  callers = record {
-    ranks = length-replicate 16 empty;
-    threads = λ rank row there. rw (slice_get-replicate 16 empty row rank there) (length-replicate {A = List OwnCall} 4 []);
-  };
-  each = λ rank row there thread calls at.
-      none calls thread (subst (λ (xs : List (List OwnCall)). slice_get xs thread ≡ Some calls) (slice_get-replicate 16 empty row rank there) at);
-}
-  where
-    empty : List (List OwnCall)
-    empty = replicate 4 []
-
-    none : (calls : List OwnCall) (thread : ℕ) → slice_get (replicate 4 []) thread ≡ Some calls → pairs_of calls ≡ []
-    none calls thread at = ap pairs_of (slice_get-replicate 4 [] calls thread at)
-
 -- what stands in a table of which one item was changed: the changed item, or elsewhere what stood there
 get-set : {X : Type 0} (xs : List X) (i j : ℕ) (y z : X) → slice_get (slice_set xs i y) j ≡ Some z → ((j ≡ i) × (z ≡ y)) ⊎ ((j ≡ i → ⊥) × (slice_get xs j ≡ Some z))
 get-set [] i j y z at = absurd (let no : ⊥ = cc in no)

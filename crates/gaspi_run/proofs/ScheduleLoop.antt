@@ -114,21 +114,6 @@ turned-more w scripts seed limit t u h is = record {
 
 -- At the end.
 
-none-left : (t : Turns) → candidates t ≡ 0 → (place : ℕ) (x : Waiting) → slice_get t.waiting place ≡ Some x → ⊥
-none-left t over place x at = go t.waiting (let none : length t.waiting ≡ 0 = omega arith in none) at
-  where
-    go : (ws : List Waiting) → length ws ≡ 0 → slice_get ws place ≡ Some x → ⊥
-    go [] none at = let no : ⊥ = cc in no
-    go (y ∷ ws) none at = omega arith
-
-pub over-scheduled : (w : World) (scripts : List Script) (seed limit : ℕ) (t : Turns) → HasTurned w scripts seed limit t → candidates t ≡ 0 → IsScheduled w scripts seed limit t.journal t.finished
-over-scheduled w scripts seed limit t h over = record {
-  count = h.count;
-  over = subst (λ (u : Turns). candidates u ≡ 0) h.is over;
-  journal_is = ap (λ (u : Turns). u.journal) h.is;
-  finished_is = ap (λ (u : Turns). u.finished) h.is;
-}
-
 pub over-legal : (w : World) (scripts : List Script) (seed limit : ℕ) (t : Turns) → Known w scripts → HasTurned w scripts seed limit t → is_legal w t.journal ≡ true
 over-legal w scripts seed limit t k h = rw (turned-good w scripts seed limit t k h).legal refl
 

@@ -4,7 +4,7 @@ ghost use Rattle.std.specs.Prelude.{◌≡◌, ◌<◌, ◌≤◌, ◌+◌, ◌^
 ghost use Rattle.rank_script.specs.WorldText.{world_text, checked_world};
 ghost use Rattle.rank_script.specs.declared.scripts.ScriptFault.TheVariants as script_faults;
 ghost use Rattle.text_lines.specs.Lines.{fed_lines};
-ghost use Rattle.gaspi_run.specs.Command.{is_any_wrong, is_any_limit, run_status, run_text, HasLimit, IsStepped, IsChecked, IsTold, IsRead, IsNoJournal, HasVerdict, world_read, why_word, no_journal_text, verdict_text, verdict_status};
+ghost use Rattle.gaspi_run.specs.Command.{is_any_wrong, is_any_limit, run_status, run_text, HasLimit, IsStepped, IsChecked, IsTold, IsRead, IsNoJournal, HasVerdict, world_read, why_word, verdict_text, verdict_status};
 
 use crate::scheduling::schedule;
 use crate::transcripts::write_transcripts;

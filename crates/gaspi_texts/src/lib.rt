@@ -12,8 +12,8 @@ mod text_laws;
 
 pub use call_texts::{
     CallWord, bytes_read_back, calls_read_back, numbers_read_back, read_bytes, read_call,
-    read_call_words, read_number, read_value, set_words, words, words_read_back, write_bytes,
-    write_call, write_number,
+    read_call_words, read_number, read_value, words, words_read_back, write_bytes, write_call,
+    write_number,
 };
 pub use event_texts::{Scratch, read_event, read_event_with, write_event};
 pub use ranges::{event_is_in_range, reply_is_in_range};

@@ -1,7 +1,7 @@
 use super::*;
 use gaspi_types::{
     Bytes, Call, CallerId, Coll, Event, NoMemory, NumType, Numbers, Op, RankId, Refusal, Reply,
-    Rows, ThreadId, are_in_type,
+    Rows, Stage, ThreadId, are_in_type,
 };
 use std::alloc::Global;
 use std::test::Fail;
@@ -28,7 +28,7 @@ fn end_with_longs_is(alloc: Global, items: &[i128], text: &[u8]) -> Result<bool,
     end_is(alloc, Reply::List(numbers), text)
 }
 
-// The texts of all other replies are rows of `tests/texts.table`.
+// That texts of all kinds are read is in `tests/texts.table`.
 #[test]
 fn events_with_replies_that_no_run_has(rt: HostRuntime) -> Result<(), Fail> {
     let alloc = rt.alloc();
@@ -42,6 +42,75 @@ fn events_with_replies_that_no_run_has(rt: HostRuntime) -> Result<(), Fail> {
         )?
     );
     assert!(rt; end_with_longs_is(alloc, &[-7, 0], b"called 1.2 end -> list LONG -7 0")?);
+    Ok(())
+}
+
+/// The texts of refusals, one in a line.
+fn texts_of(alloc: Global, refusals: &[Refusal]) -> Result<Bytes, NoMemory> {
+    let mut text = Bytes::new(alloc);
+    for refusal in refusals {
+        write_reply(&mut text, &Reply::Refused(*refusal))?;
+        text.push(b'\n')?;
+    }
+    Ok(text)
+}
+
+#[test]
+fn refusals_that_no_run_has(rt: HostRuntime) -> Result<(), Fail> {
+    let refusals = [
+        Refusal::PassiveSize { waiting: 64 },
+        Refusal::NoGroup,
+        Refusal::GroupStage {
+            stage: Stage::Building,
+        },
+        Refusal::GroupStage {
+            stage: Stage::Committed,
+        },
+        Refusal::NotMember,
+        Refusal::GroupMismatch { kept: 5 },
+        Refusal::ActiveCollective { thread: 3 },
+        Refusal::BadCount,
+        Refusal::FloatType,
+        Refusal::GroupsFull,
+        Refusal::CallerEnded,
+    ];
+    let expected: &[u8] =
+        b"refused 13 64\nrefused 14\nrefused 15 building\nrefused 15 committed\nrefused 16\nrefused 17 5\nrefused 18 3\nrefused 21\nrefused 22\nrefused 24\nrefused 25\n";
+    assert!(rt; texts_of(rt.alloc(), &refusals)?.as_slice() == expected);
+    Ok(())
+}
+
+#[test]
+fn collectives_have_texts(rt: HostRuntime) -> Result<(), Fail> {
+    let refusals = [
+        Refusal::ResumeOther {
+            kept: Coll::Barrier,
+        },
+        Refusal::ResumeOther {
+            kept: Coll::Create(31, 8),
+        },
+        Refusal::ResumeOther {
+            kept: Coll::Commit(3),
+        },
+        Refusal::CollectiveMismatch {
+            kept: Coll::Allreduce(Op::Min, NumType::Int, 1),
+        },
+        Refusal::CollectiveMismatch {
+            kept: Coll::Allreduce(Op::Max, NumType::Uint, 1),
+        },
+        Refusal::CollectiveMismatch {
+            kept: Coll::Allreduce(Op::Sum, NumType::Long, 1),
+        },
+        Refusal::CollectiveMismatch {
+            kept: Coll::Allreduce(Op::Sum, NumType::Float, 1),
+        },
+        Refusal::CollectiveMismatch {
+            kept: Coll::Allreduce(Op::Sum, NumType::Double, 1),
+        },
+    ];
+    let expected: &[u8] =
+        b"refused 19 barrier\nrefused 19 create 31 8\nrefused 19 commit 3\nrefused 20 allreduce MIN INT 1\nrefused 20 allreduce MAX UINT 1\nrefused 20 allreduce SUM LONG 1\nrefused 20 allreduce SUM FLOAT 1\nrefused 20 allreduce SUM DOUBLE 1\n";
+    assert!(rt; texts_of(rt.alloc(), &refusals)?.as_slice() == expected);
     Ok(())
 }
 

@@ -1,8 +1,8 @@
-pub mod Runs
 pub mod Cursors
+pub mod CutLines
 pub mod Lines
-pub mod WorldText
-pub mod Kinds
-pub mod Readings
 pub mod PlainScripts
+pub mod Readings
+pub mod Runs
 pub mod UntilJournal
+pub mod WorldText

@@ -111,10 +111,6 @@ abbrev pub line_of : Progress → ℕ
 line_of (Going line made lines) = line.number
 line_of (Over outcome) = 0
 
-abbrev pub is_going : Progress → Bool
-is_going (Going line made lines) = true
-is_going (Over outcome) = false
-
 -- pairs that lead from one point of a run to another: each has the call that is present then
 abbrev pub Follows : Progress → List (Call × Reply) → Progress → Type 0
 Follows p [] q = q ≡ p

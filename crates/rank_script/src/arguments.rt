@@ -4,7 +4,7 @@ ghost use Rattle.std.specs.Prelude.{◌≡◌, map, length, Some, None, if◌the
 ghost use Rattle.gaspi_types.specs.World.{world_of};
 ghost use Rattle.rank_script.specs.WorldText.{all_numbers, number_at, limits_of, timeout_of, is_timeout_within, as_timeout, are_tries_within, is_section_line};
 
-use crate::kinds::is_word;
+use crate::line_parts::is_word;
 use gaspi_texts::read_number;
 use gaspi_types::{Shape, ShapeFault, Timeout};
 use std::alloc::Global;

@@ -6,10 +6,10 @@ ghost use Rattle.std.specs.Option.{option_map};
 ghost use Rattle.call_texts.specs.CallText.{arguments_of};
 ghost use Rattle.gaspi_types.specs.declared.calls.Call.TheVariants.{End};
 ghost use Rattle.rank_script.specs.WorldText.{is_equals_word, before_equals, after_equals, last_word, given_count, is_miscounted_call, line_tries, line_call, line_timeout, line_expected};
-ghost use Rattle.rank_script.specs.Kinds.{call_in};
+ghost use Rattle.rank_script.specs.CutLines.{call_in};
 
 use crate::arguments::read_looks;
-use crate::kinds::is_word;
+use crate::line_parts::is_word;
 use call_texts::{read_arguments, words_spell_no_end};
 use gaspi_texts::{CallWord, read_number, read_reply_words};
 use gaspi_types::{Call, NoMemory, Reply};

@@ -4,7 +4,7 @@
 mod arguments;
 mod call_lines;
 mod cursors;
-mod kinds;
+mod line_parts;
 mod lines;
 mod readings;
 mod run_laws;

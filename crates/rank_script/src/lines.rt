@@ -21,8 +21,8 @@ pub(crate) fn is_bad_line(line: &[u8]) -> bool
     has_other_byte(line) || line.len() > MOST_BYTES_OF_A_LINE
 }
 
-/// Whether a line holds a byte that may not stand in one. Few do, so all bytes are looked at, many at a time, and none is
-/// the last.
+/// Whether a line holds a byte that may not stand in one. Few do, so all its bytes are looked at, without a branch for
+/// each.
 fn has_other_byte(line: &[u8]) -> bool
     ensures { result ≡ list_any (λ byte. not (is_line_byte byte)) line.now }
 {

@@ -2,14 +2,14 @@
 
 ghost use Rattle.std.specs.Prelude.{◌≡◌, ◌<◌, ◌+◌, map, length, true, false, None, Some, IsSome, OnOk, IfOk};
 ghost use Rattle.rank_script.specs.WorldText.{WorldLine, SegmentLine, SectionLine, CallLine, is_comment, is_unknown, lacks_world, is_misplaced, is_miscounted, is_miscounted_call};
-ghost use Rattle.rank_script.specs.Kinds.{line_in, call_in};
+ghost use Rattle.rank_script.specs.CutLines.{line_in, call_in};
 ghost use Rattle.rank_script.specs.Readings.{fault_for, GivesLine};
 ghost use Rattle.rank_script.specs.PlainScripts.{IsPlain};
 ghost use Rattle.rank_script.specs.declared.scripts.ScriptFault.TheVariants.{At};
 
 use crate::arguments::{read_section, read_segment, read_shape, timeout_of, tries_of};
 use crate::call_lines::CallParts;
-use crate::kinds::LineParts;
+use crate::line_parts::LineParts;
 use crate::lines::is_bad_line;
 use crate::scripts::{ScriptFault, ScriptLine, Scripts};
 use call_texts::set_words;

@@ -6,7 +6,7 @@ ghost use Rattle.text_lines.specs.Lines.{fed_lines, plain_line, without_last};
 
 use memchr::memchr;
 
-/// The first line of a text, with its line feed, which the last line may lack, and the text behind it.
+/// The first line of a text that has one, with its line feed, which the last line may lack, and the text behind it.
 pub fn first_line(text: &[u8]) -> (&[u8], &[u8])
     requires { 0 < length text.now }
     ensures lines { fed_lines text.now ≡ result.0.now ∷ fed_lines result.1.now }

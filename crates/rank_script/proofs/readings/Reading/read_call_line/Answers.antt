@@ -1,5 +1,5 @@
 use Rattle.std.proofs.Common.{rules}
-use Rattle.rank_script.specs.Kinds.{call_in}
+use Rattle.rank_script.specs.CutLines.{call_in}
 use Rattle.rank_script.specs.Readings.{said_of}
 use Rattle.rank_script.proofs.LateFaults.{line-refused, line-accepted, call-accords}
 use Rattle.rank_script.proofs.readings.Reading.read_call_line.Goals as goal

@@ -1,6 +1,6 @@
 use Rattle.std.proofs.Common.{map, List, ℕ, refl, sym, ◌∙◌}
 use Rattle.std.proofs.lemmas.List.{length-map}
-use Rattle.rank_script.specs.Kinds.{line_in}
+use Rattle.rank_script.specs.CutLines.{line_in}
 use Rattle.rank_script.specs.Readings.{said_of}
 use Rattle.rank_script.proofs.EarlyFaults.{placed}
 use Rattle.rank_script.proofs.ReadLines.{HasParts, reads-parts, early-fault}

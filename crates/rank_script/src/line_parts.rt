@@ -5,7 +5,7 @@ ghost use Rattle.std.specs.Option.{option_copied};
 ghost use Rattle.std.specs.Str.{bytes_eq};
 ghost use Rattle.call_texts.specs.CallText.{call_word_of};
 ghost use Rattle.rank_script.specs.WorldText.{parts_of, again_line, call_line, is_world_line, is_unknown, is_miscounted};
-ghost use Rattle.rank_script.specs.Kinds.{line_in};
+ghost use Rattle.rank_script.specs.CutLines.{line_in};
 
 use crate::call_lines::{CallParts, before_and_after_equals};
 use gaspi_texts::CallWord;
@@ -84,7 +84,7 @@ impl<'b, 'a> LineParts<'b, 'a> {
         matches!(self, LineParts::World(_))
     }
 
-    /// Whether its first word says nothing of what it is.
+    /// Whether it is none of the others.
     pub(crate) fn is_unknown(self) -> bool
         ensures { result ≡ is_unknown (line_in self.entry) }
     {
