@@ -1,0 +1,18 @@
+-- What the calls on the notification slots of one segment answer, by the checks of the machine. (GASPI: notifications)
+use Rattle.std.specs.Prelude.{ℕ, List, length, Option, Result, Ok, nat_lt, slice_index}
+use Rattle.gaspi_types.specs.Checks.{◌>>=◌, check}
+use Rattle.gaspi_types.specs.Slots.{is_slot_range, first_set}
+use Rattle.gaspi_types.specs.declared.replies.Refusal.{Refusal}
+use Rattle.gaspi_types.specs.declared.replies.Refusal.TheVariants.{BadNote}
+
+-- the least slot of a range that is set, where one is (notify_waitsome)
+abbrev pub found_slot : List ℕ → ℕ → ℕ → Result (Option ℕ) Refusal
+found_slot slots begin num = do
+  noted ← check (is_slot_range begin num (length slots)) BadNote
+  Ok (first_set slots begin num)
+
+-- the value of a slot (notify_reset)
+abbrev pub slot_value : List ℕ → ℕ → Result ℕ Refusal
+slot_value slots note = do
+  noted ← check (nat_lt note (length slots)) BadNote
+  Ok (slice_index slots note)
