@@ -1,3 +1,5 @@
+ghost use Rattle.std.specs.Prelude.{◌≡◌};
+
 use crate::Machine;
 use gaspi_types::{
     Call, CallerId, Event, Notify, Outcome, QueueId, RankId, Ready, Reply, Reset, Shape, ThreadId,
@@ -16,7 +18,10 @@ fn one_rank(alloc: Global) -> Result<Machine, Fail> {
 }
 
 /// Its only caller.
-fn caller() -> CallerId {
+fn caller() -> CallerId
+    ensures rank { result.rank ≡ 0 }
+    ensures thread { result.thread ≡ 0 }
+{
     CallerId {
         rank: RankId::of(0),
         thread: ThreadId::of(0),
@@ -56,32 +61,29 @@ fn makes(rt: &impl Abort, alloc: Global, machine: &mut Machine, transfer: &Trans
 }
 
 /// What the caller needs for the notification, and what room its rank has.
-fn has_room(rt: &impl Abort, machine: &Machine, caller: CallerId, room: u64) {
-    assert!(rt; machine.is_declared(caller));
-    assert_eq!(rt; machine.need(caller, &notify()), 3);
-    assert!(rt; machine.has_rank(caller.rank));
-    assert_eq!(rt; machine.room(caller.rank), room);
+fn has_room(rt: &impl Abort, machine: &Machine, room: u64) {
+    let rank = RankId::of(0);
+    assert!(rt; machine.is_declared(caller()));
+    assert_eq!(rt; machine.need(caller(), &notify()), 3);
+    assert!(rt; machine.has_rank(rank));
+    assert_eq!(rt; machine.room(rank), room);
 }
 
-/// The only transfer that may come next is this one.
-fn lists(rt: &impl Abort, alloc: Global, machine: &Machine, next: Transfer) -> Result<(), Fail> {
+/// The only transfer that may come next is the take, or the put.
+fn lists(rt: &impl Abort, alloc: Global, machine: &Machine, put: bool) -> Result<(), Fail> {
     let transfers = machine.transfers(alloc)?;
-    assert!(rt; transfers.as_slice() == [next].as_slice());
+    let expected: &[Transfer] = &[transfer(put)];
+    assert!(rt; transfers.as_slice() == expected);
     assert_eq!(rt; machine.transfer_count(), 1);
-    assert!(rt; machine.transfer_at(0) == Some(next));
+    assert!(rt; machine.transfer_at(0) == Some(transfer(put)));
     Ok(())
 }
 
 /// The slot has its value.
-fn is_notified(
-    rt: &impl Abort,
-    alloc: Global,
-    machine: &Machine,
-    caller: CallerId,
-) -> Result<(), Fail> {
+fn is_notified(rt: &impl Abort, alloc: Global, machine: &Machine) -> Result<(), Fail> {
     let reset = Call::Reset(Reset { seg: 0, note: 3 });
-    assert!(rt; machine.is_declared(caller));
-    let ready = machine.answer(alloc, caller, &reset)?;
+    assert!(rt; machine.is_declared(caller()));
+    let ready = machine.answer(alloc, caller(), &reset)?;
     assert!(rt; ready == Ready::Reply(Reply::Value(7)));
     Ok(())
 }
@@ -92,16 +94,16 @@ fn a_notification_is_posted_taken_and_put_by_events(rt: HostRuntime) -> Result<(
     let rank = RankId::of(0);
     let queue = QueueId::of(0);
     let mut machine = one_rank(alloc)?;
-    has_room(&rt, &machine, caller(), 999);
+    has_room(&rt, &machine, 999);
     let posted = Event::Called(caller(), notify(), Reply::Done);
     steps(&rt, alloc, &mut machine, &posted);
-    has_room(&rt, &machine, caller(), 996);
+    has_room(&rt, &machine, 996);
     let taken = Event::Take(rank, queue, rank, 0, Outcome::Applied);
     steps(&rt, alloc, &mut machine, &taken);
     let put = Event::Put(rank, queue, rank, 0, Outcome::Applied);
     steps(&rt, alloc, &mut machine, &put);
-    has_room(&rt, &machine, caller(), 996);
-    is_notified(&rt, alloc, &machine, caller())
+    has_room(&rt, &machine, 996);
+    is_notified(&rt, alloc, &machine)
 }
 
 #[test]
@@ -110,12 +112,12 @@ fn transfers_are_listed_and_made(rt: HostRuntime) -> Result<(), Fail> {
     let mut machine = one_rank(alloc)?;
     let posted = Event::Called(caller(), notify(), Reply::Done);
     steps(&rt, alloc, &mut machine, &posted);
-    lists(&rt, alloc, &machine, transfer(false))?;
+    lists(&rt, alloc, &machine, false)?;
     makes(&rt, alloc, &mut machine, &transfer(false));
-    lists(&rt, alloc, &machine, transfer(true))?;
+    lists(&rt, alloc, &machine, true)?;
     makes(&rt, alloc, &mut machine, &transfer(true));
     assert_eq!(rt; machine.transfer_count(), 0);
-    is_notified(&rt, alloc, &machine, caller())?;
+    is_notified(&rt, alloc, &machine)?;
     assert!(rt; machine.is_active(caller()));
     let end = Event::Called(caller(), Call::End, Reply::Done);
     steps(&rt, alloc, &mut machine, &end);
