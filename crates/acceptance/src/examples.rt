@@ -107,11 +107,21 @@ const FULL: &str = "world 2 1 4 8 4 1000\nsegment 0 0 65536\nsegment 1 0 65536\n
 /// A script of its caller: the size comes before the range.
 const LARGEST: &str = "write 0 0 1 0 0 65536 0 -> done\nwrite 0 0 1 0 0 65537 0 -> refused 6";
 
+/// One rank with a segment of 16 bytes; its calls begin in line 4.
+const OWN_READER: &str = "world 1 1 4 8 1 100\nsegment 0 0 16\nrank 0 thread 0\n";
+
+/// A script of its caller: it reads from itself, and is told so.
+const READ: &str = "store 0 0 aabb -> done\nread_notify 0 8 0 0 0 2 5 0 -> done\n\
+waitsome 0 5 1 block -> id 5\nreset 0 5 -> value 1\nload 0 8 2 -> bytes aabb";
+
 #[test]
 fn scripts_are_told(rt: HostRuntime) -> Result<(), Fail> {
     let alloc = rt.alloc();
     calls_are_told(&rt, alloc, ONE_CALLER, 5, SCRIPTS)?;
     calls_are_told(&rt, alloc, FULL, 5, LARGEST)?;
+    calls_are_told(&rt, alloc, OWN_READER, 4, READ)?;
+    let text = "world 1 1 1 1 1 9\nrank 0 thread 0\nqsize 0 = value 1\n";
+    words_run_to(&rt, alloc, &STEP, text, 3, "0.0 3 value 0\n0.0 failed 3\n")?;
     Ok(())
 }
 
@@ -149,7 +159,21 @@ called 1.0 delete 0 -> done
 take 0 0 1 0 ok
 put 0 0 1 0 failed
 not take 0 0 1 1 ok: take
-called 0.0 wait 0 -> refused 9 1";
+called 0.0 wait 0 -> refused 9 1
+called 0.0 state -> mask 2
+called 0.0 purge 0 -> done
+called 0.0 qsize 0 -> value 0
+called 1.0 alloc 0 16 -> done
+called 0.0 write 0 0 1 0 0 1 0 -> done
+take 0 0 1 2 ok
+put 0 0 1 2 failed
+
+# A wait is not done while a read stands, posted or carried.
+called 0.0 read 0 0 1 0 0 4 0 -> done
+not called 0.0 wait 0 -> done: reply
+take 0 0 1 0 ok
+not called 0.0 wait 0 -> done: reply
+called 0.0 wait 0 -> timeout";
 
 /// As `TWO_CALLERS`, with two queues.
 const TWO_QUEUES: &str =

@@ -1,5 +1,4 @@
-//! Whole runs of the command that no text of `tests/` can show, and the worked examples over the public call. All is in
-//! the tests.
+//! Tests alone: whole runs of the command that no text of `tests/` can show, and the worked examples over the public call.
 #![tactic(auto)]
 
 #[cfg(test)]

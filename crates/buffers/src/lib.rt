@@ -4,6 +4,3 @@
 mod buffers;
 
 pub use buffers::Buffer;
-
-#[cfg(test)]
-mod tests;

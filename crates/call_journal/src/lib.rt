@@ -23,6 +23,3 @@ pub type Journal = Rows<Event>;
 /// fail. `into_rows` makes a journal of it, without taking memory. The place of an event is its index, so it is the journal of
 /// a whole world, as under one lock, and not the part of one rank.
 pub type ReservedJournal = Buffer<Event>;
-
-#[cfg(test)]
-mod tests;

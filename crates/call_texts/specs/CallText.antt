@@ -10,7 +10,7 @@ use Rattle.gaspi_types.specs.declared.calls.Call.TheVariants as calls
 use Rattle.call_texts.specs.declared.fields.Field.{Field}
 use Rattle.call_texts.specs.declared.fields.Field.TheVariants.{Number, Value, Bytes}
 use Rattle.call_texts.specs.declared.call_words.CallWord.{CallWord}
-use Rattle.call_texts.specs.declared.call_words.CallWord.TheVariants.{Alloc, Register, Delete, Store, Load, Write, Notify, WriteNotify, Wait, Waitsome, Reset, FetchAdd, CompareSwap}
+use Rattle.call_texts.specs.declared.call_words.CallWord.TheVariants.{Alloc, Register, Delete, Store, Load, Write, Read, Notify, WriteNotify, ReadNotify, Wait, Purge, Qsize, Waitsome, Reset, FetchAdd, CompareSwap, State}
 
 -- how a call's word is spelled, and the form of what follows it, a timeout aside
 pub record WordRow : Type 0 where
@@ -18,8 +18,8 @@ pub record WordRow : Type 0 where
   pub form : List Field
 
 -- the spellings are those that GASPI has for the procedures, in short for `segment_alloc`, `segment_register`,
--- `segment_delete`, `notify_waitsome`, `notify_reset`, `atomic_fetch_add` and `atomic_compare_swap`; `store` and `load`
--- are own choice
+-- `segment_delete`, `queue_purge`, `queue_size`, `notify_waitsome`, `notify_reset`, `atomic_fetch_add`, `atomic_compare_swap` and
+-- `state_vec_get`; `store` and `load` are own choice
 abbrev pub word_row : CallWord → WordRow
 -- SEG SIZE
 word_row Alloc = record { spelling = codes "alloc"; form = Number ∷ Number ∷ [] }
@@ -33,13 +33,21 @@ word_row Store = record { spelling = codes "store"; form = Number ∷ Number ∷
 word_row Load = record { spelling = codes "load"; form = Number ∷ Number ∷ Number ∷ [] }
 -- SEG OFF RANK RSEG ROFF SIZE QUEUE
 word_row Write = record { spelling = codes "write"; form = Number ∷ Number ∷ Number ∷ Number ∷ Number ∷ Number ∷ Number ∷ [] }
+-- SEG OFF RANK RSEG ROFF SIZE QUEUE
+word_row Read = record { spelling = codes "read"; form = Number ∷ Number ∷ Number ∷ Number ∷ Number ∷ Number ∷ Number ∷ [] }
 -- RSEG RANK NOTE VALUE QUEUE
 word_row Notify = record { spelling = codes "notify"; form = Number ∷ Number ∷ Number ∷ Value ∷ Number ∷ [] }
 -- SEG OFF RANK RSEG ROFF SIZE NOTE VALUE QUEUE
 word_row WriteNotify =
     record { spelling = codes "write_notify"; form = Number ∷ Number ∷ Number ∷ Number ∷ Number ∷ Number ∷ Number ∷ Value ∷ Number ∷ [] }
+-- SEG OFF RANK RSEG ROFF SIZE NOTE QUEUE
+word_row ReadNotify = record { spelling = codes "read_notify"; form = Number ∷ Number ∷ Number ∷ Number ∷ Number ∷ Number ∷ Number ∷ Number ∷ [] }
 -- QUEUE
 word_row Wait = record { spelling = codes "wait"; form = Number ∷ [] }
+-- QUEUE
+word_row Purge = record { spelling = codes "purge"; form = Number ∷ [] }
+-- QUEUE
+word_row Qsize = record { spelling = codes "qsize"; form = Number ∷ [] }
 -- SEG BEGIN NUM
 word_row Waitsome = record { spelling = codes "waitsome"; form = Number ∷ Number ∷ Number ∷ [] }
 -- SEG NOTE
@@ -48,6 +56,8 @@ word_row Reset = record { spelling = codes "reset"; form = Number ∷ Number ∷
 word_row FetchAdd = record { spelling = codes "fetch_add"; form = Number ∷ Number ∷ Number ∷ Number ∷ [] }
 -- SEG OFF RANK COMPARATOR NEW
 word_row CompareSwap = record { spelling = codes "compare_swap"; form = Number ∷ Number ∷ Number ∷ Number ∷ Number ∷ [] }
+-- nothing
+word_row State = record { spelling = codes "state"; form = [] }
 
 abbrev pub spelling_of : CallWord → List ℕ
 spelling_of word = (word_row word).spelling
@@ -58,7 +68,7 @@ form_of word = (word_row word).form
 -- the words of calls
 abbrev pub call_words : List CallWord
 call_words =
-    Alloc ∷ Register ∷ Delete ∷ Store ∷ Load ∷ Write ∷ Notify ∷ WriteNotify ∷ Wait ∷ Waitsome ∷ Reset ∷ FetchAdd ∷ CompareSwap ∷ []
+    Alloc ∷ Register ∷ Delete ∷ Store ∷ Load ∷ Write ∷ Read ∷ Notify ∷ WriteNotify ∷ ReadNotify ∷ Wait ∷ Purge ∷ Qsize ∷ Waitsome ∷ Reset ∷ FetchAdd ∷ CompareSwap ∷ State ∷ []
 
 -- the call's word that is spelled so
 unfoldable pub call_word_of : List ℕ → Option CallWord
@@ -94,15 +104,22 @@ spelled (calls.Store call) = Some (record { word = Store; fields = (call.seg, (c
 spelled (calls.Load call) = Some (record { word = Load; fields = (call.seg, (call.offset, (call.size, tt))) })
 spelled (calls.Write call) =
     Some (record { word = Write; fields = (call.seg, (call.offset, (call.rank, (call.rseg, (call.roffset, (call.size, (call.queue, tt))))))) })
+spelled (calls.Read call) =
+    Some (record { word = Read; fields = (call.seg, (call.offset, (call.rank, (call.rseg, (call.roffset, (call.size, (call.queue, tt))))))) })
 spelled (calls.Notify call) = Some (record { word = Notify; fields = (call.rseg, (call.rank, (call.note, (call.value, (call.queue, tt))))) })
 spelled (calls.WriteNotify call) =
     Some (record { word = WriteNotify; fields = (call.seg, (call.offset, (call.rank, (call.rseg, (call.roffset, (call.size, (call.note, (call.value, (call.queue, tt))))))))) })
+spelled (calls.ReadNotify call) =
+    Some (record { word = ReadNotify; fields = (call.seg, (call.offset, (call.rank, (call.rseg, (call.roffset, (call.size, (call.note, (call.queue, tt)))))))) })
 spelled (calls.Wait call) = Some (record { word = Wait; fields = (call.queue, tt) })
+spelled (calls.Purge call) = Some (record { word = Purge; fields = (call.queue, tt) })
+spelled (calls.Qsize call) = Some (record { word = Qsize; fields = (call.queue, tt) })
 spelled (calls.Waitsome call) = Some (record { word = Waitsome; fields = (call.seg, (call.begin, (call.num, tt))) })
 spelled (calls.Reset call) = Some (record { word = Reset; fields = (call.seg, (call.note, tt)) })
 spelled (calls.FetchAdd call) = Some (record { word = FetchAdd; fields = (call.seg, (call.offset, (call.rank, (call.value, tt)))) })
 spelled (calls.CompareSwap call) =
     Some (record { word = CompareSwap; fields = (call.seg, (call.offset, (call.rank, (call.comparator, (call.new, tt))))) })
+spelled calls.State = Some (record { word = State; fields = tt })
 spelled calls.End = None
 
 -- the call that a word with its fields spells
@@ -114,16 +131,23 @@ call_with Store (seg, (offset, (bytes, end))) = calls.Store (record { seg = seg;
 call_with Load (seg, (offset, (size, end))) = calls.Load (record { seg = seg; offset = offset; size = size })
 call_with Write (seg, (offset, (rank, (rseg, (roffset, (size, (queue, end))))))) =
     calls.Write (record { seg = seg; offset = offset; rank = rank; rseg = rseg; roffset = roffset; size = size; queue = queue })
+call_with Read (seg, (offset, (rank, (rseg, (roffset, (size, (queue, end))))))) =
+    calls.Read (record { seg = seg; offset = offset; rank = rank; rseg = rseg; roffset = roffset; size = size; queue = queue })
 call_with Notify (rseg, (rank, (note, (value, (queue, end))))) =
     calls.Notify (record { rseg = rseg; rank = rank; note = note; value = value; queue = queue })
 call_with WriteNotify (seg, (offset, (rank, (rseg, (roffset, (size, (note, (value, (queue, end))))))))) =
     calls.WriteNotify (record { seg = seg; offset = offset; rank = rank; rseg = rseg; roffset = roffset; size = size; note = note; value = value; queue = queue })
+call_with ReadNotify (seg, (offset, (rank, (rseg, (roffset, (size, (note, (queue, end)))))))) =
+    calls.ReadNotify (record { seg = seg; offset = offset; rank = rank; rseg = rseg; roffset = roffset; size = size; note = note; queue = queue })
 call_with Wait (queue, end) = calls.Wait (record { queue = queue })
+call_with Purge (queue, end) = calls.Purge (record { queue = queue })
+call_with Qsize (queue, end) = calls.Qsize (record { queue = queue })
 call_with Waitsome (seg, (begin, (num, end))) = calls.Waitsome (record { seg = seg; begin = begin; num = num })
 call_with Reset (seg, (note, end)) = calls.Reset (record { seg = seg; note = note })
 call_with FetchAdd (seg, (offset, (rank, (value, end)))) = calls.FetchAdd (record { seg = seg; offset = offset; rank = rank; value = value })
 call_with CompareSwap (seg, (offset, (rank, (comparator, (new, end))))) =
     calls.CompareSwap (record { seg = seg; offset = offset; rank = rank; comparator = comparator; new = new })
+call_with State end = calls.State
 
 -- Reading.
 

@@ -9,8 +9,8 @@ ghost use Rattle.call_texts.specs.declared.call_words.CallWord.TheVariants as ca
 
 use crate::field_words::FieldWords;
 use gaspi_types::{
-    Alloc, Call, CompareSwap, Delete, FetchAdd, Load, NoMemory, Notify, Register, Reset, Store,
-    Wait, Waitsome, Write, WriteNotify,
+    Alloc, Call, CompareSwap, Delete, FetchAdd, Load, NoMemory, Notify, Purge, Qsize, Read,
+    ReadNotify, Register, Reset, Store, Wait, Waitsome, Write, WriteNotify,
 };
 use std::alloc::Global;
 
@@ -79,6 +79,20 @@ pub(crate) fn take_write(fields: &mut FieldWords) -> Option<Call>
     }))
 }
 
+pub(crate) fn take_read(fields: &mut FieldWords) -> Option<Call>
+    ensures { option_map (λ call. (call, words_in fields.new)) result ≡ call_taken call_words.Read (words_in fields.old) }
+{
+    Some(Call::Read(Read {
+        seg: fields.number()?,
+        offset: fields.number()?,
+        rank: fields.number()?,
+        rseg: fields.number()?,
+        roffset: fields.number()?,
+        size: fields.number()?,
+        queue: fields.number()?,
+    }))
+}
+
 pub(crate) fn take_notify(fields: &mut FieldWords) -> Option<Call>
     ensures { option_map (λ call. (call, words_in fields.new)) result ≡ call_taken call_words.Notify (words_in fields.old) }
 {
@@ -107,10 +121,41 @@ pub(crate) fn take_write_notify(fields: &mut FieldWords) -> Option<Call>
     }))
 }
 
+pub(crate) fn take_read_notify(fields: &mut FieldWords) -> Option<Call>
+    ensures { option_map (λ call. (call, words_in fields.new)) result ≡ call_taken call_words.ReadNotify (words_in fields.old) }
+{
+    Some(Call::ReadNotify(ReadNotify {
+        seg: fields.number()?,
+        offset: fields.number()?,
+        rank: fields.number()?,
+        rseg: fields.number()?,
+        roffset: fields.number()?,
+        size: fields.number()?,
+        note: fields.number()?,
+        queue: fields.number()?,
+    }))
+}
+
 pub(crate) fn take_wait(fields: &mut FieldWords) -> Option<Call>
     ensures { option_map (λ call. (call, words_in fields.new)) result ≡ call_taken call_words.Wait (words_in fields.old) }
 {
     Some(Call::Wait(Wait {
+        queue: fields.number()?,
+    }))
+}
+
+pub(crate) fn take_purge(fields: &mut FieldWords) -> Option<Call>
+    ensures { option_map (λ call. (call, words_in fields.new)) result ≡ call_taken call_words.Purge (words_in fields.old) }
+{
+    Some(Call::Purge(Purge {
+        queue: fields.number()?,
+    }))
+}
+
+pub(crate) fn take_qsize(fields: &mut FieldWords) -> Option<Call>
+    ensures { option_map (λ call. (call, words_in fields.new)) result ≡ call_taken call_words.Qsize (words_in fields.old) }
+{
+    Some(Call::Qsize(Qsize {
         queue: fields.number()?,
     }))
 }

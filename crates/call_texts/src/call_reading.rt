@@ -7,8 +7,9 @@ ghost use Rattle.call_texts.specs.FieldWords.{words_in};
 
 use crate::blanks::words;
 use crate::call_fields::{
-    take_alloc, take_compare_swap, take_delete, take_fetch_add, take_load, take_notify,
-    take_register, take_reset, take_store, take_wait, take_waitsome, take_write, take_write_notify,
+    take_alloc, take_compare_swap, take_delete, take_fetch_add, take_load, take_notify, take_purge,
+    take_qsize, take_read, take_read_notify, take_register, take_reset, take_store, take_wait,
+    take_waitsome, take_write, take_write_notify,
 };
 use crate::call_words::CallWord;
 use crate::field_words::FieldWords;
@@ -31,13 +32,18 @@ fn take_call(
         CallWord::Store => take_store(alloc, fields),
         CallWord::Load => Ok(take_load(fields)),
         CallWord::Write => Ok(take_write(fields)),
+        CallWord::Read => Ok(take_read(fields)),
         CallWord::Notify => Ok(take_notify(fields)),
         CallWord::WriteNotify => Ok(take_write_notify(fields)),
+        CallWord::ReadNotify => Ok(take_read_notify(fields)),
         CallWord::Wait => Ok(take_wait(fields)),
+        CallWord::Purge => Ok(take_purge(fields)),
+        CallWord::Qsize => Ok(take_qsize(fields)),
         CallWord::Waitsome => Ok(take_waitsome(fields)),
         CallWord::Reset => Ok(take_reset(fields)),
         CallWord::FetchAdd => Ok(take_fetch_add(fields)),
         CallWord::CompareSwap => Ok(take_compare_swap(fields)),
+        CallWord::State => Ok(Some(Call::State)),
     }
 }
 

@@ -14,13 +14,18 @@ pub enum CallWord {
     Store,
     Load,
     Write,
+    Read,
     Notify,
     WriteNotify,
+    ReadNotify,
     Wait,
+    Purge,
+    Qsize,
     Waitsome,
     Reset,
     FetchAdd,
     CompareSwap,
+    State,
 }
 
 /// How a call's word is spelled, and the form of what follows it, a timeout aside.
@@ -52,6 +57,7 @@ impl CallWord {
             CallWord::Store => WordRow::new(b"store", &[Number, Number, Bytes]),
             CallWord::Load => WordRow::new(b"load", &[Number; 3]),
             CallWord::Write => WordRow::new(b"write", &[Number; 7]),
+            CallWord::Read => WordRow::new(b"read", &[Number; 7]),
             CallWord::Notify => WordRow::new(b"notify", &[Number, Number, Number, Value, Number]),
             CallWord::WriteNotify => WordRow::new(
                 b"write_notify",
@@ -59,11 +65,15 @@ impl CallWord {
                     Number, Number, Number, Number, Number, Number, Number, Value, Number,
                 ],
             ),
+            CallWord::ReadNotify => WordRow::new(b"read_notify", &[Number; 8]),
             CallWord::Wait => WordRow::new(b"wait", &[Number]),
+            CallWord::Purge => WordRow::new(b"purge", &[Number]),
+            CallWord::Qsize => WordRow::new(b"qsize", &[Number]),
             CallWord::Waitsome => WordRow::new(b"waitsome", &[Number; 3]),
             CallWord::Reset => WordRow::new(b"reset", &[Number; 2]),
             CallWord::FetchAdd => WordRow::new(b"fetch_add", &[Number; 4]),
             CallWord::CompareSwap => WordRow::new(b"compare_swap", &[Number; 5]),
+            CallWord::State => WordRow::new(b"state", &[]),
         }
     }
 
@@ -86,13 +96,18 @@ impl CallWord {
             CallWord::Store,
             CallWord::Load,
             CallWord::Write,
+            CallWord::Read,
             CallWord::Notify,
             CallWord::WriteNotify,
+            CallWord::ReadNotify,
             CallWord::Wait,
+            CallWord::Purge,
+            CallWord::Qsize,
             CallWord::Waitsome,
             CallWord::Reset,
             CallWord::FetchAdd,
             CallWord::CompareSwap,
+            CallWord::State,
         ]
         .iter()
         .copied()

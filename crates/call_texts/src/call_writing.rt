@@ -42,6 +42,19 @@ fn append_call(text: &mut Bytes, call: &Call) -> Result<(), NoMemory>
                 call.queue,
             ],
         ),
+        Call::Read(call) => append_line(
+            text,
+            CallWord::Read.spelling(),
+            &[
+                call.seg,
+                call.offset,
+                call.rank,
+                call.rseg,
+                call.roffset,
+                call.size,
+                call.queue,
+            ],
+        ),
         Call::Notify(call) => append_line(
             text,
             CallWord::Notify.spelling(),
@@ -68,7 +81,23 @@ fn append_call(text: &mut Bytes, call: &Call) -> Result<(), NoMemory>
                 call.queue,
             ],
         ),
+        Call::ReadNotify(call) => append_line(
+            text,
+            CallWord::ReadNotify.spelling(),
+            &[
+                call.seg,
+                call.offset,
+                call.rank,
+                call.rseg,
+                call.roffset,
+                call.size,
+                call.note,
+                call.queue,
+            ],
+        ),
         Call::Wait(call) => append_line(text, CallWord::Wait.spelling(), &[call.queue]),
+        Call::Purge(call) => append_line(text, CallWord::Purge.spelling(), &[call.queue]),
+        Call::Qsize(call) => append_line(text, CallWord::Qsize.spelling(), &[call.queue]),
         Call::Waitsome(call) => append_line(
             text,
             CallWord::Waitsome.spelling(),
@@ -85,6 +114,7 @@ fn append_call(text: &mut Bytes, call: &Call) -> Result<(), NoMemory>
             CallWord::CompareSwap.spelling(),
             &[call.seg, call.offset, call.rank, call.comparator, call.new],
         ),
+        Call::State => text.append(CallWord::State.spelling()),
         Call::End => text.append(b"end"),
     }
 }

@@ -26,6 +26,3 @@ pub use text_laws::{
     timeouts_are_those_of_rows, words_read_back, words_spell_no_end, written_words_are_plain,
 };
 pub use words_written::{append_bytes, append_line, append_numbers, append_word};
-
-#[cfg(test)]
-mod tests;

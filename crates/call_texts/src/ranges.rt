@@ -5,8 +5,8 @@ ghost use Rattle.call_texts.specs.CallText.{IsWritable};
 ghost use Rattle.gaspi_types.specs.declared.calls.Call.TheVariants as calls;
 
 use gaspi_types::{
-    Alloc, Call, CompareSwap, Delete, FetchAdd, Load, Notify, Register, Reset, Store, Wait,
-    Waitsome, Write, WriteNotify,
+    Alloc, Call, CompareSwap, Delete, FetchAdd, Load, Notify, Purge, Qsize, Read, ReadNotify,
+    Register, Reset, Store, Wait, Waitsome, Write, WriteNotify,
 };
 
 /// Bytes are below 256.
@@ -17,6 +17,11 @@ pub fn bytes_are_in_range(bytes: &[u8])
 /// The numbers of a write with a notification are those of their types.
 fn write_notify_is_in_range(_call: WriteNotify)
     ensures { IsWritable (calls.WriteNotify _call) }
+{}
+
+/// The numbers of a read with its notification are those of their types.
+fn read_notify_is_in_range(_call: ReadNotify)
+    ensures { IsWritable (calls.ReadNotify _call) }
 {}
 
 /// The numbers and the bytes of a call are those of their types, so its text reads back as that call.
@@ -53,6 +58,19 @@ pub fn call_is_in_range(call: &Call)
         ) => {
             let _read = (*seg, *offset, *rank, *rseg, *roffset, *size, *queue);
         }
+        Call::Read(
+            Read {
+                seg,
+                offset,
+                rank,
+                rseg,
+                roffset,
+                size,
+                queue,
+            },
+        ) => {
+            let _read = (*seg, *offset, *rank, *rseg, *roffset, *size, *queue);
+        }
         Call::Notify(
             Notify {
                 rseg,
@@ -65,7 +83,14 @@ pub fn call_is_in_range(call: &Call)
             let _read = (*rseg, *rank, *note, *value, *queue);
         }
         Call::WriteNotify(call) => write_notify_is_in_range(*call),
+        Call::ReadNotify(call) => read_notify_is_in_range(*call),
         Call::Wait(Wait { queue }) => {
+            let _read = *queue;
+        }
+        Call::Purge(Purge { queue }) => {
+            let _read = *queue;
+        }
+        Call::Qsize(Qsize { queue }) => {
             let _read = *queue;
         }
         Call::Waitsome(Waitsome { seg, begin, num }) => {
@@ -95,6 +120,6 @@ pub fn call_is_in_range(call: &Call)
         ) => {
             let _read = (*seg, *offset, *rank, *comparator, *new);
         }
-        Call::End => {}
+        Call::State | Call::End => {}
     }
 }

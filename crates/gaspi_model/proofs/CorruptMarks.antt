@@ -25,7 +25,8 @@ use Rattle.gaspi_model.specs.declared.states.Posts.{Posts}
 use Rattle.gaspi_model.specs.declared.states.Memory.{Memory}
 use Rattle.gaspi_model.specs.declared.states.State.{State}
 use Rattle.gaspi_model.specs.declared.states.Why.{Why}
-use Rattle.gaspi_model.proofs.Made.{IsPut, step-called, step-take, step-put}
+use Rattle.gaspi_model.proofs.Made.{IsTake, IsPut, step-called, step-take, step-put}
+use Rattle.gaspi_model.proofs.FoundEntries.{failed_with}
 use Rattle.gaspi_types.proofs.Items.{slice_get-set_same, slice_get-set_other, same-or-not}
 use Rattle.gaspi_model.proofs.Sound.Told.{IsTold, told, told-get}
 use Rattle.gaspi_model.proofs.Histories.{after-first, after-both}
@@ -100,15 +101,22 @@ after-marks : (b : Bool) (posts done : Posts) → done.corrupt ≡ posts.corrupt
 after-marks true posts done same = refl
 after-marks false posts done same = same
 
--- a put sets a mark where it fails, and takes none
-put-marks : (posts : Posts) (memory : Memory) (queue target number : ℕ) (outcome : Outcome) (after : Worked) (at : Found) → IsPut posts memory queue target number outcome after at → KeepsMarks posts after.posts
-put-marks posts memory queue target number Applied after at h k mark = rw h.leaves mark
-put-marks posts memory queue target number Failed after at h k mark =
+-- a transfer sets a mark where it fails, and takes none
+failed-marks : (posts : Posts) (queue target : ℕ) (at : Found) → KeepsMarks posts (counted (failed_with posts queue target at))
+failed-marks posts queue target at k mark =
     same-or-not target k
     (λ same.
     let there : slice_get posts.corrupt target ≡ Some true = rw same mark in
-    rw h.leaves (subst (λ (n : ℕ). slice_get (slice_set posts.corrupt target true) n ≡ Some true) same (slice_get-set_same posts.corrupt target true true there)))
-    (λ apart. rw h.leaves (slice_get-set_other posts.corrupt target k true apart ∙ mark))
+    subst (λ (n : ℕ). slice_get (slice_set posts.corrupt target true) n ≡ Some true) same (slice_get-set_same posts.corrupt target true true there))
+    (λ apart. slice_get-set_other posts.corrupt target k true apart ∙ mark)
+
+take-marks : (limits : Limits) (posts : Posts) (memory : Memory) (queue target number : ℕ) (outcome : Outcome) (after : Posts) (at : Found) → IsTake limits posts memory queue target number outcome after at → KeepsMarks posts after
+take-marks limits posts memory queue target number Applied after at h k mark = rw h.leaves mark
+take-marks limits posts memory queue target number Failed after at h k mark = rw h.leaves (failed-marks posts queue target at k mark)
+
+put-marks : (posts : Posts) (memory : Memory) (queue target number : ℕ) (outcome : Outcome) (after : Worked) (at : Found) → IsPut posts memory queue target number outcome after at → KeepsMarks posts after.posts
+put-marks posts memory queue target number Applied after at h k mark = rw h.leaves mark
+put-marks posts memory queue target number Failed after at h k mark = rw h.leaves (failed-marks posts queue target at k mark)
 
 step-corrupt : (s t : State) (e : Event) (rank target : ℕ) → step s e ≡ Ok t → is_corrupt s rank target ≡ true → is_corrupt t rank target ≡ true
 step-corrupt s t (Called c call reply) rank target h corrupt =
@@ -123,7 +131,8 @@ step-corrupt s t (Called c call reply) rank target h corrupt =
 step-corrupt s t (Take origin queue target' number outcome) rank target h corrupt =
     let made = step-take s t origin queue target' number outcome h in
     let m = made.4 in
-    let mark = replaced-marks s.posts origin made.0 made.2 rank target m.posts_there (same-marks made.0 made.2 (rw m.is.leaves refl)) (marked s rank target corrupt) in
+    let keeps = take-marks s.limits made.0 made.1 queue target' number outcome made.2 made.3 m.is in
+    let mark = replaced-marks s.posts origin made.0 made.2 rank target m.posts_there keeps (marked s rank target corrupt) in
     is-corrupt t rank target (rw m.leaves mark)
 step-corrupt s t (Put origin queue target' number outcome) rank target h corrupt =
     let made = step-put s t origin queue target' number outcome h in

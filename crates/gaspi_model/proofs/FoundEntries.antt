@@ -10,7 +10,7 @@ use Rattle.gaspi_types.specs.declared.entries.Queue.{Queue}
 use Rattle.gaspi_types.specs.declared.events.Outcome.{Outcome}
 use Rattle.gaspi_types.specs.declared.events.Outcome.TheVariants.{Applied, Failed}
 use Rattle.gaspi_model.specs.Posting.{counted}
-use Rattle.gaspi_model.specs.Transfers.{Found, find_entry, posts_phase, posts_after_put}
+use Rattle.gaspi_model.specs.Transfers.{Found, find_entry, posts_phase, posts_after_take, posts_after_put}
 use Rattle.gaspi_model.specs.declared.states.Posts.{Posts}
 use Rattle.gaspi_model.specs.declared.states.Why.{Why}
 use Rattle.gaspi_types.proofs.Chains.{found_then, same_Ok}
@@ -41,21 +41,36 @@ with_lane posts queue target lane =
 abbrev pub with_phase : List Entry → ℕ → Entry → Phase → List Entry
 with_phase lane place entry phase = slice_set lane place (record entry { phase = phase })
 
--- the posts of its origin after the put of an entry that was found
+-- the posts of its origin after a transfer of an entry that was found: it failed, or it took, or it was put
+abbrev pub queue_with_failed : ℕ → Found → Queue → Queue
+queue_with_failed target at q = record q {
+  broken = Some target;
+  lanes = slice_set q.lanes target (with_phase at.lane at.place at.entry phases.Failed);
+}
+
+abbrev pub failed_with : Posts → ℕ → ℕ → Found → Posts
+failed_with posts queue target at = record posts {
+  queues = changed_at posts.queues queue (queue_with_failed target at);
+  corrupt = slice_set posts.corrupt target true;
+}
+
+abbrev pub take_with : Posts → ℕ → ℕ → Found → List ℕ → Outcome → Posts
+take_with posts queue target at bytes Applied = counted (with_lane posts queue target (with_phase at.lane at.place at.entry (phases.Carried bytes)))
+take_with posts queue target at bytes Failed = counted (failed_with posts queue target at)
+
 abbrev pub put_with : Posts → ℕ → ℕ → Found → Outcome → Posts
 put_with posts queue target at Applied = counted (with_lane posts queue target (remove at.lane at.place))
-put_with posts queue target at Failed = counted (record posts {
-  queues = changed_at posts.queues queue (λ (q : Queue). record q {
-    broken = Some target;
-    lanes = slice_set q.lanes target (with_phase at.lane at.place at.entry phases.Failed);
-  });
-  corrupt = slice_set posts.corrupt target true;
-})
+put_with posts queue target at Failed = counted (failed_with posts queue target at)
 
 -- a change at the place of an entry that was found, and one of its lane
 pub phase-found : (posts : Posts) (queue target number : ℕ) (at : Found) (phase : Phase) → IsFound posts queue target number at
     → posts_phase posts queue target at.place phase ≡ with_lane posts queue target (with_phase at.lane at.place at.entry phase)
 phase-found posts queue target number at phase is = rw is.in_posts rw is.in_queue rw is.in_lane refl
+
+pub take-found : (posts : Posts) (queue target number : ℕ) (at : Found) (bytes : List ℕ) (outcome : Outcome) → IsFound posts queue target number at
+    → posts_after_take posts queue target at.place bytes outcome ≡ take_with posts queue target at bytes outcome
+take-found posts queue target number at bytes Applied is = rw is.in_posts rw is.in_queue rw is.in_lane refl
+take-found posts queue target number at bytes Failed is = rw is.in_posts rw is.in_queue rw is.in_lane refl
 
 pub put-found : (posts : Posts) (queue target number : ℕ) (at : Found) (outcome : Outcome) → IsFound posts queue target number at
     → posts_after_put posts queue target at.place outcome ≡ put_with posts queue target at outcome

@@ -1,3 +1,4 @@
+pub mod Asked
 pub mod FoundEntries
 pub mod Made
 pub mod Same

@@ -3,7 +3,6 @@ use Rattle.std.proofs.Common.{◌≡◌, ℕ, zero, suc, ◌+◌, true, List, []
 use Rattle.std.specs.List.{slice_get, slice_set}
 use Rattle.gaspi_types.specs.Lanes.{may_take, may_put}
 use Rattle.gaspi_types.specs.Replies.{same_reply}
-use Rattle.gaspi_types.specs.declared.entries.Phase.TheVariants as phases
 use Rattle.std.specs.Option.{option_map}
 use Rattle.std.proofs.lemmas.Bool.{eq-eqb}
 use Rattle.std.proofs.lemmas.List.{length-set}
@@ -11,7 +10,7 @@ use Rattle.gaspi_types.specs.CallRows.{row_of}
 use Rattle.gaspi_types.specs.Touches.{reach_of, take_touch, put_touch}
 use Rattle.gaspi_types.specs.declared.entries.Entry.{Entry}
 use Rattle.gaspi_types.specs.declared.entries.Kind.{Kind}
-use Rattle.gaspi_types.specs.declared.entries.Kind.TheVariants.{Write, Notify}
+use Rattle.gaspi_types.specs.declared.entries.Kind.TheVariants.{Write, Read, Notify, ReadNote}
 use Rattle.gaspi_types.specs.declared.touches.Touch.{Touch}
 use Rattle.gaspi_types.specs.declared.touches.Touch.TheVariants as touches
 use Rattle.gaspi_types.specs.declared.touches.Reach.{Reach}
@@ -21,13 +20,11 @@ use Rattle.gaspi_types.specs.declared.shapes.CallerId.{CallerId}
 use Rattle.gaspi_types.specs.declared.calls.Call.{Call}
 use Rattle.gaspi_types.specs.declared.replies.Reply.{Reply}
 use Rattle.gaspi_types.specs.declared.events.Outcome.{Outcome}
-use Rattle.gaspi_types.specs.declared.events.Outcome.TheVariants.{Applied}
 use Rattle.gaspi_types.specs.declared.events.Event.TheVariants.{Called, Take, Put}
 use Rattle.gaspi_model.specs.State.{owed, thread_at}
-use Rattle.gaspi_model.specs.Posting.{counted}
 use Rattle.gaspi_types.specs.Tables.{changed_at}
 use Rattle.gaspi_model.specs.Calls.{answer, recorded_reply, charge, posts_after, memory_after, peer_after}
-use Rattle.gaspi_model.specs.Transfers.{Found, find_entry, bytes_taken, take, put, taken_bytes, memory_with, memory_after_put, put_outcome, same_outcome, entry_in, Worked}
+use Rattle.gaspi_model.specs.Transfers.{Found, find_entry, bytes_taken, take, put, taken_bytes, memory_with, memory_after_put, take_outcome, put_outcome, same_outcome, entry_in, Worked}
 use Rattle.gaspi_model.specs.Step.{step, called, is_there, on_parts, entry_touch}
 use Rattle.gaspi_model.specs.Parts.{memory_or_none, no_memory, part_at, with_part, parts_of, with_parts, touched_of, worked_memory, with_worked_memory}
 use Rattle.gaspi_model.specs.declared.states.Posts.{Posts}
@@ -37,15 +34,15 @@ use Rattle.gaspi_model.specs.declared.states.Why.TheVariants as whys
 use Rattle.gaspi_types.proofs.Items.{set-there, slice_get-set_other}
 use Rattle.gaspi_model.proofs.Sound.Told.{told, told_at, changed_peer, peer-touched}
 use Rattle.gaspi_types.proofs.Chains.{bind_then, check_then, found_then, same_Ok}
-use Rattle.gaspi_model.proofs.FoundEntries.{IsFound, find_entry-ok, with_lane, with_phase, put_with, phase-found, put-found}
+use Rattle.gaspi_model.proofs.FoundEntries.{IsFound, find_entry-ok, take_with, put_with, take-found, put-found}
 
 -- a take that was made
 pub record IsTake (limits : Limits) (posts : Posts) (memory : Memory) (queue target number : ℕ) (outcome : Outcome) (after : Posts) (at : Found) : Type 0 where
   pub is : IsFound posts queue target number at
   pub whole : is_none at.queue.broken ≡ true
   pub permitted : may_take limits.depth at.lane at.entry ≡ true
-  pub applied : same_outcome outcome Applied ≡ true
-  pub leaves : after ≡ counted (with_lane posts queue target (with_phase at.lane at.place at.entry (phases.Carried (taken_bytes memory at.entry.kind))))
+  pub fits : same_outcome outcome (take_outcome memory at.entry.kind) ≡ true
+  pub leaves : after ≡ take_with posts queue target at (taken_bytes memory at.entry.kind) outcome
 
 pub take-ok : (limits : Limits) (posts : Posts) (memory : Memory) (queue target number : ℕ) (outcome : Outcome) (after : Posts)
     → take limits posts memory queue target number outcome ≡ Ok after → (at : Found) × IsTake limits posts memory queue target number outcome after at
@@ -54,10 +51,10 @@ take-ok limits posts memory queue target number outcome after h =
     bind_then (bytes_taken limits memory at outcome) _ after h1 (λ bytes given h2.
     check_then (is_none at.queue.broken) _ _ bytes given (λ whole h3.
     check_then (may_take limits.depth at.lane at.entry) _ _ bytes h3 (λ permitted h4.
-    check_then (same_outcome outcome Applied) _ _ bytes h4 (λ applied h5.
+    check_then (same_outcome outcome (take_outcome memory at.entry.kind)) _ _ bytes h4 (λ fits h5.
     let is = find_entry-ok posts queue target number _ at hf in
-    let leaves = sym (same_Ok _ _ h2) ∙ ap counted (phase-found posts queue target number at (phases.Carried bytes) is) in
-    (at, record { is = is; whole = whole; permitted = permitted; applied = applied; leaves = rw (same_Ok _ _ h5) leaves }))))))
+    let leaves = sym (same_Ok _ _ h2) ∙ take-found posts queue target number at bytes outcome is in
+    (at, record { is = is; whole = whole; permitted = permitted; fits = fits; leaves = rw (same_Ok _ _ h5) leaves }))))))
 
 -- a put that was made
 pub record IsPut (posts : Posts) (memory : Memory) (queue target number : ℕ) (outcome : Outcome) (after : Worked) (at : Found) : Type 0 where
@@ -214,22 +211,27 @@ step-called s t c call reply h =
         go (PeerMemory rank) = refl
         go (PeerPosts rank) = refl
 
--- the memory of its origin, from which an entry takes
+-- the reach of the take and of the put of an entry
+abbrev pub take_reach : ℕ → ℕ → ℕ → Kind → Reach
+take_reach ranks origin target kind = reach_of ranks origin (take_touch target kind)
+
+abbrev pub put_reach : ℕ → ℕ → ℕ → Kind → Reach
+put_reach ranks origin target kind = reach_of ranks origin (put_touch target kind)
+
 pub record IsTakeStep (s t : State) (origin queue target number : ℕ) (outcome : Outcome) (posts : Posts) (memory : Memory) (after : Posts) (at : Found) : Type 0 where
   pub posts_there : slice_get s.posts origin ≡ Some posts
-  pub worked : memory ≡ memory_or_none (slice_get s.memories origin)
+  pub worked : memory ≡ memory_at (take_reach s.limits.ranks origin target at.entry.kind) origin s.memories
   pub is : IsTake s.limits posts memory queue target number outcome after at
   pub leaves : t ≡ record s { posts = slice_set s.posts origin after }
 
--- the reach of a put of an entry to a target
-abbrev pub put_reach : ℕ → ℕ → ℕ → Reach
-put_reach ranks origin target = reach_of ranks origin (touches.MemoryOf target)
-
 pub record IsPutStep (s t : State) (origin queue target number : ℕ) (outcome : Outcome) (posts : Posts) (memory : Memory) (after : Worked) (at : Found) : Type 0 where
   pub posts_there : slice_get s.posts origin ≡ Some posts
-  pub worked : memory ≡ memory_at (put_reach s.limits.ranks origin target) origin s.memories
+  pub worked : memory ≡ memory_at (put_reach s.limits.ranks origin target at.entry.kind) origin s.memories
   pub is : IsPut posts memory queue target number outcome after at
-  pub leaves : t ≡ record s { posts = slice_set s.posts origin after.posts; memories = memories_at (put_reach s.limits.ranks origin target) origin after.memory s.memories }
+  pub leaves : t ≡ record s {
+    posts = slice_set s.posts origin after.posts;
+    memories = memories_at (put_reach s.limits.ranks origin target at.entry.kind) origin after.memory s.memories;
+  }
 
 -- the entry that was found is the one by which the reach is told
 pub entry-found : (posts : Posts) (queue target number : ℕ) (at : Found) → IsFound posts queue target number at → entry_in posts queue target number ≡ Some at.entry
@@ -243,6 +245,25 @@ part-same table (Some place) = go (slice_get table place) refl
     go None at = rw at refl
     go (Some x) at = rw at (set-there table place x at)
 
+-- no transfer reaches a peer's posts
+take-alone : (ranks origin target : ℕ) (kind : Kind) (rank : ℕ) → take_reach ranks origin target kind ≡ PeerPosts rank → ⊥
+take-alone ranks origin target kind rank is = go kind (peer-touched ranks origin rank (take_touch target kind) is).0
+  where
+    go : (k : Kind) → take_touch target k ≡ touches.PostsOf rank → ⊥
+    go (Write own to) touched = (let no : ⊥ = cc in no)
+    go (Read own to) touched = (let no : ⊥ = cc in no)
+    go (Notify to value) touched = (let no : ⊥ = cc in no)
+    go (ReadNote own) touched = (let no : ⊥ = cc in no)
+
+put-alone : (ranks origin target : ℕ) (kind : Kind) (rank : ℕ) → put_reach ranks origin target kind ≡ PeerPosts rank → ⊥
+put-alone ranks origin target kind rank is = go kind (peer-touched ranks origin rank (put_touch target kind) is).0
+  where
+    go : (k : Kind) → put_touch target k ≡ touches.PostsOf rank → ⊥
+    go (Write own to) touched = (let no : ⊥ = cc in no)
+    go (Read own to) touched = (let no : ⊥ = cc in no)
+    go (Notify to value) touched = (let no : ⊥ = cc in no)
+    go (ReadNote own) touched = (let no : ⊥ = cc in no)
+
 pub step-take : (s t : State) (origin queue target number : ℕ) (outcome : Outcome) → step s (Take origin queue target number outcome) ≡ Ok t
     → (posts : Posts) × (memory : Memory) × (after : Posts) × (at : Found) × IsTakeStep s t origin queue target number outcome posts memory after at
 step-take s t origin queue target number outcome h =
@@ -250,40 +271,34 @@ step-take s t origin queue target number outcome h =
     bind_then (on_parts s.limits (reach posts) (Take origin queue target number outcome) (parts_of s posts (touched_of origin (reach posts)))) _ t h1 (λ parts hl h2.
     bind_then (take s.limits posts (worked_memory (reach posts) (parts_of s posts (touched_of origin (reach posts)))) queue target number outcome) _ parts hl (λ after ha h3.
     let taken = take-ok s.limits posts (worked_memory (reach posts) (parts_of s posts (touched_of origin (reach posts)))) queue target number outcome after ha in
-    let found = entry-found posts queue target number taken.0 taken.1.is in
+    let reaches = reach-is posts taken.0.entry (entry-found posts queue target number taken.0 taken.1.is) in
     let state : t ≡ with_parts s origin (touched_of origin (reach posts)) parts = sym (same_Ok _ _ h2) in (
       posts,
-      memory_or_none (slice_get s.memories origin),
+      memory_at (take_reach s.limits.ranks origin target taken.0.entry.kind) origin s.memories,
       after,
       taken.0,
       record {
         posts_there = hp;
         worked = refl;
-        is = record {
-          is = taken.1.is;
-          whole = taken.1.whole;
-          permitted = taken.1.permitted;
-          applied = taken.1.applied;
-          leaves = taken.1.leaves ∙ ap (λ (bytes : List ℕ). counted (with_lane posts queue target (with_phase taken.0.lane taken.0.place taken.0.entry (phases.Carried bytes))))
-              (takes posts taken.0.entry.kind taken.0.entry found refl);
-        };
-        leaves = state ∙ ap (with_parts s origin (touched_of origin (reach posts))) (sym (same_Ok _ _ h3)) ∙ leaves posts after taken.0.entry.kind taken.0.entry found refl;
+        is = subst (λ (m : Memory). IsTake s.limits posts m queue target number outcome after taken.0)
+            (worked-at s posts origin (reach posts) ∙ ap (λ (r : Reach). memory_at r origin s.memories) reaches) taken.1;
+        leaves = state ∙ ap (with_parts s origin (touched_of origin (reach posts))) (sym (same_Ok _ _ h3))
+            ∙ leaves posts after (reach posts) (λ rank is. take-alone s.limits.ranks origin target taken.0.entry.kind rank (sym reaches ∙ is));
       },
     ))))
   where
     reach : Posts → Reach
-    reach posts = reach_of s.limits.ranks origin (entry_touch take_touch (entry_in posts queue target number))
+    reach posts = reach_of s.limits.ranks origin (entry_touch (take_touch target) (entry_in posts queue target number))
 
-    takes : (posts : Posts) (kind : Kind) (e : Entry) → entry_in posts queue target number ≡ Some e → e.kind ≡ kind
-        → taken_bytes (worked_memory (reach posts) (parts_of s posts (touched_of origin (reach posts)))) e.kind ≡ taken_bytes (memory_or_none (slice_get s.memories origin)) e.kind
-    takes posts (Write own to) e found is = rw (found, is) refl
-    takes posts (Notify to value) e found is = rw (found, is) refl
+    reach-is : (posts : Posts) (e : Entry) → entry_in posts queue target number ≡ Some e → reach posts ≡ take_reach s.limits.ranks origin target e.kind
+    reach-is posts e found = rw found refl
 
-    leaves : (posts after : Posts) (kind : Kind) (e : Entry) → entry_in posts queue target number ≡ Some e → e.kind ≡ kind
-        → with_parts s origin (touched_of origin (reach posts)) (record (parts_of s posts (touched_of origin (reach posts))) { posts = after }) ≡ record s { posts = slice_set s.posts origin after }
-    leaves posts after (Write own to) e found is =
-        rw (found, is) (ap (λ (x : List Memory). record s { posts = slice_set s.posts origin after; memories = x }) (part-same s.memories (Some origin)))
-    leaves posts after (Notify to value) e found is = rw (found, is) refl
+    leaves : (posts after : Posts) (r : Reach) → ((rank : ℕ) → r ≡ PeerPosts rank → ⊥)
+        → with_parts s origin (touched_of origin r) (record (parts_of s posts (touched_of origin r)) { posts = after }) ≡ record s { posts = slice_set s.posts origin after }
+    leaves posts after Alone none = refl
+    leaves posts after OwnMemory none = ap (λ (x : List Memory). record s { posts = slice_set s.posts origin after; memories = x }) (part-same s.memories (Some origin))
+    leaves posts after (PeerMemory rank) none = ap (λ (x : List Memory). record s { posts = slice_set s.posts origin after; memories = x }) (part-same s.memories (Some rank))
+    leaves posts after (PeerPosts rank) none = absurd (none rank refl)
 
 pub step-put : (s t : State) (origin queue target number : ℕ) (outcome : Outcome) → step s (Put origin queue target number outcome) ≡ Ok t
     → (posts : Posts) × (memory : Memory) × (after : Worked) × (at : Found) × IsPutStep s t origin queue target number outcome posts memory after at
@@ -292,11 +307,10 @@ step-put s t origin queue target number outcome h =
     bind_then (on_parts s.limits (reach posts) (Put origin queue target number outcome) (parts_of s posts (touched_of origin (reach posts)))) _ t h1 (λ parts hl h2.
     bind_then (put posts (worked_memory (reach posts) (parts_of s posts (touched_of origin (reach posts)))) queue target number outcome) _ parts hl (λ after ha h3.
     let made = put-ok posts _ queue target number outcome after ha in
-    let found = entry-found posts queue target number made.0 made.1.is in
-    let reaches = reach-is posts made.0.entry.kind made.0.entry found refl in
+    let reaches = reach-is posts made.0.entry (entry-found posts queue target number made.0 made.1.is) in
     let state : t ≡ with_parts s origin (touched_of origin (reach posts)) parts = sym (same_Ok _ _ h2) in (
       posts,
-      memory_at (put_reach s.limits.ranks origin target) origin s.memories,
+      memory_at (put_reach s.limits.ranks origin target made.0.entry.kind) origin s.memories,
       after,
       made.0,
       record {
@@ -305,7 +319,7 @@ step-put s t origin queue target number outcome h =
         is = subst (λ (m : Memory). IsPut posts m queue target number outcome after made.0)
             (worked-at s posts origin (reach posts) ∙ ap (λ (r : Reach). memory_at r origin s.memories) reaches) made.1;
         leaves = state ∙ ap (with_parts s origin (touched_of origin (reach posts))) (sym (same_Ok _ _ h3))
-            ∙ leaves posts after (reach posts) (λ rank is. put-alone rank (sym reaches ∙ is))
+            ∙ leaves posts after (reach posts) (λ rank is. put-alone s.limits.ranks origin target made.0.entry.kind rank (sym reaches ∙ is))
             ∙ ap (λ (r : Reach). record s { posts = slice_set s.posts origin after.posts; memories = memories_at r origin after.memory s.memories }) reaches;
       },
     ))))
@@ -313,12 +327,8 @@ step-put s t origin queue target number outcome h =
     reach : Posts → Reach
     reach posts = reach_of s.limits.ranks origin (entry_touch (put_touch target) (entry_in posts queue target number))
 
-    reach-is : (posts : Posts) (kind : Kind) (e : Entry) → entry_in posts queue target number ≡ Some e → e.kind ≡ kind → reach posts ≡ put_reach s.limits.ranks origin target
-    reach-is posts (Write own to) e found is = rw (found, is) refl
-    reach-is posts (Notify to value) e found is = rw (found, is) refl
-
-    put-alone : (rank : ℕ) → put_reach s.limits.ranks origin target ≡ PeerPosts rank → ⊥
-    put-alone rank is = (let touched = (peer-touched s.limits.ranks origin rank (touches.MemoryOf target) is).0 in let no : ⊥ = cc in no)
+    reach-is : (posts : Posts) (e : Entry) → entry_in posts queue target number ≡ Some e → reach posts ≡ put_reach s.limits.ranks origin target e.kind
+    reach-is posts e found = rw found refl
 
     leaves : (posts : Posts) (after : Worked) (r : Reach) → ((rank : ℕ) → r ≡ PeerPosts rank → ⊥)
         → with_parts s origin (touched_of origin r) (record (with_worked_memory r (parts_of s posts (touched_of origin r)) after.memory) { posts = after.posts })

@@ -4,12 +4,14 @@ use Rattle.std.specs.List.{slice_get, slice_set}
 use Rattle.std.proofs.lemmas.Bool.{ltb-true, lt-ltb, eqb-true}
 use Rattle.std.proofs.lemmas.Option.{slice_get_within}
 use Rattle.gaspi_types.specs.CallRows.{row_of}
-use Rattle.gaspi_types.specs.Touches.{reach_of}
+use Rattle.gaspi_types.specs.Touches.{reach_of, put_touch}
 use Rattle.gaspi_types.specs.Replies.{is_idle, same_reply}
 use Rattle.gaspi_types.specs.declared.shapes.Limits.{Limits}
 use Rattle.gaspi_types.specs.declared.shapes.CallerId.{CallerId}
 use Rattle.gaspi_types.specs.declared.calls.Call.{Call}
 use Rattle.gaspi_types.specs.declared.calls.Call.TheVariants.{Alloc, Delete, Store, Load, Waitsome, Reset, FetchAdd, CompareSwap}
+use Rattle.gaspi_types.specs.declared.entries.Kind.{Kind}
+use Rattle.gaspi_types.specs.declared.entries.Kind.TheVariants.{Write, Read, Notify, ReadNote}
 use Rattle.gaspi_types.specs.declared.events.Outcome.{Outcome}
 use Rattle.gaspi_types.specs.declared.events.Event.TheVariants.{Called, Take, Put}
 use Rattle.gaspi_types.specs.declared.replies.Reply.{Reply}
@@ -20,7 +22,8 @@ use Rattle.gaspi_types.specs.declared.touches.Reach.TheVariants.{Alone, OwnMemor
 use Rattle.gaspi_model.specs.State.{thread_at, is_running}
 use Rattle.gaspi_model.specs.Calls.{call_finds, answer, recorded_reply, ready_of, memory_done, memory_after}
 use Rattle.gaspi_model.specs.Parts.{memory_or_none}
-use Rattle.gaspi_model.specs.Transfers.{Found, Worked}
+use Rattle.gaspi_model.specs.Changes.{take_rank, put_rank}
+use Rattle.gaspi_model.specs.Transfers.{Found, Worked, taken_bytes, take_outcome, same_outcome}
 use Rattle.gaspi_model.specs.Step.{step}
 use Rattle.gaspi_model.specs.Sound.{IsSound}
 use Rattle.gaspi_model.specs.declared.states.Posts.{Posts}
@@ -30,7 +33,8 @@ use Rattle.gaspi_model.proofs.FoundReplies.{found-reply}
 use Rattle.gaspi_model.proofs.Same.{same_reply-same}
 use Rattle.gaspi_types.proofs.Items.{set-there, there-within}
 use Rattle.gaspi_model.proofs.Sound.Told.{told}
-use Rattle.gaspi_model.proofs.Made.{IsTake, IsPut, IsCalled, memory_at, memories_at, call_reach, put_reach, IsCalledStep, IsTakeStep, IsPutStep, step-called, step-take, step-put}
+use Rattle.gaspi_model.proofs.FoundEntries.{IsFound, take_with}
+use Rattle.gaspi_model.proofs.Made.{IsTake, IsPut, IsCalled, memory_at, memories_at, call_reach, take_reach, put_reach, IsCalledStep, step-called, step-take, step-put}
 
 -- there is a memory for each rank
 pub record HasMemories (s : State) : Type 0 where
@@ -197,45 +201,70 @@ called-there s t c call reply has h =
         worked posts m after made memory there (rw (is, here) refl) (rw is refl)
     by-reach (PeerPosts rank) is posts m after made memory there = unworked posts m after made memory there (rw is refl) (rw is refl)
 
--- a take's step, where the memory of its origin is there
-pub take-there : (s t : State) (origin queue target number : ℕ) (outcome : Outcome) → HasMemories s → (posts : Posts) (memory : Memory) (after : Posts) (at : Found)
-    → IsTakeStep s t origin queue target number outcome posts memory after at → slice_get s.memories origin ≡ Some memory
-take-there s t origin queue target number outcome has posts memory after at m =
-    let within = slice_get_within s.posts origin posts m.posts_there in
-    let there = there-within s.memories origin (let ranks = has.ranks in let memories = has.memories in omega arith) in
-    there.1 ∙ ap (λ (x : Memory). Some x) (sym (m.worked ∙ ap memory_or_none there.1))
+-- The memory that an event of some reach works on is there.
+worked-there : (s : State) (me : ℕ) (touch : Touch) → HasMemories s → me < s.limits.ranks → is_unworked (reach_of s.limits.ranks me touch) ≡ false
+    → slice_get s.memories (memory_place (reach_of s.limits.ranks me touch) me) ≡ Some (memory_at (reach_of s.limits.ranks me touch) me s.memories)
+worked-there s me touch has less worked =
+    let place = place-within s.limits.ranks me touch less in
+    let there = there-within s.memories (memory_place (reach_of s.limits.ranks me touch) me) (let memories = has.memories in omega arith) in
+    go (reach_of s.limits.ranks me touch) worked there.0 there.1
+  where
+    go : (r : Reach) → is_unworked r ≡ false → (m : Memory) → slice_get s.memories (memory_place r me) ≡ Some m → slice_get s.memories (memory_place r me) ≡ Some (memory_at r me s.memories)
+    go Alone works m at = absurd (let none : ⊥ = cc in none)
+    go OwnMemory works m at = at ∙ ap (λ (x : Memory). Some x) (sym (ap memory_or_none at))
+    go (PeerMemory rank) works m at = at ∙ ap (λ (x : Memory). Some x) (sym (ap memory_or_none at))
+    go (PeerPosts rank) works m at = absurd (let none : ⊥ = cc in none)
 
--- a put's step, by its target, where that is a rank
+worked-set : (r : Reach) (me : ℕ) (memory : Memory) (all : List Memory) → is_unworked r ≡ false → memories_at r me memory all ≡ slice_set all (memory_place r me) memory
+worked-set Alone me memory all works = absurd (let none : ⊥ = cc in none)
+worked-set OwnMemory me memory all works = refl
+worked-set (PeerMemory rank) me memory all works = refl
+worked-set (PeerPosts rank) me memory all works = absurd (let none : ⊥ = cc in none)
+
+-- that of a rank is worked on
+rank-worked : (ranks rank me : ℕ) → nat_lt rank ranks ≡ true
+    → (is_unworked (reach_of ranks me (touches.MemoryOf rank)) ≡ false) × (memory_place (reach_of ranks me (touches.MemoryOf rank)) me ≡ rank)
+rank-worked ranks rank me less = go (rank == me) refl
+  where
+    go : (b : Bool) → (rank == me) ≡ b → (is_unworked (reach_of ranks me (touches.MemoryOf rank)) ≡ false) × (memory_place (reach_of ranks me (touches.MemoryOf rank)) me ≡ rank)
+    go true is = (rw is refl, rw is (sym (eqb-true rank me is)))
+    go false is = (rw (is, less) refl, rw (is, less) refl)
+
+-- The memory from which an entry takes: where it takes nothing, any.
+take-memory : (s : State) (origin target : ℕ) (kind : Kind) → HasMemories s → origin < s.limits.ranks → nat_lt target s.limits.ranks ≡ true
+    → (memory : Memory) × (slice_get s.memories (take_rank origin target kind) ≡ Some memory)
+    × (taken_bytes (memory_at (take_reach s.limits.ranks origin target kind) origin s.memories) kind ≡ taken_bytes memory kind)
+    × (take_outcome (memory_at (take_reach s.limits.ranks origin target kind) origin s.memories) kind ≡ take_outcome memory kind)
+take-memory s origin target (Write own to) has mine theirs =
+    (memory_at OwnMemory origin s.memories, worked-there s origin touches.OwnMemory has mine refl, refl, refl)
+take-memory s origin target (Read own to) has mine theirs =
+    let worked = rank-worked s.limits.ranks target origin theirs in
+    let reach = reach_of s.limits.ranks origin (touches.MemoryOf target) in
+    (memory_at reach origin s.memories, ap (slice_get s.memories) (sym worked.1) ∙ worked-there s origin (touches.MemoryOf target) has mine worked.0, refl, refl)
+take-memory s origin target (Notify to value) has mine theirs = (memory_at OwnMemory origin s.memories, worked-there s origin touches.OwnMemory has mine refl, refl, refl)
+take-memory s origin target (ReadNote own) has mine theirs = (memory_at OwnMemory origin s.memories, worked-there s origin touches.OwnMemory has mine refl, refl, refl)
+
+-- a put works on the memory of its target, or on that of its origin
+put-worked : (ranks origin target : ℕ) (kind : Kind) → nat_lt target ranks ≡ true
+    → (is_unworked (put_reach ranks origin target kind) ≡ false) × (memory_place (put_reach ranks origin target kind) origin ≡ put_rank origin target kind)
+put-worked ranks origin target (Write own to) less = rank-worked ranks target origin less
+put-worked ranks origin target (Read own to) less = (refl, refl)
+put-worked ranks origin target (Notify to value) less = rank-worked ranks target origin less
+put-worked ranks origin target (ReadNote own) less = (refl, refl)
+
+-- a take's step, by the rank from whose memory it takes
+pub record IsTakeThere (s t : State) (origin queue target number : ℕ) (outcome : Outcome) (posts : Posts) (memory : Memory) (after : Posts) (at : Found) : Type 0 where
+  pub posts_there : slice_get s.posts origin ≡ Some posts
+  pub memory_there : slice_get s.memories (take_rank origin target at.entry.kind) ≡ Some memory
+  pub is : IsTake s.limits posts memory queue target number outcome after at
+  pub leaves : t ≡ record s { posts = slice_set s.posts origin after }
+
+-- a put's step, by the rank into whose memory it puts
 pub record IsPutThere (s t : State) (origin queue target number : ℕ) (outcome : Outcome) (posts : Posts) (memory : Memory) (after : Worked) (at : Found) : Type 0 where
   pub posts_there : slice_get s.posts origin ≡ Some posts
-  pub memory_there : slice_get s.memories target ≡ Some memory
+  pub memory_there : slice_get s.memories (put_rank origin target at.entry.kind) ≡ Some memory
   pub is : IsPut posts memory queue target number outcome after at
-  pub leaves : t ≡ record s { posts = slice_set s.posts origin after.posts; memories = slice_set s.memories target after.memory }
-
-pub put-there : (s t : State) (origin queue target number : ℕ) (outcome : Outcome) → HasMemories s → target < s.limits.ranks → (posts : Posts) (memory : Memory) (after : Worked) (at : Found)
-    → IsPutStep s t origin queue target number outcome posts memory after at → IsPutThere s t origin queue target number outcome posts memory after at
-put-there s t origin queue target number outcome has ranked posts memory after at m =
-    let there = there-within s.memories target (let memories = has.memories in omega arith) in
-    go (target == origin) refl there.0 there.1
-  where
-    build : (x : Memory) → slice_get s.memories target ≡ Some x → memory_at (put_reach s.limits.ranks origin target) origin s.memories ≡ x
-        → memories_at (put_reach s.limits.ranks origin target) origin after.memory s.memories ≡ slice_set s.memories target after.memory
-        → IsPutThere s t origin queue target number outcome posts memory after at
-    build x there same sets = record {
-      posts_there = m.posts_there;
-      memory_there = there ∙ ap (λ (y : Memory). Some y) (sym (m.worked ∙ same));
-      is = m.is;
-      leaves = m.leaves ∙ ap (λ (y : List Memory). record s { posts = slice_set s.posts origin after.posts; memories = y }) sets;
-    }
-
-    go : (b : Bool) → (target == origin) ≡ b → (x : Memory) → slice_get s.memories target ≡ Some x → IsPutThere s t origin queue target number outcome posts memory after at
-    go true is x there =
-        let same = eqb-true target origin is in
-        let here : slice_get s.memories origin ≡ Some x = subst (λ (n : ℕ). slice_get s.memories n ≡ Some x) same there in
-        build x there (rw (is, here) refl) (rw is (ap (λ (n : ℕ). slice_set s.memories n after.memory) (sym same)))
-    go false is x there =
-        let less = lt-ltb target s.limits.ranks ranked in
-        build x there (rw (is, less, there) refl) (rw (is, less) refl)
+  pub leaves : t ≡ record s { posts = slice_set s.posts origin after.posts; memories = slice_set s.memories (put_rank origin target at.entry.kind) after.memory }
 
 -- In a sound state.
 
@@ -246,25 +275,38 @@ pub sound-called : (s t : State) (c : CallerId) (call : Call) (reply : Reply) �
     → (posts : Posts) × (memory : Memory) × (after : Worked) × IsCalledThere s t c call reply posts memory after
 sound-called s t c call reply sound h = called-there s t c call reply (has-memories s sound) h
 
-pub record IsTakeThere (s t : State) (origin queue target number : ℕ) (outcome : Outcome) (posts : Posts) (memory : Memory) (after : Posts) (at : Found) : Type 0 where
-  pub posts_there : slice_get s.posts origin ≡ Some posts
-  pub memory_there : slice_get s.memories origin ≡ Some memory
-  pub is : IsTake s.limits posts memory queue target number outcome after at
-  pub leaves : t ≡ record s { posts = slice_set s.posts origin after }
+-- the target of an entry that was found is a rank
+target-ranked : (s : State) (origin queue target number : ℕ) (posts : Posts) (at : Found) → IsSound s → slice_get s.posts origin ≡ Some posts → IsFound posts queue target number at
+    → nat_lt target s.limits.ranks ≡ true
+target-ranked s origin queue target number posts at sound there is =
+    let lanes = (sound.posts origin posts there).lanes queue at.queue is.in_posts in
+    let within = slice_get_within at.queue.lanes target at.lane is.in_queue in
+    lt-ltb target s.limits.ranks (omega arith)
 
 pub sound-take : (s t : State) (origin queue target number : ℕ) (outcome : Outcome) → IsSound s → step s (Take origin queue target number outcome) ≡ Ok t
     → (posts : Posts) × (memory : Memory) × (after : Posts) × (at : Found) × IsTakeThere s t origin queue target number outcome posts memory after at
 sound-take s t origin queue target number outcome sound h =
     let made = step-take s t origin queue target number outcome h in
-    let m = made.4 in (
+    let m = made.4 in
+    let at = made.3 in
+    let within = slice_get_within s.posts origin made.0 m.posts_there in
+    let memory = take-memory s origin target at.entry.kind (has-memories s sound) (let ranks = sound.ranks in omega arith) (target-ranked s origin queue target number made.0 at sound m.posts_there m.is.is) in
+    let bytes = ap (λ (x : Memory). taken_bytes x at.entry.kind) m.worked ∙ memory.2 in
+    let outcomes = ap (λ (x : Memory). take_outcome x at.entry.kind) m.worked ∙ memory.3 in (
       made.0,
-      made.1,
+      memory.0,
       made.2,
-      made.3,
+      at,
       record {
         posts_there = m.posts_there;
-        memory_there = take-there s t origin queue target number outcome (has-memories s sound) made.0 made.1 made.2 made.3 m;
-        is = m.is;
+        memory_there = memory.1;
+        is = record {
+          is = m.is.is;
+          whole = m.is.whole;
+          permitted = m.is.permitted;
+          fits = subst (λ (o : Outcome). same_outcome outcome o ≡ true) outcomes m.is.fits;
+          leaves = m.is.leaves ∙ ap (λ (b : List ℕ). take_with made.0 queue target at b outcome) bytes;
+        };
         leaves = m.leaves;
       },
     )
@@ -274,6 +316,21 @@ pub sound-put : (s t : State) (origin queue target number : ℕ) (outcome : Outc
 sound-put s t origin queue target number outcome sound h =
     let made = step-put s t origin queue target number outcome h in
     let m = made.4 in
-    let lanes = (sound.posts origin made.0 m.posts_there).lanes queue made.3.queue m.is.is.in_posts in
-    let within = slice_get_within made.3.queue.lanes target made.3.lane m.is.is.in_queue in
-    (made.0, made.1, made.2, made.3, put-there s t origin queue target number outcome (has-memories s sound) (omega arith) made.0 made.1 made.2 made.3 m)
+    let at = made.3 in
+    let kind = at.entry.kind in
+    let within = slice_get_within s.posts origin made.0 m.posts_there in
+    let worked = put-worked s.limits.ranks origin target kind (target-ranked s origin queue target number made.0 at sound m.posts_there m.is.is) in
+    let there = worked-there s origin (put_touch target kind) (has-memories s sound) (let ranks = sound.ranks in omega arith) worked.0 in
+    let sets = worked-set (put_reach s.limits.ranks origin target kind) origin made.2.memory s.memories worked.0 in (
+      made.0,
+      made.1,
+      made.2,
+      at,
+      record {
+        posts_there = m.posts_there;
+        memory_there = ap (slice_get s.memories) (sym worked.1) ∙ there ∙ ap (λ (x : Memory). Some x) (sym m.worked);
+        is = m.is;
+        leaves = m.leaves
+            ∙ ap (λ (x : List Memory). record s { posts = slice_set s.posts origin made.2.posts; memories = x }) (sets ∙ ap (λ (n : ℕ). slice_set s.memories n made.2.memory) worked.1);
+      },
+    )

@@ -9,7 +9,7 @@ use Rattle.gaspi_types.specs.declared.call_rows.Posting.{Posting}
 use Rattle.gaspi_types.specs.declared.entries.Kind.{Kind}
 use Rattle.gaspi_types.specs.declared.shapes.Limits.{Limits}
 use Rattle.gaspi_types.specs.declared.calls.Call.{Call}
-use Rattle.gaspi_types.specs.declared.calls.Call.TheVariants.{Alloc, Register, Delete, Store, Load, Write, Notify, WriteNotify, Wait, Waitsome, Reset, FetchAdd, CompareSwap, End}
+use Rattle.gaspi_types.specs.declared.calls.Call.TheVariants.{Alloc, Register, Delete, Store, Load, Write, Read, Notify, WriteNotify, ReadNotify, Wait, Purge, Qsize, Waitsome, Reset, FetchAdd, CompareSwap, State, End}
 use Rattle.gaspi_types.specs.declared.replies.Refusal.{Refusal}
 use Rattle.gaspi_types.specs.declared.replies.Refusal.TheVariants.{CallerEnded}
 use Rattle.gaspi_types.specs.declared.replies.Reply.{Reply}
@@ -20,8 +20,8 @@ use Rattle.gaspi_model.specs.State.{thread_at, is_running}
 use Rattle.gaspi_model.specs.Posting.{with_post, counted}
 use Rattle.gaspi_model.specs.SegmentCalls.{alloc_finds, with_own, alloc_leaves, register_finds, with_known, delete_finds, without_own, delete_leaves}
 use Rattle.gaspi_model.specs.MemoryCalls.{store_finds, store_leaves, load_finds}
-use Rattle.gaspi_model.specs.PostCalls.{asked_finds, write_asks, notify_asks, write_notify_asks}
-use Rattle.gaspi_model.specs.QueueCalls.{wait_finds, closed}
+use Rattle.gaspi_model.specs.PostCalls.{asked_finds, write_asks, read_asks, notify_asks, write_notify_asks, read_notify_asks}
+use Rattle.gaspi_model.specs.QueueCalls.{wait_finds, purge_finds, qsize_finds, state_finds, closed, purged}
 use Rattle.gaspi_model.specs.NotificationCalls.{waitsome_finds, reset_finds, reset_leaves}
 use Rattle.gaspi_model.specs.AtomicCalls.{word_finds, fetch_add_leaves, compare_swap_leaves}
 use Rattle.gaspi_model.specs.declared.states.ThreadState.{ThreadState}
@@ -37,17 +37,22 @@ plain_finds limits me posts memory (Delete call) = delete_finds posts call
 plain_finds limits me posts memory (Store call) = store_finds posts call
 plain_finds limits me posts memory (Load call) = load_finds posts memory call
 plain_finds limits me posts memory (Wait call) = wait_finds posts call
+plain_finds limits me posts memory (Purge call) = purge_finds posts call
+plain_finds limits me posts memory (Qsize call) = qsize_finds posts call
 plain_finds limits me posts memory (Waitsome call) = waitsome_finds limits posts memory call
 plain_finds limits me posts memory (Reset call) = reset_finds limits posts memory call
 plain_finds limits me posts memory (FetchAdd call) = word_finds limits me posts memory call.seg call.offset call.rank
 plain_finds limits me posts memory (CompareSwap call) = word_finds limits me posts memory call.seg call.offset call.rank
+plain_finds limits me posts memory State = state_finds posts
 plain_finds limits me posts memory call = Ok (Some replies.Done)
 
 -- what a call asks to be appended that posts
 abbrev pub call_asks : Limits → ℕ → Posts → Call → Result (List Kind) Refusal
 call_asks limits me posts (Write call) = write_asks me posts call
+call_asks limits me posts (Read call) = read_asks me posts call
 call_asks limits me posts (Notify call) = notify_asks limits me posts call
 call_asks limits me posts (WriteNotify call) = write_notify_asks limits me posts call
+call_asks limits me posts (ReadNotify call) = read_notify_asks limits me posts call
 call_asks limits me posts call = Ok []
 
 -- what a call finds
@@ -82,6 +87,7 @@ abbrev pub plain_done : Posts → ℕ → Call → Posts
 plain_done posts thread (Alloc call) = with_own posts call.seg call.size
 plain_done posts thread (Delete call) = without_own posts call.seg
 plain_done posts thread (Wait call) = closed posts call.queue
+plain_done posts thread (Purge call) = purged posts call.queue
 plain_done posts thread End = record posts { threads = slice_set posts.threads thread threads.Ended }
 plain_done posts thread call = posts
 

@@ -1,22 +1,28 @@
 -- What events change, in the words of what they are for.
-use Rattle.std.specs.Prelude.{◌≡◌, ◌≢◌, ℕ, ◌+◌, Bool, true, false, List, [], length, remove, replicate, slice_get, slice_set, Option, None, Some}
+use Rattle.std.specs.Prelude.{◌≡◌, ◌≢◌, ℕ, ◌+◌, ◌&&◌, Bool, true, false, if◌then◌else◌, List, [], length, remove, replicate, slice_get, slice_set, Option, None, Some}
 use Rattle.std.specs.List.{list_any}
-use Rattle.gaspi_types.specs.Lanes.{is_posted, is_carried, has_posted}
+use Rattle.std.specs.Int.{bit_at}
+use Rattle.gaspi_types.specs.Kinds.{is_outward, is_read_kind, source_of, destination_of}
+use Rattle.gaspi_types.specs.Lanes.{is_posted, is_carried, has_awaited}
+use Rattle.gaspi_types.specs.Masks.{bit_of, is_marked}
 use Rattle.gaspi_types.specs.Queues.{user_of}
 use Rattle.gaspi_types.specs.SegmentBytes.{range_of}
-use Rattle.gaspi_types.specs.Segments.{is_generation, IsSegmentWritten}
+use Rattle.gaspi_types.specs.Segments.{IsSegmentWritten}
 use Rattle.gaspi_types.specs.Slots.{IsSlotWritten}
 use Rattle.gaspi_types.specs.Tables.{entry_at}
 use Rattle.gaspi_types.specs.SegmentTables.{extent_in}
 use Rattle.gaspi_types.specs.declared.segments.Extent.{Extent}
 use Rattle.gaspi_types.specs.declared.entries.Phase.TheVariants.{Carried, Failed}
 use Rattle.gaspi_types.specs.declared.entries.Entry.{Entry}
+use Rattle.gaspi_types.specs.declared.entries.ByteRange.{ByteRange}
+use Rattle.gaspi_types.specs.declared.entries.Destination.{Destination}
+use Rattle.gaspi_types.specs.declared.entries.Destination.TheVariants.{Range, Slot}
 use Rattle.gaspi_types.specs.declared.entries.Kind.{Kind}
-use Rattle.gaspi_types.specs.declared.entries.Kind.TheVariants.{Write, Notify}
+use Rattle.gaspi_types.specs.declared.entries.Kind.TheVariants.{Write, Read, Notify, ReadNote}
 use Rattle.gaspi_model.specs.State.{segment_at}
 use Rattle.gaspi_model.specs.Posting.{counted}
 use Rattle.gaspi_model.specs.Memories.{slots_of}
-use Rattle.gaspi_model.specs.Transfers.{carried_bytes, target_segment, target_generation}
+use Rattle.gaspi_model.specs.Transfers.{carried_bytes}
 use Rattle.gaspi_types.specs.declared.entries.Queue.{Queue}
 use Rattle.gaspi_model.specs.declared.states.Posts.{Posts}
 use Rattle.gaspi_types.specs.declared.segments.Segment.{Segment}
@@ -71,27 +77,33 @@ AreSlotsRead s t me segment P = IsAnsweredOfSlots s me segment P × IsOnlyCounte
 abbrev pub is_corrupt : State → ℕ → ℕ → Bool
 is_corrupt s rank target = in_posts (slice_get s.posts rank)
   where
-    is_marked : Option Bool → Bool
-    is_marked None = false
-    is_marked (Some mark) = mark
-
     in_posts : Option Posts → Bool
     in_posts None = false
     in_posts (Some posts) = is_marked (slice_get posts.corrupt target)
 
--- what the put of an entry does to the memory of its target: a write stores its bytes in its range, a notification sets its
--- slot, and nothing else changes
-abbrev pub Puts : Entry → Memory → Memory → Type 0
-Puts e old new = of_kind e.kind
-  where
-    of_kind : Kind → Type 0
-    of_kind (Write own target) =
-        IsSegmentWritten old.segments new.segments target.segment target.offset (carried_bytes e.phase) × (length (carried_bytes e.phase) ≡ target.size) × (new.slots ≡ old.slots)
-    of_kind (Notify target value) = IsSlotWritten old.slots new.slots target.segment target.note value × (new.segments ≡ old.segments)
+-- a segment is there in a generation
+pub record IsThere (memory : Memory) (segment generation : ℕ) : Type 0 where
+  pub item : Segment
+  pub there : segment_at memory segment ≡ Some item
+  pub same : item.generation ≡ generation
 
--- A put that was made: the entry with its number, which had taken its bytes, is gone from its lane; its target, which has
--- the segment in the entry's generation, has what it puts; and nothing else has changed but the count of events of its
--- origin.
+-- what the put of an entry does to the memory that it works on, which has the segment in the entry's generation: a write
+-- and a read store their bytes in their range, a notification sets its slot, and nothing else changes
+abbrev pub PutsTo : Destination → List ℕ → Memory → Memory → Type 0
+PutsTo (Range range) bytes old new =
+    IsThere old range.segment range.generation × IsSegmentWritten old.segments new.segments range.segment range.offset bytes × (length bytes ≡ range.size) × (new.slots ≡ old.slots)
+PutsTo (Slot slot value) bytes old new =
+    IsThere old slot.segment slot.generation × IsSlotWritten old.slots new.slots slot.segment slot.note value × (new.segments ≡ old.segments)
+
+abbrev pub Puts : Entry → Memory → Memory → Type 0
+Puts e old new = PutsTo (destination_of e.kind) (carried_bytes e.phase) old new
+
+-- the rank into whose memory an entry puts: its target, or, for a read and its notification, its origin
+abbrev pub put_rank : ℕ → ℕ → Kind → ℕ
+put_rank origin target kind = if is_outward kind then target else origin
+
+-- A put that was made: the entry with its number, which had taken its bytes, is gone from its lane; the memory that it
+-- works on has what it puts; and nothing else has changed but the count of events of its origin.
 pub record IsPutDone (s t : State) (origin queue target number : ℕ) : Type 0 where
   pub posts : Posts
   pub q : Queue
@@ -110,16 +122,32 @@ pub record IsPutDone (s t : State) (origin queue target number : ℕ) : Type 0 w
   })
   pub old : Memory
   pub new : Memory
-  pub old_there : slice_get s.memories target ≡ Some old
-  pub memories_after : t.memories ≡ slice_set s.memories target new
-  pub there : is_generation (target_generation entry.kind) (segment_at old (target_segment entry.kind)) ≡ true
+  pub old_there : slice_get s.memories (put_rank origin target entry.kind) ≡ Some old
+  pub memories_after : t.memories ≡ slice_set s.memories (put_rank origin target entry.kind) new
   pub puts : Puts entry old new
   pub limits : t.limits ≡ s.limits
 
--- A put that failed, since the target's segment of the entry's generation is gone: the entry with its number, which had
--- taken its bytes, has failed in its place; its queue is broken with that target, and the target is corrupt for its origin;
+-- the target's segment is gone in the generation of an entry
+abbrev pub NotIn : Memory → ℕ → ℕ → Type 0
+NotIn memory segment generation = (item : Segment) → segment_at memory segment ≡ Some item → item.generation ≢ generation
+
+abbrev pub IsTargetGone : Memory → Kind → Type 0
+IsTargetGone memory (Write own target) = NotIn memory target.segment target.generation
+IsTargetGone memory (Read own target) = NotIn memory target.segment target.generation
+IsTargetGone memory (Notify target value) = NotIn memory target.segment target.generation
+IsTargetGone memory (ReadNote own) = ⊥
+
+-- a take fails of a read that is posted, and a put of a write or a notification that has taken its bytes
+abbrev pub may_take_fail : Entry → Bool
+may_take_fail e = is_posted e && is_read_kind e.kind
+
+abbrev pub may_put_fail : Entry → Bool
+may_put_fail e = is_carried e && is_outward e.kind
+
+-- A transfer that failed, since the target's segment of the entry's generation is gone: the entry with its number, of which
+-- that may fail, has failed in its place; its queue is broken with that target, and the target is corrupt for its origin;
 -- and nothing else has changed but the count of events of its origin. (state vector)
-pub record IsPutFailed (s t : State) (origin queue target number : ℕ) : Type 0 where
+pub record IsFailed (s t : State) (origin queue target number : ℕ) (may_fail : Entry → Bool) : Type 0 where
   pub posts : Posts
   pub q : Queue
   pub lane : List Entry
@@ -131,10 +159,10 @@ pub record IsPutFailed (s t : State) (origin queue target number : ℕ) : Type 0
   pub lane_there : slice_get q.lanes target ≡ Some lane
   pub entry_there : slice_get lane place ≡ Some entry
   pub numbered : entry.number ≡ number
-  pub carried : is_carried entry ≡ true
+  pub fails : may_fail entry ≡ true
   pub whole : q.broken ≡ None
   pub memory_there : slice_get s.memories target ≡ Some memory
-  pub gone : (segment : Segment) → segment_at memory (target_segment entry.kind) ≡ Some segment → segment.generation ≢ target_generation entry.kind
+  pub gone : IsTargetGone memory entry.kind
   pub after : t ≡ record s {
     posts = slice_set s.posts origin (record (counted posts) {
       queues = slice_set posts.queues queue (record q { broken = Some target; lanes = slice_set q.lanes target (slice_set lane place (record entry { phase = Failed })) });
@@ -142,18 +170,21 @@ pub record IsPutFailed (s t : State) (origin queue target number : ℕ) : Type 0
     });
   }
 
--- what an entry takes: a write the bytes of its range in the segment that its origin has in its generation, a notification
--- nothing
-abbrev pub Takes : Entry → Memory → List ℕ → Type 0
-Takes e memory bytes = of_kind e.kind
-  where
-    of_kind : Kind → Type 0
-    of_kind (Write own target) =
-        (segment : Segment) × (segment_at memory own.segment ≡ Some segment) × (segment.generation ≡ own.generation) × (bytes ≡ range_of segment.bytes own.offset own.size)
-    of_kind (Notify target value) = bytes ≡ []
+-- what an entry takes: the bytes that its source has now in the segment of its generation, where it has a source
+abbrev pub TakesFrom : Option ByteRange → Memory → List ℕ → Type 0
+TakesFrom None memory bytes = bytes ≡ []
+TakesFrom (Some range) memory bytes =
+    (segment : Segment) × (segment_at memory range.segment ≡ Some segment) × (segment.generation ≡ range.generation) × (bytes ≡ range_of segment.bytes range.offset range.size)
 
--- A take: the entry with its number, which was posted, has taken its bytes in its place; and nothing else has changed but
--- the count of events of its origin.
+abbrev pub Takes : Entry → Memory → List ℕ → Type 0
+Takes e memory bytes = TakesFrom (source_of e.kind) memory bytes
+
+-- the rank from whose memory an entry takes: a read from its target's, each other from its origin's
+abbrev pub take_rank : ℕ → ℕ → Kind → ℕ
+take_rank origin target kind = if is_read_kind kind then target else origin
+
+-- A take that was made: the entry with its number, which was posted, has taken its bytes in its place; and nothing else has
+-- changed but the count of events of its origin.
 pub record IsTaken (s t : State) (origin queue target number : ℕ) : Type 0 where
   pub posts : Posts
   pub q : Queue
@@ -169,7 +200,7 @@ pub record IsTaken (s t : State) (origin queue target number : ℕ) : Type 0 whe
   pub numbered : entry.number ≡ number
   pub posted : is_posted entry ≡ true
   pub whole : q.broken ≡ None
-  pub memory_there : slice_get s.memories origin ≡ Some memory
+  pub memory_there : slice_get s.memories (take_rank origin target entry.kind) ≡ Some memory
   pub takes : Takes entry memory bytes
   pub after : t ≡ record s {
     posts = slice_set s.posts origin (record (counted posts) {
@@ -207,16 +238,46 @@ pub record IsReset (s t : State) (me segment note value : ℕ) : Type 0 where
   pub answered : slice_get (slots_of old segment) note ≡ Some value
   pub slots : IsSlotWritten old.slots new.slots segment note 0
 
--- A wait that is done: the queue is not broken, none of its entries has still to take its bytes, its open count is 0, and
--- nothing else has changed but the count of events of its rank. (one-sided communication: wait)
+-- A wait that is done: the queue is not broken, none of its entries has still to take its bytes, and no read and no
+-- notification of a read stands in it; its open count is 0, and nothing else has changed but the count of events of its
+-- rank. (one-sided communication: wait)
 pub record IsWaited (s t : State) (me queue : ℕ) : Type 0 where
   pub posts : Posts
   pub q : Queue
   pub posts_there : slice_get s.posts me ≡ Some posts
   pub queue_there : slice_get posts.queues queue ≡ Some q
   pub whole : q.broken ≡ None
-  pub taken : list_any has_posted q.lanes ≡ false
+  pub taken : list_any has_awaited q.lanes ≡ false
   pub after : t ≡ record s { posts = slice_set s.posts me (record (counted posts) { queues = slice_set posts.queues queue (record q { open_count = 0 }) }) }
+
+-- A purge that is done: its queue has no entry, its open count is 0 and it is whole, and nothing else has changed but the
+-- count of events of its rank: corrupt ranks stay so. (one-sided communication: queue_purge)
+pub record IsPurged (s t : State) (me queue : ℕ) : Type 0 where
+  pub posts : Posts
+  pub q : Queue
+  pub q' : Queue
+  pub posts_there : slice_get s.posts me ≡ Some posts
+  pub queue_there : slice_get posts.queues queue ≡ Some q
+  pub opened : q'.open_count ≡ 0
+  pub whole : q'.broken ≡ None
+  pub lanes : length q'.lanes ≡ length q.lanes
+  pub empty : (target : ℕ) (lane : List Entry) → slice_get q'.lanes target ≡ Some lane → lane ≡ []
+  pub after : t ≡ record s { posts = slice_set s.posts me (record (counted posts) { queues = slice_set posts.queues queue q' }) }
+
+-- A call that answers the open count of a queue, and changes nothing but the count of events. (one-sided communication:
+-- queue_size)
+pub record IsSizeAnswered (s t : State) (me queue value : ℕ) : Type 0 where
+  pub posts : Posts
+  pub q : Queue
+  pub posts_there : slice_get s.posts me ≡ Some posts
+  pub queue_there : slice_get posts.queues queue ≡ Some q
+  pub answers : value ≡ q.open_count
+  pub counted : IsOnlyCounted s t me
+
+-- A call that answers which ranks are corrupt for its caller's rank, bit r for rank r, and changes nothing but the count of
+-- events. (state vector: state_vec_get)
+abbrev pub IsStateAnswered : (s t : State) (me mask : ℕ) → Type 0
+IsStateAnswered s t me mask = ((rank : ℕ) → bit_at mask rank ≡ bit_of (is_corrupt s me rank)) × IsOnlyCounted s t me
 
 -- A segment that is made: there was none of its number; it is there with its size, all bytes and slots 0, in the next
 -- generation of its number, which no segment of that number had; the rank's table of segments says so; and nothing else

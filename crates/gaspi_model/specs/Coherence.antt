@@ -9,7 +9,7 @@ use Rattle.gaspi_types.specs.declared.entries.Entry.{Entry}
 use Rattle.gaspi_types.specs.declared.segments.Extent.{Extent}
 use Rattle.gaspi_types.specs.declared.entries.ByteRange.{ByteRange}
 use Rattle.gaspi_types.specs.declared.entries.Kind.{Kind}
-use Rattle.gaspi_types.specs.declared.entries.Kind.TheVariants.{Write, Notify}
+use Rattle.gaspi_types.specs.declared.entries.Kind.TheVariants.{Write, Read, Notify, ReadNote}
 use Rattle.gaspi_types.specs.declared.entries.Phase.{Phase}
 use Rattle.gaspi_types.specs.declared.entries.Phase.TheVariants.{Posted, Carried, Failed}
 use Rattle.gaspi_types.specs.Segments.{extents_of}
@@ -61,21 +61,40 @@ abbrev pub LiesInIfThere : List (Option Extent) → ByteRange → Type 0
 LiesInIfThere table range = (extent : Extent) → extent_in table range.segment ≡ Some extent → extent.generation ≡ range.generation
     → is_within range.offset range.size extent.size ≡ true
 
--- what a write has to do with its own range: a posted one will take its bytes, a carried one has taken them
-abbrev pub HasSource : List (Option Extent) → ByteRange → Phase → Type 0
-HasSource mine own Posted = LiesIn mine own
-HasSource mine own (Carried bytes) = length bytes ≡ own.size
-HasSource mine own Failed = Unit {0}
+-- a segment is there in a generation
+pub record IsIn (table : List (Option Extent)) (segment generation : ℕ) : Type 0 where
+  pub extent : Extent
+  pub there : extent_in table segment ≡ Some extent
+  pub same : extent.generation ≡ generation
+
+-- What an entry has to do with its origin's segment. A posted write will take its bytes there, a carried one has taken
+-- them; a read will put its bytes there and its notification will set its slot, until they have failed.
+abbrev pub HasOwn : List (Option Extent) → Kind → Phase → Type 0
+HasOwn mine (Write own target) Posted = LiesIn mine own
+HasOwn mine (Write own target) (Carried bytes) = length bytes ≡ own.size
+HasOwn mine (Write own target) Failed = Unit {0}
+HasOwn mine (Read own target) Posted = LiesIn mine own
+HasOwn mine (Read own target) (Carried bytes) = LiesIn mine own × (length bytes ≡ own.size)
+HasOwn mine (Read own target) Failed = Unit {0}
+HasOwn mine (Notify target value) phase = Unit {0}
+HasOwn mine (ReadNote own) Posted = IsIn mine own.segment own.generation
+HasOwn mine (ReadNote own) (Carried bytes) = IsIn mine own.segment own.generation
+HasOwn mine (ReadNote own) Failed = Unit {0}
+
+-- what it has to do with its target's: a segment of its generation was made, and its range lies within it
+abbrev pub HasTarget : Tables → ByteRange → ByteRange → Type 0
+HasTarget theirs own target =
+    (own.size ≡ target.size) × (nat_lt target.segment 32 ≡ true) × WasMade theirs target.segment target.generation × LiesInIfThere theirs.own target
+
+abbrev pub FitsTarget : ℕ → Tables → Kind → Type 0
+FitsTarget notes theirs (Write own target) = HasTarget theirs own target
+FitsTarget notes theirs (Read own target) = HasTarget theirs own target
+FitsTarget notes theirs (Notify target value) = (target.note < notes) × WasMade theirs target.segment target.generation
+FitsTarget notes theirs (ReadNote own) = own.note < notes
 
 -- an entry's ranges and its slot, where its origin and its target have those segments
 abbrev pub Fits : ℕ → Tables → Tables → Entry → Type 0
-Fits notes mine theirs e = of_kind e.kind
-  where
-    of_kind : Kind → Type 0
-    of_kind (Write own target) =
-        (own.size ≡ target.size) × (nat_lt target.segment 32 ≡ true) × WasMade theirs target.segment target.generation
-        × LiesInIfThere theirs.own target × HasSource mine.own own e.phase
-    of_kind (Notify target value) = (target.note < notes) × WasMade theirs target.segment target.generation
+Fits notes mine theirs e = FitsTarget notes theirs e.kind × HasOwn mine.own e.kind e.phase
 
 -- each entry of the queues of an origin fits
 abbrev pub AllFit : ℕ → List Tables → ℕ → List Queue → Type 0

@@ -1,24 +1,54 @@
--- The calls on a queue: what they find, and what they leave. (GASPI: one-sided communication)
-use Rattle.std.specs.Prelude.{ℕ, Option, None, Some, Result, Ok, if◌then◌else◌, slice_get}
+-- The calls on a queue and on the state vector: what they find, and what they leave. (GASPI: one-sided communication, state vector)
+use Rattle.std.specs.Prelude.{ℕ, List, [], map, Option, None, Some, Result, Ok, if◌then◌else◌, slice_get}
 use Rattle.std.specs.List.{list_any}
 use Rattle.gaspi_types.specs.Checks.{◌>>=◌, found, absent}
-use Rattle.gaspi_types.specs.Lanes.{has_posted}
+use Rattle.gaspi_types.specs.Lanes.{has_awaited}
+use Rattle.gaspi_types.specs.Masks.{mask_of}
 use Rattle.gaspi_types.specs.declared.calls.queues.Wait as wait
+use Rattle.gaspi_types.specs.declared.calls.queues.Purge as purge
+use Rattle.gaspi_types.specs.declared.calls.queues.Qsize as qsize
 use Rattle.gaspi_types.specs.declared.replies.Refusal.{Refusal}
 use Rattle.gaspi_types.specs.declared.replies.Refusal.TheVariants.{BadQueue, QueueBroken}
 use Rattle.gaspi_types.specs.declared.replies.Reply.{Reply}
 use Rattle.gaspi_types.specs.declared.replies.Reply.TheVariants as replies
 use Rattle.gaspi_types.specs.Tables.{changed_at}
+use Rattle.gaspi_types.specs.declared.entries.Entry.{Entry}
 use Rattle.gaspi_types.specs.declared.entries.Queue.{Queue}
 use Rattle.gaspi_model.specs.declared.states.Posts.{Posts}
 
--- ready where no entry of the queue is posted (wait)
+-- ready where no entry of the queue is posted, and no read and no notification of a read stands in it (wait)
 abbrev pub wait_finds : Posts → wait.Wait → Result (Option Reply) Refusal
 wait_finds posts call = do
   q ← found (slice_get posts.queues call.queue) BadQueue
   whole ← absent q.broken QueueBroken
-  Ok (if list_any has_posted q.lanes then None else Some replies.Done)
+  Ok (if list_any has_awaited q.lanes then None else Some replies.Done)
+
+-- at any time, also of a broken queue (queue_purge)
+abbrev pub purge_finds : Posts → purge.Purge → Result (Option Reply) Refusal
+purge_finds posts call = do
+  q ← found (slice_get posts.queues call.queue) BadQueue
+  Ok (Some replies.Done)
+
+-- the open count: the entries that were posted since it last was 0, and not those that stand (queue_size)
+abbrev pub qsize_finds : Posts → qsize.Qsize → Result (Option Reply) Refusal
+qsize_finds posts call = do
+  q ← found (slice_get posts.queues call.queue) BadQueue
+  Ok (Some (replies.Value q.open_count))
+
+-- the ranks that are corrupt for the caller's rank (state_vec_get)
+abbrev pub state_finds : Posts → Result (Option Reply) Refusal
+state_finds posts = Ok (Some (replies.Mask (mask_of posts.corrupt)))
 
 -- the open count returns to 0
 abbrev pub closed : Posts → ℕ → Posts
 closed posts queue = record posts { queues = changed_at posts.queues queue (λ (q : Queue). record q { open_count = 0 }) }
+
+abbrev pub without_entries : List Entry → List Entry
+without_entries lane = []
+
+-- a queue with no entry, that is open for none and whole; what it was broken with stays in the state vector
+abbrev pub emptied : Queue → Queue
+emptied q = record q { open_count = 0; broken = None; lanes = map without_entries q.lanes }
+
+abbrev pub purged : Posts → ℕ → Posts
+purged posts queue = record posts { queues = changed_at posts.queues queue emptied }

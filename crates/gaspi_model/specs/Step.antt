@@ -16,14 +16,14 @@ use Rattle.gaspi_types.specs.declared.calls.Call.{Call}
 use Rattle.gaspi_types.specs.declared.replies.Reply.{Reply}
 use Rattle.gaspi_types.specs.declared.replies.Ready.{Ready}
 use Rattle.gaspi_types.specs.declared.events.Outcome.{Outcome}
-use Rattle.gaspi_types.specs.declared.events.Outcome.TheVariants.{Applied, Failed}
+use Rattle.gaspi_types.specs.declared.events.Outcome.TheVariants.{Failed}
 use Rattle.gaspi_types.specs.declared.events.Transfer.{Transfer}
 use Rattle.gaspi_types.specs.declared.events.Event.{Event}
 use Rattle.gaspi_types.specs.declared.events.Event.TheVariants.{Called, Take, Put}
 use Rattle.gaspi_model.specs.State.{opening, owed, thread_at, is_running}
 use Rattle.gaspi_model.specs.Calls.{answer, recorded_reply, charge, posts_after, memory_after, peer_after}
-use Rattle.gaspi_model.specs.Parts.{Parts, touched_of, parts_of, lifted, worked_memory, with_worked_memory}
-use Rattle.gaspi_model.specs.Transfers.{take, put, Worked, Found, find_entry, entry_in, put_outcome}
+use Rattle.gaspi_model.specs.Parts.{Parts, touched_of, parts_of, lifted, memory_or_none, worked_memory, with_worked_memory}
+use Rattle.gaspi_model.specs.Transfers.{take, put, Worked, Found, find_entry, entry_in, take_outcome, put_outcome}
 use Rattle.gaspi_model.specs.declared.states.ThreadState.{ThreadState}
 use Rattle.gaspi_model.specs.declared.states.ThreadState.TheVariants.{Absent, Running, Ended}
 use Rattle.gaspi_model.specs.declared.states.Posts.{Posts}
@@ -61,7 +61,7 @@ entry_touch touch (Some e) = touch e.kind
 
 abbrev pub event_touch : Posts → Event → Touch
 event_touch posts (Called c call reply) = (row_of call).touch
-event_touch posts (Take origin queue target number outcome) = entry_touch take_touch (entry_in posts queue target number)
+event_touch posts (Take origin queue target number outcome) = entry_touch (take_touch target) (entry_in posts queue target number)
 event_touch posts (Put origin queue target number outcome) = entry_touch (put_touch target) (entry_in posts queue target number)
 
 abbrev pub event_reach : Limits → Posts → Event → Reach
@@ -162,18 +162,25 @@ room_taken s rank = in_posts (slice_get s.posts rank)
     in_posts None = 0
     in_posts (Some posts) = posts.events + owed posts
 
--- the event of a transfer that may come next, with the machine's outcome
-abbrev pub transfer_event : State → Transfer → Event
-transfer_event s t = if t.put then Put t.origin t.queue t.target t.number (outcome_of (slice_get s.posts t.origin) (slice_get s.memories t.target)) else Take t.origin t.queue t.target t.number Applied
+-- the machine's outcome of a transfer that may come next, which is told by the memory of its target; where that is no
+-- rank, by one with no segment
+abbrev pub transfer_outcome : State → Transfer → (Memory → Kind → Outcome) → Outcome
+transfer_outcome s t outcome = in_state (slice_get s.posts t.origin) (slice_get s.memories t.target)
   where
-    outcome_at : Result Found Why → Memory → Outcome
-    outcome_at (Err why) memory = Failed
-    outcome_at (Ok at) memory = put_outcome memory at.entry.kind
+    of_entry : Result Found Why → Memory → Outcome
+    of_entry (Err why) memory = Failed
+    of_entry (Ok at) memory = outcome memory at.entry.kind
 
-    outcome_of : Option Posts → Option Memory → Outcome
-    outcome_of None memory = Failed
-    outcome_of (Some posts) None = Failed
-    outcome_of (Some posts) (Some memory) = outcome_at (find_entry posts t.queue t.target t.number whys.Put) memory
+    in_state : Option Posts → Option Memory → Outcome
+    in_state None memory = Failed
+    in_state (Some posts) memory = of_entry (find_entry posts t.queue t.target t.number whys.Put) (memory_or_none memory)
+
+-- its event
+abbrev pub transfer_event : State → Transfer → Event
+transfer_event s t =
+    if t.put
+    then Put t.origin t.queue t.target t.number (transfer_outcome s t put_outcome)
+    else Take t.origin t.queue t.target t.number (transfer_outcome s t take_outcome)
 
 -- the end of a caller
 abbrev pub ends_caller : ℕ → ℕ → Event → Bool

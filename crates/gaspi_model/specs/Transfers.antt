@@ -3,9 +3,13 @@ use Rattle.std.specs.Prelude.{nat_lt, ◌==◌, ◌||◌, ◌&&◌, ℕ, Bool, t
 use Rattle.std.specs.List.{flat_map, enumerate_from}
 use Rattle.gaspi_types.specs.Checks.{◌>>=◌, check, found}
 use Rattle.gaspi_types.specs.SegmentBytes.{range_of, with_range}
+use Rattle.gaspi_types.specs.Kinds.{source_of, destination_of}
 use Rattle.gaspi_types.specs.Lanes.{place_of, may_take, may_put}
+use Rattle.gaspi_types.specs.declared.entries.ByteRange.{ByteRange}
+use Rattle.gaspi_types.specs.declared.entries.Destination.{Destination}
+use Rattle.gaspi_types.specs.declared.entries.Destination.TheVariants.{Range, Slot}
 use Rattle.gaspi_types.specs.declared.entries.Kind.{Kind}
-use Rattle.gaspi_types.specs.declared.entries.Kind.TheVariants.{Write, Notify}
+use Rattle.gaspi_types.specs.declared.entries.Kind.TheVariants.{Write, Read, Notify, ReadNote}
 use Rattle.gaspi_types.specs.declared.entries.Entry.{Entry}
 use Rattle.gaspi_types.specs.declared.entries.Phase.{Phase}
 use Rattle.gaspi_types.specs.declared.entries.Phase.TheVariants as phases
@@ -63,54 +67,76 @@ queue_phase target place phase q = record q { lanes = changed_at q.lanes target 
 abbrev pub posts_phase : Posts → ℕ → ℕ → ℕ → Phase → Posts
 posts_phase posts queue target place phase = record posts { queues = changed_at posts.queues queue (queue_phase target place phase) }
 
--- what an entry takes: a write the bytes that its source has now, a notification nothing
+-- The posts of an origin after a transfer that failed: the entry stays in its place, the queue is broken with that target,
+-- and the target is corrupt for the origin. (state vector)
+abbrev pub queue_failed : ℕ → ℕ → Queue → Queue
+queue_failed target place q = record (queue_phase target place phases.Failed q) { broken = Some target }
+
+abbrev pub posts_failed : Posts → ℕ → ℕ → ℕ → Posts
+posts_failed posts queue target place = record posts {
+  queues = changed_at posts.queues queue (queue_failed target place);
+  corrupt = slice_set posts.corrupt target true;
+}
+
+-- A transfer that works on a segment of the target's memory fails where that is gone in its generation (state vector):
+-- the take of a read, and the put of a write and of a notification. No other fails.
+abbrev pub outcome_at : Memory → ℕ → ℕ → Outcome
+outcome_at memory segment generation = if is_generation generation (segment_at memory segment) then Applied else Failed
+
+abbrev pub take_outcome : Memory → Kind → Outcome
+take_outcome memory (Write own target) = Applied
+take_outcome memory (Read own target) = outcome_at memory target.segment target.generation
+take_outcome memory (Notify target value) = Applied
+take_outcome memory (ReadNote own) = Applied
+
+abbrev pub put_outcome : Memory → Kind → Outcome
+put_outcome memory (Write own target) = outcome_at memory target.segment target.generation
+put_outcome memory (Read own target) = Applied
+put_outcome memory (Notify target value) = outcome_at memory target.segment target.generation
+put_outcome memory (ReadNote own) = Applied
+
+-- what an entry takes: a write the bytes that its own range has now, a read those that its target's has, a notification
+-- nothing
+abbrev pub bytes_from : Memory → Option ByteRange → List ℕ
+bytes_from memory None = []
+bytes_from memory (Some range) = range_of (bytes_of memory range.segment) range.offset range.size
+
 abbrev pub taken_bytes : Memory → Kind → List ℕ
-taken_bytes memory (Write own target) = range_of (bytes_of memory own.segment) own.offset own.size
-taken_bytes memory (Notify target value) = []
+taken_bytes memory kind = bytes_from memory (source_of kind)
 
 -- The bytes of an entry that may be taken: it is posted, its queue is not broken, and fewer than DEPTH entries of its lane
--- have taken their bytes. No write and no notification fails here.
+-- have taken their bytes. The outcome is the machine's.
 abbrev pub bytes_taken : Limits → Memory → Found → Outcome → Result (List ℕ) Why
 bytes_taken limits memory at outcome = do
   whole ← check (is_none at.queue.broken) whys.Take
   permitted ← check (may_take limits.depth at.lane at.entry) whys.Take
-  applied ← check (same_outcome outcome Applied) whys.Take
+  fits ← check (same_outcome outcome (take_outcome memory at.entry.kind)) whys.Take
   Ok (taken_bytes memory at.entry.kind)
 
--- A take: the entry stays in its place, with its bytes.
+-- the posts of an origin after a take: the entry stays in its place, with its bytes, or as failed
+abbrev pub posts_after_take : Posts → ℕ → ℕ → ℕ → List ℕ → Outcome → Posts
+posts_after_take posts queue target place bytes Applied = counted (posts_phase posts queue target place (phases.Carried bytes))
+posts_after_take posts queue target place bytes Failed = counted (posts_failed posts queue target place)
+
+-- A take: the posts of its origin, after it.
 abbrev pub take : Limits → Posts → Memory → ℕ → ℕ → ℕ → Outcome → Result Posts Why
 take limits posts memory queue target number outcome = do
   at ← find_entry posts queue target number whys.Take
   bytes ← bytes_taken limits memory at outcome
-  Ok (counted (posts_phase posts queue target at.place (phases.Carried bytes)))
-
--- the segment and the generation to which an entry puts
-abbrev pub target_segment : Kind → ℕ
-target_segment (Write own target) = target.segment
-target_segment (Notify target value) = target.segment
-
-abbrev pub target_generation : Kind → ℕ
-target_generation (Write own target) = target.generation
-target_generation (Notify target value) = target.generation
-
--- a put fails where the target's segment of the entry's generation is gone (state vector)
-abbrev pub put_outcome : Memory → Kind → Outcome
-put_outcome memory kind =
-    if is_generation (target_generation kind) (segment_at memory (target_segment kind)) then Applied else Failed
+  Ok (posts_after_take posts queue target at.place bytes outcome)
 
 abbrev pub carried_bytes : Phase → List ℕ
 carried_bytes phases.Posted = []
 carried_bytes (phases.Carried bytes) = bytes
 carried_bytes phases.Failed = []
 
--- the target's memory after the put of an entry: exactly the stated range, or the one slot, is changed
+-- the memory that a put works on after it: exactly the stated range, or the one slot, is changed
+abbrev pub memory_with_put : Memory → Destination → List ℕ → Memory
+memory_with_put memory (Range range) bytes = with_bytes memory range.segment (with_range (bytes_of memory range.segment) range.offset bytes)
+memory_with_put memory (Slot slot value) bytes = with_slots memory slot.segment (slice_set (slots_of memory slot.segment) slot.note value)
+
 abbrev pub memory_put : Memory → Entry → Memory
-memory_put memory entry = of_kind entry.kind
-  where
-    of_kind : Kind → Memory
-    of_kind (Write own target) =
-        with_bytes memory target.segment (with_range (bytes_of memory target.segment) target.offset (carried_bytes entry.phase))
-    of_kind (Notify target value) = with_slots memory target.segment (slice_set (slots_of memory target.segment) target.note value)
+memory_put memory entry = memory_with_put memory (destination_of entry.kind) (carried_bytes entry.phase)
 
 -- a put that failed changes nothing there
 abbrev pub memory_with : Memory → Found → Outcome → Memory
@@ -118,7 +144,8 @@ memory_with memory at Applied = memory_put memory at.entry
 memory_with memory at Failed = memory
 
 -- The memory that a put works on, after it. An entry may be put that has taken its bytes, whose queue is not broken, and,
--- for a notification, before which no write with a smaller number stands in its lane. It stores the bytes or sets the slot.
+-- for a notification, before which no write, or no read, with a smaller number stands in its lane. It stores the bytes or
+-- sets the slot.
 abbrev pub memory_after_put : Memory → Found → Outcome → Result Memory Why
 memory_after_put memory at outcome = do
   whole ← check (is_none at.queue.broken) whys.Put
@@ -132,17 +159,6 @@ queue_without target place q = record q { lanes = changed_at q.lanes target (λ 
 
 abbrev pub posts_without : Posts → ℕ → ℕ → ℕ → Posts
 posts_without posts queue target place = record posts { queues = changed_at posts.queues queue (queue_without target place) }
-
--- The posts of an origin after a put that failed: the entry stays in its place, the queue is broken with that target, and
--- the target is corrupt for the origin. (state vector)
-abbrev pub queue_failed : ℕ → ℕ → Queue → Queue
-queue_failed target place q = record (queue_phase target place phases.Failed q) { broken = Some target }
-
-abbrev pub posts_failed : Posts → ℕ → ℕ → ℕ → Posts
-posts_failed posts queue target place = record posts {
-  queues = changed_at posts.queues queue (queue_failed target place);
-  corrupt = slice_set posts.corrupt target true;
-}
 
 -- the posts of an origin after a put: the entry goes, unless the put failed
 abbrev pub posts_after_put : Posts → ℕ → ℕ → ℕ → Outcome → Posts

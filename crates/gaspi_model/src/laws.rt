@@ -8,7 +8,8 @@ ghost use Rattle.gaspi_types.specs.Replies.{is_idle, same_reply};
 ghost use Rattle.std.specs.List.{list_any, count_by};
 ghost use Rattle.gaspi_types.specs.World.{World, IsWorld, is_caller};
 ghost use Rattle.gaspi_types.specs.declared.calls.Call.{Call};
-ghost use Rattle.gaspi_types.specs.declared.calls.Call.TheVariants.{Alloc, Register, Delete, Store, Load, Write, Notify, WriteNotify, Wait, Waitsome, Reset, FetchAdd, CompareSwap, End};
+ghost use Rattle.gaspi_types.specs.declared.calls.Call.TheVariants.{Alloc, Register, Delete, Store, Load, Write, Read, Notify, WriteNotify, ReadNotify, Wait, Purge, Qsize, Waitsome, Reset, FetchAdd, CompareSwap, End};
+ghost use Rattle.gaspi_types.specs.declared.calls.Call.TheVariants as calls;
 ghost use Rattle.gaspi_types.specs.SegmentBytes.{range_of};
 ghost use Rattle.gaspi_types.specs.SegmentWords.{word_at};
 ghost use Rattle.gaspi_types.specs.Slots.{first_set};
@@ -18,11 +19,15 @@ ghost use Rattle.gaspi_types.specs.declared.calls.segments.Delete as delete;
 ghost use Rattle.gaspi_types.specs.declared.calls.memory.Store as store;
 ghost use Rattle.gaspi_types.specs.declared.calls.memory.Load as load;
 ghost use Rattle.gaspi_types.specs.declared.calls.queues.Wait as wait;
+ghost use Rattle.gaspi_types.specs.declared.calls.queues.Purge as purge;
+ghost use Rattle.gaspi_types.specs.declared.calls.queues.Qsize as qsize;
 ghost use Rattle.gaspi_types.specs.declared.calls.notifications.Waitsome as waitsome;
 ghost use Rattle.gaspi_types.specs.declared.calls.notifications.Reset as reset;
 ghost use Rattle.gaspi_types.specs.declared.calls.posts.Write as write;
+ghost use Rattle.gaspi_types.specs.declared.calls.posts.Read as read;
 ghost use Rattle.gaspi_types.specs.declared.calls.posts.Notify as notify;
 ghost use Rattle.gaspi_types.specs.declared.calls.posts.WriteNotify as write_notify;
+ghost use Rattle.gaspi_types.specs.declared.calls.posts.ReadNotify as read_notify;
 ghost use Rattle.gaspi_types.specs.declared.calls.atomics.FetchAdd as fetch_add;
 ghost use Rattle.gaspi_types.specs.declared.calls.atomics.CompareSwap as compare_swap;
 ghost use Rattle.gaspi_types.specs.declared.events.Event.{Event};
@@ -35,8 +40,8 @@ ghost use Rattle.gaspi_types.specs.declared.replies.Reply.{Reply};
 ghost use Rattle.gaspi_types.specs.declared.replies.Reply.TheVariants as replies;
 ghost use Rattle.gaspi_types.specs.declared.shapes.CallerId.{CallerId};
 ghost use Rattle.gaspi_model.specs.Calls.{recorded_reply};
-ghost use Rattle.gaspi_model.specs.Changes.{IsOnlyCounted, IsAnswered, IsRead, AreSlotsRead, IsReset, IsWaited, IsMade, IsGone, IsPutDone, IsPutFailed, IsTaken, IsRegistered, IsWritten, is_corrupt};
-ghost use Rattle.gaspi_model.specs.Order.{IsNotificationStanding, IsWriteStanding};
+ghost use Rattle.gaspi_model.specs.Changes.{IsOnlyCounted, IsAnswered, IsRead, AreSlotsRead, IsReset, IsWaited, IsPurged, IsSizeAnswered, IsStateAnswered, IsMade, IsGone, IsPutDone, IsFailed, IsTaken, IsRegistered, IsWritten, is_corrupt, may_take_fail, may_put_fail};
+ghost use Rattle.gaspi_model.specs.Order.{IsNotificationStanding, IsReadNoteStanding, IsReadStanding, IsWriteStanding, is_purge_of};
 ghost use Rattle.gaspi_model.specs.Shards.{AgreeOn, ComeToSame, HaveSamePart, is_shard, same_shard, footprint, numbers_of, is_among};
 ghost use Rattle.gaspi_model.specs.declared.states.Shard.{Shard};
 ghost use Rattle.gaspi_model.specs.declared.states.Shard.TheVariants as shards;
@@ -55,8 +60,8 @@ ghost use Rattle.gaspi_model.specs.declared.states.State.{State};
 /// a segment number at most one more than its events; the numbers of a lane rise and are below its origin's next number; a
 /// lane has at most DEPTH carried entries; the entries of a queue from its least posted one on are at most its open count,
 /// which is at most DEPTH; a queue is broken exactly while it has a failed entry, and then has just one; the generations
-/// and sizes in a rank's table of segments are those in its memory; the own segment of a posted write is there in its
-/// generation; and the ranges of entries lie within their segments.
+/// and sizes in a rank's table of segments are those in its memory; the own segment of a posted write, and of a posted or
+/// carried read or notification of a read, is there in its generation; and the ranges of entries lie within their segments.
 pub fn soundness()
     ensures opens { (w : World) → IsWorld w → IsSound (opening w) }
     ensures steps { (s t : State) (e : Event) → IsSound s → step s e ≡ Ok t → IsSound t }
@@ -82,12 +87,15 @@ pub fn enabled()
         → IsOk (step s (Called (record { rank = rank; thread = thread }) call (recorded_reply ready))) }
 {}
 
-/// What events change. A put that is made changes exactly the range or the one slot that its entry states, and takes the
-/// entry out of its lane; one that fails leaves its entry failed in its place, its queue broken and its target corrupt; a
-/// take takes the bytes that the entry's source has now; neither comes from a broken queue. A segment that is made is new,
+/// What events change. A put that is made changes exactly the range or the one slot that its entry states, of its target or,
+/// for a read and its notification, of its origin, and takes the entry out of its lane; a take takes the bytes that the
+/// entry's source has now, for a read in its target; a put, or the take of a read, that fails leaves its entry failed in its
+/// place, its queue broken and its target corrupt; none comes from a broken queue. A segment that is made is new,
 /// all zero, in the next generation of its number; one that is dropped was used by no entry; and one that is made known is
 /// known in its present generation and size to the rank that is named. A wait that is done closes its queue, none of whose
-/// entries has still to take its bytes. A load and a `waitsome` answer what stands there, and a reset takes it. A store
+/// entries has still to take its bytes; a purge that is done leaves its queue with no entry, an open count of 0 and whole;
+/// the size of a queue is its open count; and the state vector has bit r exactly where rank r is corrupt for the caller's
+/// rank. A load and a `waitsome` answer what stands there, and a reset takes it. A store
 /// changes exactly its range, and an atomic, which answers what stood there, exactly its word, a `compare_swap` only where it
 /// answers the comparator. A refusal or a timeout changes nothing; and in each case nothing else has changed but the count
 /// of events. (GASPI: one-sided communication, notifications, state vector, segments, atomics, timeouts)
@@ -95,9 +103,11 @@ pub fn changes()
     ensures put { (s t : State) (origin queue target number : ℕ) → IsSound s → step s (Put origin queue target number Applied) ≡ Ok t
         → IsPutDone s t origin queue target number }
     ensures failed { (s t : State) (origin queue target number : ℕ) → IsSound s → step s (Put origin queue target number Failed) ≡ Ok t
-        → IsPutFailed s t origin queue target number }
-    ensures taken { (s t : State) (origin queue target number : ℕ) (outcome : Outcome) → IsSound s → step s (Take origin queue target number outcome) ≡ Ok t
+        → IsFailed s t origin queue target number may_put_fail }
+    ensures taken { (s t : State) (origin queue target number : ℕ) → IsSound s → step s (Take origin queue target number Applied) ≡ Ok t
         → IsTaken s t origin queue target number }
+    ensures take_failed { (s t : State) (origin queue target number : ℕ) → IsSound s → step s (Take origin queue target number Failed) ≡ Ok t
+        → IsFailed s t origin queue target number may_take_fail }
     ensures registered { (s t : State) (c : CallerId) (call : register.Register) → IsSound s → step s (Called c (Register call) replies.Done) ≡ Ok t
         → IsRegistered s t c.rank call.seg call.rank }
     ensures idle { (s t : State) (c : CallerId) (call : Call) (reply : Reply) → is_idle reply ≡ true → step s (Called c call reply) ≡ Ok t
@@ -108,6 +118,12 @@ pub fn changes()
         → IsGone s t c.rank call.seg }
     ensures waited { (s t : State) (c : CallerId) (call : wait.Wait) → IsSound s → step s (Called c (Wait call) replies.Done) ≡ Ok t
         → IsWaited s t c.rank call.queue }
+    ensures purged { (s t : State) (c : CallerId) (call : purge.Purge) → IsSound s → step s (Called c (Purge call) replies.Done) ≡ Ok t
+        → IsPurged s t c.rank call.queue }
+    ensures queue_size { (s t : State) (c : CallerId) (call : qsize.Qsize) (value : ℕ) → IsSound s → step s (Called c (Qsize call) (replies.Value value)) ≡ Ok t
+        → IsSizeAnswered s t c.rank call.queue value }
+    ensures state { (s t : State) (c : CallerId) (mask : ℕ) → IsSound s → step s (Called c calls.State (replies.Mask mask)) ≡ Ok t
+        → IsStateAnswered s t c.rank mask }
     ensures load { (s t : State) (c : CallerId) (call : load.Load) (bytes : List ℕ) → IsSound s → step s (Called c (Load call) (replies.Bytes bytes)) ≡ Ok t
         → IsRead s t c.rank call.seg (λ x. bytes ≡ range_of x.bytes call.offset call.size) }
     ensures waitsome { (s t : State) (c : CallerId) (call : waitsome.Waitsome) (note : ℕ) → IsSound s → step s (Called c (Waitsome call) (replies.Id note)) ≡ Ok t
@@ -134,14 +150,20 @@ pub fn corruption()
         → is_corrupt s rank target ≡ true → is_corrupt t rank target ≡ true }
 {}
 
-/// A notification comes after the earlier writes of its lane. The entries of a post stand in their lane from the post on.
-/// In a legal history, where a write stands in a lane after some events, and later a notification of that lane with a
-/// greater number is put, the write was put in between. (GASPI: notification order)
+/// A notification comes after the earlier writes of its lane since the queue's last purge. The entries of a post stand in
+/// their lane from the post on. In a legal history, where a write stands in a lane after some events, and later a
+/// notification of that lane with a greater number is put, and in between no purge of that queue by a caller of that origin
+/// was done, the write was put in between. So it is with reads and their notifications. (GASPI: notification order,
+/// queue_purge)
 pub fn notification_order()
     ensures write { (w : World) (history : List Event) (c : CallerId) (call : write.Write) (s : State) (posts : Posts)
         → IsWorld w → reached w history ≡ Ok s → slice_get s.posts c.rank ≡ Some posts
         → is_legal w (history ++ Called c (Write call) replies.Done ∷ []) ≡ true
         → IsWriteStanding w (history ++ Called c (Write call) replies.Done ∷ []) c.rank call.queue call.rank posts.next }
+    ensures read { (w : World) (history : List Event) (c : CallerId) (call : read.Read) (s : State) (posts : Posts)
+        → IsWorld w → reached w history ≡ Ok s → slice_get s.posts c.rank ≡ Some posts
+        → is_legal w (history ++ Called c (Read call) replies.Done ∷ []) ≡ true
+        → IsReadStanding w (history ++ Called c (Read call) replies.Done ∷ []) c.rank call.queue call.rank posts.next }
     ensures notify { (w : World) (history : List Event) (c : CallerId) (call : notify.Notify) (s : State) (posts : Posts)
         → IsWorld w → reached w history ≡ Ok s → slice_get s.posts c.rank ≡ Some posts
         → is_legal w (history ++ Called c (Notify call) replies.Done ∷ []) ≡ true
@@ -151,9 +173,20 @@ pub fn notification_order()
         → is_legal w (history ++ Called c (WriteNotify call) replies.Done ∷ []) ≡ true
         → IsWriteStanding w (history ++ Called c (WriteNotify call) replies.Done ∷ []) c.rank call.queue call.rank posts.next
         × IsNotificationStanding w (history ++ Called c (WriteNotify call) replies.Done ∷ []) c.rank call.queue call.rank (posts.next + 1) }
+    ensures read_notify { (w : World) (history : List Event) (c : CallerId) (call : read_notify.ReadNotify) (s : State) (posts : Posts)
+        → IsWorld w → reached w history ≡ Ok s → slice_get s.posts c.rank ≡ Some posts
+        → is_legal w (history ++ Called c (ReadNotify call) replies.Done ∷ []) ≡ true
+        → IsReadStanding w (history ++ Called c (ReadNotify call) replies.Done ∷ []) c.rank call.queue call.rank posts.next
+        × IsReadNoteStanding w (history ++ Called c (ReadNotify call) replies.Done ∷ []) c.rank call.queue call.rank (posts.next + 1) }
     ensures order { (w : World) (earlier later rest : List Event) (origin queue target m n : ℕ)
         → is_legal w (earlier ++ later ++ Put origin queue target n Applied ∷ rest) ≡ true
         → IsWriteStanding w earlier origin queue target m → IsNotificationStanding w (earlier ++ later) origin queue target n → m < n
+        → list_any (is_purge_of origin queue) later ≡ false
+        → (place : ℕ) × (slice_get later place ≡ Some (Put origin queue target m Applied)) }
+    ensures read_order { (w : World) (earlier later rest : List Event) (origin queue target m n : ℕ)
+        → is_legal w (earlier ++ later ++ Put origin queue target n Applied ∷ rest) ≡ true
+        → IsReadStanding w earlier origin queue target m → IsReadNoteStanding w (earlier ++ later) origin queue target n → m < n
+        → list_any (is_purge_of origin queue) later ≡ false
         → (place : ℕ) × (slice_get later place ≡ Some (Put origin queue target m Applied)) }
 {}
 

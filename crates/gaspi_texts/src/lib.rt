@@ -22,6 +22,3 @@ pub use text_laws::{
     events_differ_in_text, events_have_no_line_feed, read_replies_are_in_range,
     replies_differ_in_text, replies_read_back,
 };
-
-#[cfg(test)]
-mod tests;

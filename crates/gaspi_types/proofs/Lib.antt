@@ -1,6 +1,7 @@
 pub mod Chains
 pub mod Declarations
 pub mod Items
+pub mod MaskBits
 pub mod Extents
 pub mod Written
 mod InType

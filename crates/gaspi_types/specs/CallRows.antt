@@ -1,7 +1,7 @@
 -- What calls share: a row for each call. What is said of every call is said of its row.
 use Rattle.std.specs.Prelude.{ℕ, ◌+◌, ◌*◌, Bool, true, false, not, ◌&&◌, Option, None, Some, is_some, if◌then◌else◌}
 use Rattle.gaspi_types.specs.declared.calls.Call.{Call}
-use Rattle.gaspi_types.specs.declared.calls.Call.TheVariants.{Alloc, Register, Delete, Store, Load, Write, Notify, WriteNotify, Wait, Waitsome, Reset, FetchAdd, CompareSwap, End}
+use Rattle.gaspi_types.specs.declared.calls.Call.TheVariants.{Alloc, Register, Delete, Store, Load, Write, Read, Notify, WriteNotify, ReadNotify, Wait, Purge, Qsize, Waitsome, Reset, FetchAdd, CompareSwap, State, End}
 use Rattle.gaspi_types.specs.declared.call_rows.Posting.{Posting}
 use Rattle.gaspi_types.specs.declared.call_rows.CallRow.{CallRow}
 use Rattle.gaspi_types.specs.declared.touches.Touch.{Touch}
@@ -28,13 +28,18 @@ row_of (Delete call) = row_touching OwnMemory
 row_of (Store call) = with_memory (row_touching OwnMemory)
 row_of (Load call) = with_memory (row_touching OwnMemory)
 row_of (Write call) = with_memory (row_posting 1 call.rank call.queue)
+row_of (Read call) = with_memory (row_posting 1 call.rank call.queue)
 row_of (Notify call) = row_posting 1 call.rank call.queue
 row_of (WriteNotify call) = with_memory (row_posting 2 call.rank call.queue)
+row_of (ReadNotify call) = with_memory (row_posting 2 call.rank call.queue)
 row_of (Wait call) = with_timeout (row_touching Nothing)
+row_of (Purge call) = row_touching Nothing
+row_of (Qsize call) = row_touching Nothing
 row_of (Waitsome call) = with_timeout (row_touching OwnMemory)
 row_of (Reset call) = row_touching OwnMemory
 row_of (FetchAdd call) = row_touching (MemoryOf call.rank)
 row_of (CompareSwap call) = row_touching (MemoryOf call.rank)
+row_of State = row_touching Nothing
 row_of End = record (row_touching Nothing) { ends = true }
 
 -- how many entries are appended

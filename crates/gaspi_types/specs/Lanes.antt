@@ -1,10 +1,11 @@
 -- A lane: the entries of one origin, queue and target, in the order in which they were posted.
 -- (GASPI: one-sided communication)
-use Rattle.std.specs.Prelude.{ℕ, ◌+◌, Bool, true, false, not, ◌&&◌, ◌==◌, nat_lt, List, [], ◌∷◌, sum_by, count_by, position, Option}
+use Rattle.std.specs.Prelude.{ℕ, ◌+◌, Bool, true, false, not, ◌&&◌, ◌||◌, ◌==◌, nat_lt, List, [], ◌∷◌, sum_by, count_by, position, Option}
 use Rattle.std.specs.List.{list_any}
+use Rattle.gaspi_types.specs.Kinds.{is_write_kind, is_read_kind, is_notify_kind, is_read_note_kind}
 use Rattle.gaspi_types.specs.declared.entries.Entry.{Entry}
 use Rattle.gaspi_types.specs.declared.entries.Kind.{Kind}
-use Rattle.gaspi_types.specs.declared.entries.Kind.TheVariants.{Write, Notify}
+use Rattle.gaspi_types.specs.declared.entries.Kind.TheVariants.{Write, Read, Notify, ReadNote}
 use Rattle.gaspi_types.specs.declared.entries.Phase.{Phase}
 use Rattle.gaspi_types.specs.declared.entries.Phase.TheVariants.{Posted, Carried, Failed}
 
@@ -32,12 +33,17 @@ is_failed_phase Failed = true
 abbrev pub is_failed : Entry → Bool
 is_failed e = is_failed_phase e.phase
 
-abbrev pub is_write_kind : Kind → Bool
-is_write_kind (Write own target) = true
-is_write_kind (Notify target value) = false
-
 abbrev pub is_write : Entry → Bool
 is_write e = is_write_kind e.kind
+
+abbrev pub is_read : Entry → Bool
+is_read e = is_read_kind e.kind
+
+abbrev pub is_notify : Entry → Bool
+is_notify e = is_notify_kind e.kind
+
+abbrev pub is_read_note : Entry → Bool
+is_read_note e = is_read_note_kind e.kind
 
 -- the place of the entry with a number
 abbrev pub place_of : List Entry → ℕ → Option ℕ
@@ -51,8 +57,16 @@ carried_count lane = count_by is_carried lane
 abbrev pub has_earlier_write : List Entry → ℕ → Bool
 has_earlier_write lane number = list_any (λ e. is_write e && nat_lt e.number number) lane
 
-abbrev pub has_posted : List Entry → Bool
-has_posted lane = list_any is_posted lane
+-- the same of a read
+abbrev pub has_earlier_read : List Entry → ℕ → Bool
+has_earlier_read lane number = list_any (λ e. is_read e && nat_lt e.number number) lane
+
+-- A wait waits for an entry that is posted, and for a read and its notification as long as they stand (wait).
+abbrev pub is_awaited : Entry → Bool
+is_awaited e = is_posted e || is_read e || is_read_note e
+
+abbrev pub has_awaited : List Entry → Bool
+has_awaited lane = list_any is_awaited lane
 
 -- own choice: the events for which room is kept, two for a posted entry and one for a carried one
 abbrev pub phase_owed : Phase → ℕ
@@ -70,11 +84,13 @@ lane_owed lane = sum_by entry_owed lane
 abbrev pub may_take : ℕ → List Entry → Entry → Bool
 may_take depth lane e = is_posted e && nat_lt (carried_count lane) depth
 
--- may an entry of that kind be put, having taken its bytes: a write always, a notification where no earlier write
--- stands in the lane (notification order)
+-- may an entry of that kind be put, having taken its bytes: a write and a read always, a notification where no earlier
+-- write stands in the lane, and that of a read where no earlier read does (notification order; own choice for reads)
 abbrev pub may_put_kind : List Entry → ℕ → Kind → Bool
 may_put_kind lane number (Write own target) = true
+may_put_kind lane number (Read own target) = true
 may_put_kind lane number (Notify target value) = not (has_earlier_write lane number)
+may_put_kind lane number (ReadNote own) = not (has_earlier_read lane number)
 
 abbrev pub may_put : List Entry → Entry → Bool
 may_put lane e = is_carried e && may_put_kind lane e.number e.kind
@@ -84,14 +100,16 @@ abbrev pub posted_entries : ℕ → List Kind → List Entry
 posted_entries number [] = []
 posted_entries number (kind ∷ kinds) = record { number = number; kind = kind; phase = Posted } ∷ posted_entries (number + 1) kinds
 
--- An entry uses an own segment while it has to read or write it yet: a write until it has taken its bytes. A failed
--- entry uses nothing.
-abbrev pub is_source : ℕ → Kind → Bool
-is_source segment (Write own target) = own.segment == segment
-is_source segment (Notify target value) = false
+-- An entry uses an own segment while it has to read or write it yet: a write until it has taken its bytes, a read and its
+-- notification until they are put. A failed entry uses nothing.
+abbrev pub uses : ℕ → Phase → Kind → Bool
+uses segment phase (Write own target) = is_posted_phase phase && (own.segment == segment)
+uses segment phase (Read own target) = not (is_failed_phase phase) && (own.segment == segment)
+uses segment phase (Notify target value) = false
+uses segment phase (ReadNote own) = not (is_failed_phase phase) && (own.segment == segment)
 
 abbrev pub is_user : ℕ → Entry → Bool
-is_user segment e = is_posted e && is_source segment e.kind
+is_user segment e = uses segment e.phase e.kind
 
 abbrev pub has_user : ℕ → List Entry → Bool
 has_user segment lane = list_any (is_user segment) lane

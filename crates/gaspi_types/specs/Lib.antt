@@ -1,8 +1,10 @@
 pub mod CallRows
 pub mod Checks
 pub mod Copies
+pub mod Kinds
 pub mod Lanes
 pub mod Lending
+pub mod Masks
 pub mod NumberTypes
 pub mod Posts
 pub mod Queues

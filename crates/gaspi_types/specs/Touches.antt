@@ -1,7 +1,7 @@
 -- What an event touches beside the posts of its owner's rank, and what it then reaches. (own choice)
 use Rattle.std.specs.Prelude.{ℕ, ◌==◌, nat_lt, if◌then◌else◌}
 use Rattle.gaspi_types.specs.declared.entries.Kind.{Kind}
-use Rattle.gaspi_types.specs.declared.entries.Kind.TheVariants.{Write, Notify}
+use Rattle.gaspi_types.specs.declared.entries.Kind.TheVariants.{Write, Read, Notify, ReadNote}
 use Rattle.gaspi_types.specs.declared.touches.Touch.{Touch}
 use Rattle.gaspi_types.specs.declared.touches.Touch.TheVariants as touches
 use Rattle.gaspi_types.specs.declared.touches.Reach.{Reach}
@@ -14,12 +14,16 @@ reach_of ranks me touches.OwnMemory = OwnMemory
 reach_of ranks me (touches.MemoryOf rank) = if rank == me then OwnMemory else (if nat_lt rank ranks then PeerMemory rank else Alone)
 reach_of ranks me (touches.PostsOf rank) = if rank == me then Alone else (if nat_lt rank ranks then PeerPosts rank else Alone)
 
--- a write takes its bytes from its own segment, a notification takes nothing
-abbrev pub take_touch : Kind → Touch
-take_touch (Write own target) = touches.OwnMemory
-take_touch (Notify target value) = touches.Nothing
+-- a write takes its bytes from its own segment, a read from its target's, and notifications take nothing
+abbrev pub take_touch : ℕ → Kind → Touch
+take_touch rank (Write own target) = touches.OwnMemory
+take_touch rank (Read own target) = touches.MemoryOf rank
+take_touch rank (Notify target value) = touches.Nothing
+take_touch rank (ReadNote own) = touches.Nothing
 
--- both put into the memory of their target
+-- a write and a notification put into the memory of their target, a read and its notification into that of their origin
 abbrev pub put_touch : ℕ → Kind → Touch
 put_touch rank (Write own target) = touches.MemoryOf rank
+put_touch rank (Read own target) = touches.OwnMemory
 put_touch rank (Notify target value) = touches.MemoryOf rank
+put_touch rank (ReadNote own) = touches.OwnMemory

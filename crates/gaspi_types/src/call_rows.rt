@@ -102,13 +102,18 @@ impl Call {
             Call::Store(_) => CallRow::touching(Touch::OwnMemory).with_memory(),
             Call::Load(_) => CallRow::touching(Touch::OwnMemory).with_memory(),
             Call::Write(call) => CallRow::posting(1, call.rank, call.queue).with_memory(),
+            Call::Read(call) => CallRow::posting(1, call.rank, call.queue).with_memory(),
             Call::Notify(call) => CallRow::posting(1, call.rank, call.queue),
             Call::WriteNotify(call) => CallRow::posting(2, call.rank, call.queue).with_memory(),
+            Call::ReadNotify(call) => CallRow::posting(2, call.rank, call.queue).with_memory(),
             Call::Wait(_) => CallRow::touching(Touch::Nothing).with_timeout(),
+            Call::Purge(_) => CallRow::touching(Touch::Nothing),
+            Call::Qsize(_) => CallRow::touching(Touch::Nothing),
             Call::Waitsome(_) => CallRow::touching(Touch::OwnMemory).with_timeout(),
             Call::Reset(_) => CallRow::touching(Touch::OwnMemory),
             Call::FetchAdd(call) => CallRow::touching(Touch::MemoryOf(call.rank)),
             Call::CompareSwap(call) => CallRow::touching(Touch::MemoryOf(call.rank)),
+            Call::State => CallRow::touching(Touch::Nothing),
             Call::End => CallRow {
                 ends: true,
                 ..CallRow::touching(Touch::Nothing)

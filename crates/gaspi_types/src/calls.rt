@@ -14,8 +14,8 @@ use crate::memory::NoMemory;
 pub use atomics::{CompareSwap, FetchAdd};
 pub use memory::{Load, Store};
 pub use notifications::{Reset, Waitsome};
-pub use posts::{Notify, Write, WriteNotify};
-pub use queues::Wait;
+pub use posts::{Item, Notify, Read, ReadNotify, Write, WriteNotify};
+pub use queues::{Purge, Qsize, Wait};
 pub use segments::{Alloc, Delete, Register};
 use std::alloc::Global;
 
@@ -29,13 +29,19 @@ pub enum Call {
     Store(Store),
     Load(Load),
     Write(Write),
+    Read(Read),
     Notify(Notify),
     WriteNotify(WriteNotify),
+    ReadNotify(ReadNotify),
     Wait(Wait),
+    Purge(Purge),
+    Qsize(Qsize),
     Waitsome(Waitsome),
     Reset(Reset),
     FetchAdd(FetchAdd),
     CompareSwap(CompareSwap),
+    /// Which ranks are corrupt for the caller's rank. (GASPI: state_vec_get)
+    State,
     /// The end of a caller. (own choice)
     End,
 }
@@ -62,13 +68,18 @@ impl Call {
             Call::Store(call) => Ok(Call::Store(call.copy(alloc)?)),
             Call::Load(call) => Ok(Call::Load(*call)),
             Call::Write(call) => Ok(Call::Write(*call)),
+            Call::Read(call) => Ok(Call::Read(*call)),
             Call::Notify(call) => Ok(Call::Notify(*call)),
             Call::WriteNotify(call) => Ok(Call::WriteNotify(*call)),
+            Call::ReadNotify(call) => Ok(Call::ReadNotify(*call)),
             Call::Wait(call) => Ok(Call::Wait(*call)),
+            Call::Purge(call) => Ok(Call::Purge(*call)),
+            Call::Qsize(call) => Ok(Call::Qsize(*call)),
             Call::Waitsome(call) => Ok(Call::Waitsome(*call)),
             Call::Reset(call) => Ok(Call::Reset(*call)),
             Call::FetchAdd(call) => Ok(Call::FetchAdd(*call)),
             Call::CompareSwap(call) => Ok(Call::CompareSwap(*call)),
+            Call::State => Ok(Call::State),
             Call::End => Ok(Call::End),
         }
     }

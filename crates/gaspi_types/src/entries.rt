@@ -1,8 +1,12 @@
 //! Queues, and the entries of their lanes: the requests that a post appends, and that transfers carry out.
 //! (GASPI: one-sided communication)
 
+ghost use Rattle.std.specs.Prelude.{◌≡◌};
+ghost use Rattle.gaspi_types.specs.Kinds.{destination_of, source_of};
+
 use crate::ids::RankId;
 use crate::lists::{Bytes, Rows};
+use crate::segments::Extent;
 
 /// A range of bytes of a segment of that generation.
 #[derive(Clone, Copy, Debug, PartialEq, Eq)]
@@ -21,13 +25,60 @@ pub struct NoteSlot {
     pub note: u32,
 }
 
+/// The two ends of a transfer: the own segment and the target's as they are known, and a range in each.
+#[derive(Clone, Copy, Debug, PartialEq, Eq)]
+pub struct Ends {
+    pub mine: Extent,
+    pub theirs: Extent,
+    pub own: ByteRange,
+    pub target: ByteRange,
+}
+
 /// What an entry asks for. (GASPI: one-sided communication)
 #[derive(Clone, Copy, Debug, PartialEq, Eq)]
 pub enum Kind {
     /// The bytes of an own range go to a range of the target.
     Write { own: ByteRange, target: ByteRange },
+    /// The bytes of a range of the target go to an own range.
+    Read { own: ByteRange, target: ByteRange },
     /// A slot of the target gets a value, from 1 on.
     Notify { target: NoteSlot, value: u32 },
+    /// An own slot gets 1: the notification of a read.
+    ReadNote { own: NoteSlot },
+}
+
+/// What the put of an entry changes.
+#[derive(Clone, Copy, Debug, PartialEq, Eq)]
+pub enum Destination {
+    /// A range, which gets the bytes that the entry has taken.
+    Range(ByteRange),
+    /// A slot, which gets a value.
+    Slot(NoteSlot, u32),
+}
+
+impl Kind {
+    /// The range from which an entry takes its bytes, where it takes any.
+    pub fn source(&self) -> Option<ByteRange>
+        ensures { result ≡ source_of self.now }
+    {
+        match self {
+            Kind::Write { own, target: _ } => Some(*own),
+            Kind::Read { own: _, target } => Some(*target),
+            Kind::Notify { .. } | Kind::ReadNote { .. } => None,
+        }
+    }
+
+    /// What its put changes.
+    pub fn destination(&self) -> Destination
+        ensures { result ≡ destination_of self.now }
+    {
+        match self {
+            Kind::Write { own: _, target } => Destination::Range(*target),
+            Kind::Read { own, target: _ } => Destination::Range(*own),
+            Kind::Notify { target, value } => Destination::Slot(*target, *value),
+            Kind::ReadNote { own } => Destination::Slot(*own, 1),
+        }
+    }
 }
 
 /// How far an entry has come.

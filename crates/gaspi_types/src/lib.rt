@@ -8,6 +8,7 @@ mod entries;
 mod events;
 mod ids;
 mod lists;
+mod masks;
 mod memory;
 mod replies;
 mod segments;
@@ -16,19 +17,17 @@ mod touches;
 
 pub use call_rows::{CallRow, Posting, need};
 pub use calls::{
-    Alloc, Call, CompareSwap, Delete, FetchAdd, Load, Notify, Register, Reset, Store, Timeout,
-    Wait, Waitsome, Write, WriteNotify,
+    Alloc, Call, CompareSwap, Delete, FetchAdd, Item, Load, Notify, Purge, Qsize, Read, ReadNotify,
+    Register, Reset, Store, Timeout, Wait, Waitsome, Write, WriteNotify,
 };
 pub use collectives::{Coll, NumType, Numbers, Op, Stage, are_in_type, is_in_type};
-pub use entries::{ByteRange, Entry, Kind, NoteSlot, Phase, Queue};
+pub use entries::{ByteRange, Destination, Ends, Entry, Kind, NoteSlot, Phase, Queue};
 pub use events::{Event, Outcome, Transfer};
 pub use ids::{NoteId, QueueId, RankId, SegId, ThreadId};
 pub use lists::{Bytes, Rows};
+pub use masks::mask_of;
 pub use memory::NoMemory;
 pub use replies::{Ready, Refusal, Reply};
 pub use segments::{Extent, Extents, OwnSegments, Segment, SegmentTable, is_segment_size};
 pub use shapes::{CallerId, Declared, Limits, Shape, ShapeFault};
 pub use touches::{Reach, Touch};
-
-#[cfg(test)]
-mod tests;

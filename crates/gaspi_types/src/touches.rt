@@ -60,22 +60,25 @@ impl Touch {
 }
 
 impl Kind {
-    /// What the take of an entry of that kind touches: a write takes its bytes from its own segment.
-    pub fn take_touch(&self) -> Touch
-        ensures { result ≡ take_touch self.now }
+    /// What the take of an entry of that kind touches: a write takes its bytes from its own segment, a read from its
+    /// target's.
+    pub fn take_touch(&self, target: RankId) -> Touch
+        ensures { result ≡ take_touch target self.now }
     {
         match self {
             Kind::Write { .. } => Touch::OwnMemory,
-            Kind::Notify { .. } => Touch::Nothing,
+            Kind::Read { .. } => Touch::MemoryOf(u64::from(target.number())),
+            Kind::Notify { .. } | Kind::ReadNote { .. } => Touch::Nothing,
         }
     }
 
-    /// What its put touches: the memory of its target.
+    /// What its put touches: the memory of its target, or, of a read and its notification, that of its origin.
     pub fn put_touch(&self, target: RankId) -> Touch
         ensures { result ≡ put_touch target self.now }
     {
         match self {
             Kind::Write { .. } | Kind::Notify { .. } => Touch::MemoryOf(u64::from(target.number())),
+            Kind::Read { .. } | Kind::ReadNote { .. } => Touch::OwnMemory,
         }
     }
 }

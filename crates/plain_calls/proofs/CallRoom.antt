@@ -1,4 +1,5 @@
--- The room of a call that may be recorded: a post's numbers fit, and what its rank has taken grows by its charge.
+-- The room of a call that may be recorded: a post's numbers fit, and what its rank has taken grows by its charge, less what
+-- a purge frees.
 use Rattle.std.proofs.Common.{◌≡◌, ℕ, ◌+◌, ◌*◌, ◌^◌, ◌<◌, ◌≤◌, Bool, true, false, cond, nat_le, nat_lt, List, [], ◌++◌, Option, None, Some, Result, Ok, Err, length, get_or, count_by, sum_by, slice_get, slice_set, refl, sym, ap, subst, ◌∙◌, arith}
 use Rattle.std.proofs.lemmas.Bool.Decides.{nat_tests}
 use Rattle.std.proofs.lemmas.List.Sums.{sum_by-append}
@@ -14,7 +15,7 @@ use Rattle.gaspi_types.specs.declared.entries.Kind.{Kind}
 use Rattle.gaspi_types.specs.declared.shapes.Limits.{Limits}
 use Rattle.gaspi_types.specs.declared.call_rows.Posting.{Posting}
 use Rattle.gaspi_types.specs.declared.calls.Call.{Call}
-use Rattle.gaspi_types.specs.declared.calls.Call.TheVariants.{Alloc, Wait, End}
+use Rattle.gaspi_types.specs.declared.calls.Call.TheVariants.{Alloc, Wait, Purge, End}
 use Rattle.gaspi_types.specs.declared.calls.segments.Alloc as alloc
 use Rattle.gaspi_types.specs.declared.replies.Refusal.{Refusal}
 use Rattle.gaspi_types.specs.declared.replies.Reply.{Reply}
@@ -26,6 +27,7 @@ use Rattle.gaspi_types.specs.Queues.{queue_owed, with_entries}
 use Rattle.gaspi_model.specs.Calls.{call_asks, call_finds, answer, ready_of, recorded_reply, posts_done, posts_after, charge}
 use Rattle.gaspi_model.specs.Posting.{with_post}
 use Rattle.gaspi_types.specs.Tables.{changed_at}
+use Rattle.gaspi_model.specs.QueueCalls.{emptied}
 use Rattle.gaspi_model.specs.SegmentCalls.{alloc_finds}
 use Rattle.gaspi_model.specs.Sound.{IsSoundPosts}
 use Rattle.gaspi_types.specs.declared.entries.Queue.{Queue}
@@ -33,9 +35,10 @@ use Rattle.gaspi_model.specs.declared.states.Posts.{Posts}
 use Rattle.gaspi_model.specs.declared.states.Memory.{Memory}
 use Rattle.gaspi_model.specs.declared.states.ThreadState.{ThreadState}
 use Rattle.gaspi_model.specs.declared.states.ThreadState.TheVariants as threads
-use Rattle.plain_calls.specs.Room.{IsRoom, HasPostingRoom, HasAllocRoom, HasPlainRoom, HasCallRoom}
+use Rattle.plain_calls.specs.Room.{IsRoom, HasPostingRoom, HasAllocRoom, HasPlainRoom, HasCallRoom, purged_queue, owed_at, freed_at, freed}
 use Rattle.gaspi_types.proofs.Chains.{bind_then, check_holds}
 use Rattle.gaspi_types.proofs.Items.{changed_at-found}
+use Rattle.gaspi_model.proofs.Sound.OpenCounts.{sum-emptied}
 use Rattle.plain_calls.proofs.Owed.{sum_by-put, lane_owed-posted}
 use Rattle.plain_calls.proofs.Postings.{IsPost, post_by, HasLength, IsPosting, posting_of}
 
@@ -188,6 +191,29 @@ owed-changed queues queue change same = by_item (slice_get queues queue) refl
         let is = changed_at-found queues queue q change there in
         rw is (omega arith)
 
+-- a queue that is emptied owes no more what it owed
+owed-emptied : (queues : List Queue) (queue : ℕ) → sum_by queue_owed (changed_at queues queue emptied) + owed_at queues queue ≡ sum_by queue_owed queues
+owed-emptied queues queue = by_item (slice_get queues queue) refl
+  where
+    by_item : (o : Option Queue) → slice_get queues queue ≡ o → sum_by queue_owed (changed_at queues queue emptied) + owed_at queues queue ≡ sum_by queue_owed queues
+    by_item None there = rw there (omega arith)
+    by_item (Some q) there =
+        let put = sum_by-put queue_owed queues queue q (emptied q) there in
+        let none : queue_owed (emptied q) ≡ 0 = sum-emptied lane_owed q.lanes refl in
+        rw there (omega (arith, put, none))
+
+-- what the entries of a queue owe is at most what all do
+owed_at-part : (queues : List Queue) (queue : ℕ) → owed_at queues queue ≤ sum_by queue_owed queues
+owed_at-part queues queue = let all = owed-emptied queues queue in omega (arith, all)
+
+pub freed-part : (posts : Posts) (call : Call) (reply : Reply) → freed posts call reply ≤ owed posts
+freed-part posts call reply = by_idle (is_idle reply) (purged_queue call)
+  where
+    by_idle : (idle : Bool) (purged : Option ℕ) → cond idle 0 (freed_at posts.queues purged) ≤ owed posts
+    by_idle true purged = omega arith
+    by_idle false None = omega arith
+    by_idle false (Some queue) = let part = owed_at-part posts.queues queue in omega (arith, part)
+
 -- a lane with entries added
 owed-entries : (q : Queue) (rank number : ℕ) (kinds : List Kind) → rank < length q.lanes
     → queue_owed (with_entries rank (posted_entries number kinds) q) ≡ queue_owed q + 2 * length kinds
@@ -241,27 +267,36 @@ post_taken limits posts rank queue asked reply reply_found entries sound p done 
 -- of a call that posts nothing
 plain_taken : (limits : Limits) (me : ℕ) (posts : Posts) (memory : Memory) (thread : ℕ) (call : Call) (reply : Reply)
     → (row_of call).posting ≡ None → IsFound limits me posts memory thread call reply
-    → 1 + owed (posts_done limits me posts thread call) ≡ owed posts + charge (thread_at posts thread) call reply
+    → 1 + owed (posts_done limits me posts thread call) + freed_at posts.queues (purged_queue call) ≡ owed posts + charge (thread_at posts thread) call reply
 plain_taken limits me posts memory thread (Wait call) reply is f =
     let same = owed-changed posts.queues call.queue (λ (q : Queue). record q { open_count = 0 }) (λ q. refl) in
     let one = one_event (is_done reply) in omega (arith, same, one)
+plain_taken limits me posts memory thread (Purge call) reply is f =
+    let less = owed-emptied posts.queues call.queue in
+    let one = one_event (is_done reply) in omega (arith, less, one)
 plain_taken limits me posts memory thread End reply is f = let less = owed-end posts thread f.running in rw f.running (omega (arith, less))
 plain_taken limits me posts memory thread call reply is f = let one = one_event (is_done reply) in first_of (cc, omega (arith, one))
+
+-- a post purges nothing
+post_frees : (queues : List Queue) (call : Call) (posting : Posting) → (row_of call).posting ≡ Some posting → ◌≡◌ {A = ℕ} (freed_at queues (purged_queue call)) 0
+post_frees queues (Purge call) posting is = absurd (let no : ⊥ = cc in no)
+post_frees queues call posting is = refl
 
 -- what a rank has taken grows by the charge of a call that is not idle
 busy_taken : (limits : Limits) (me : ℕ) (posts : Posts) (memory : Memory) (thread : ℕ) (call : Call) (reply : Reply)
     → IsSoundPosts limits posts → IsFound limits me posts memory thread call reply
-    → 1 + owed (posts_done limits me posts thread call) ≡ owed posts + charge (thread_at posts thread) call reply
+    → 1 + owed (posts_done limits me posts thread call) + freed_at posts.queues (purged_queue call) ≡ owed posts + charge (thread_at posts thread) call reply
 busy_taken limits me posts memory thread call reply sound f = by_posting (row_of call).posting refl
   where
     by_posting : (posting : Option Posting) → (row_of call).posting ≡ posting
-        → 1 + owed (posts_done limits me posts thread call) ≡ owed posts + charge (thread_at posts thread) call reply
+        → 1 + owed (posts_done limits me posts thread call) + freed_at posts.queues (purged_queue call) ≡ owed posts + charge (thread_at posts thread) call reply
     by_posting None is = plain_taken limits me posts memory thread call reply is f
     by_posting (Some posting) is =
         let p = posting_of limits me posts call posting is in
-        rw (p.leaves thread, p.charged (thread_at posts thread) reply)
-        (post_taken limits posts posting.rank posting.queue (call_asks limits me posts call) reply f.reply_found posting.entries sound
-        (posted limits me posts memory thread call reply posting p f) f.done p.long)
+        let nothing = post_frees posts.queues call posting is in
+        let grows = post_taken limits posts posting.rank posting.queue (call_asks limits me posts call) reply f.reply_found posting.entries sound
+        (posted limits me posts memory thread call reply posting p f) f.done p.long in
+        rw (p.leaves thread, p.charged (thread_at posts thread) reply, nothing) (omega (arith, grows))
 
 -- no call that is not idle counts itself
 done_events : (limits : Limits) (me : ℕ) (posts : Posts) (thread : ℕ) (call : Call) → (posts_done limits me posts thread call).events ≡ posts.events
@@ -281,15 +316,15 @@ done_events limits me posts thread call = by_posting (row_of call).posting refl
         let p = posting_of limits me posts call posting is in
         rw (p.leaves thread) (of_post posting.queue posting.rank (call_asks limits me posts call))
 
--- what a rank has taken grows by the charge of its call
+-- what a rank has taken grows by the charge of its call, less what that frees
 pub taken_by : (limits : Limits) (me : ℕ) (posts : Posts) (memory : Memory) (thread : ℕ) (call : Call) (reply : Reply)
     → IsSoundPosts limits posts → same_reply reply (recorded_reply (answer limits me posts memory thread call)) ≡ true
-    → (posts_after limits me posts thread call reply).events + owed (posts_after limits me posts thread call reply)
+    → (posts_after limits me posts thread call reply).events + owed (posts_after limits me posts thread call reply) + freed posts call reply
     ≡ posts.events + owed posts + charge (thread_at posts thread) call reply
 taken_by limits me posts memory thread call reply sound same = by_idle (is_idle reply) refl
   where
     by_idle : (idle : Bool) → is_idle reply ≡ idle
-        → (posts_after limits me posts thread call reply).events + owed (posts_after limits me posts thread call reply)
+        → (posts_after limits me posts thread call reply).events + owed (posts_after limits me posts thread call reply) + freed posts call reply
         ≡ posts.events + owed posts + charge (thread_at posts thread) call reply
     by_idle true idle = let one = idle_charge limits me posts memory thread call reply same idle in rw idle (omega (arith, one))
     by_idle false busy =

@@ -1,5 +1,5 @@
-pub mod Both
 pub mod CallRoom
+pub mod Emptied
 pub mod PostedEntries
 pub mod Looked
 pub mod Owed

@@ -1,11 +1,11 @@
 -- What a look found, recorded: the step by the call with that reply.
-use Rattle.std.proofs.Common.{◌≡◌, ℕ, ◌+◌, Bool, true, false, nat_le, List, [], Option, None, Some, Result, Ok, Err, length, refl, sym, ap, subst, ◌∙◌}
+use Rattle.std.proofs.Common.{◌≡◌, ℕ, ◌+◌, ◌-◌, ◌≤◌, arith, Bool, true, false, nat_le, List, [], Option, None, Some, Result, Ok, Err, length, refl, sym, ap, subst, ◌∙◌}
 use Rattle.gaspi_types.specs.CallRows.{row_of}
 use Rattle.gaspi_types.specs.Replies.{is_idle, same_reply}
 use Rattle.gaspi_types.specs.World.{are_limits}
 use Rattle.gaspi_types.specs.declared.call_rows.Posting.{Posting}
 use Rattle.gaspi_types.specs.declared.calls.Call.{Call}
-use Rattle.gaspi_types.specs.declared.calls.Call.TheVariants.{Write, Notify, WriteNotify}
+use Rattle.gaspi_types.specs.declared.calls.Call.TheVariants.{Write, Read, Notify, WriteNotify, ReadNotify}
 use Rattle.gaspi_types.specs.declared.entries.Kind.{Kind}
 use Rattle.gaspi_types.specs.declared.shapes.Limits.{Limits}
 use Rattle.gaspi_types.specs.declared.replies.Ready.{Ready}
@@ -22,22 +22,26 @@ use Rattle.gaspi_model.specs.declared.states.Why.{Why}
 use Rattle.gaspi_model.specs.declared.states.Why.TheVariants as whys
 use Rattle.gaspi_model.proofs.Listed.Enabled.{same_reply-refl}
 use Rattle.plain_calls.specs.Looks.{IsFinding, kinds_of, found_done, found_after, made_of}
-use Rattle.plain_calls.specs.Room.{HasCallRoom}
+use Rattle.plain_calls.specs.Room.{HasCallRoom, freed}
 use Rattle.plain_calls.specs.declared.looks.Finding.{Finding}
 use Rattle.plain_calls.proofs.CallRoom.{found_by, room_by, taken_by}
 
 -- a call that posts nothing asks for nothing
 pub plain_asks : (limits : Limits) (me : ℕ) (posts : Posts) (call : Call) → (row_of call).posting ≡ None → call_asks limits me posts call ≡ Ok []
 plain_asks limits me posts (Write call) is = absurd (let no : ⊥ = cc in no)
+plain_asks limits me posts (Read call) is = absurd (let no : ⊥ = cc in no)
 plain_asks limits me posts (Notify call) is = absurd (let no : ⊥ = cc in no)
 plain_asks limits me posts (WriteNotify call) is = absurd (let no : ⊥ = cc in no)
+plain_asks limits me posts (ReadNotify call) is = absurd (let no : ⊥ = cc in no)
 plain_asks limits me posts call is = refl
 
 -- a call that posts changes no memory
 pub posting_memory : (limits : Limits) (posts : Posts) (memory : Memory) (call : Call) (to : Posting) → (row_of call).posting ≡ Some to → memory_done limits posts memory call ≡ memory
 posting_memory limits posts memory (Write call) to is = refl
+posting_memory limits posts memory (Read call) to is = refl
 posting_memory limits posts memory (Notify call) to is = refl
 posting_memory limits posts memory (WriteNotify call) to is = refl
+posting_memory limits posts memory (ReadNotify call) to is = refl
 posting_memory limits posts memory call to is = absurd (let no : ⊥ = cc in no)
 
 -- what was found is what the call asks for
@@ -89,11 +93,18 @@ look_limit look limits me posts memory thread call l there full = rw (there, loo
 -- what the rank has taken grows by the charge
 pub look_taken : (look : Finding) (limits : Limits) (me : ℕ) (posts : Posts) (memory : Memory) (thread : ℕ) (call : Call)
     → IsSoundPosts limits posts → IsFinding look limits me posts memory thread call
-    → (found_after posts thread call look).events + owed (found_after posts thread call look)
+    → (found_after posts thread call look).events + owed (found_after posts thread call look) + freed posts call (recorded_reply look.ready)
     ≡ posts.events + owed posts + charge (thread_at posts thread) call (recorded_reply look.ready)
 look_taken look limits me posts memory thread call sound l =
-    ap (λ (p : Posts). p.events + owed p) (found_after-same look limits me posts memory thread call l)
+    ap (λ (p : Posts). p.events + owed p + freed posts call (recorded_reply look.ready)) (found_after-same look limits me posts memory thread call l)
     ∙ taken_by limits me posts memory thread call (recorded_reply look.ready) sound (look_same look limits me posts memory thread call l)
+
+-- what is left of a total without what is freed
+pub less-freed : (after freed total result : ℕ) → after + freed ≡ total → result ≡ freed → total - result ≡ after
+less-freed after freed total result all is = omega (arith, all, is)
+
+pub freed-within : (after freed total result : ℕ) → after + freed ≡ total → result ≡ freed → result ≤ total
+freed-within after freed total result all is = omega (arith, all, is)
 
 pub charged : (t t' : ThreadState) (call : Call) (ready : Ready) (n : ℕ) → t ≡ t' → n ≡ charge t call (recorded_reply ready) → n ≡ charge t' call (recorded_reply ready)
 charged t t' call ready n state is = is ∙ ap (λ (t : ThreadState). charge t call (recorded_reply ready)) state

@@ -1,18 +1,11 @@
 -- A call that posts: what it asks for, what it finds and what it leaves, as its row says.
-use Rattle.std.proofs.Common.{◌≡◌, ℕ, ◌+◌, ◌*◌, ◌≤◌, true, not, ◌==◌, nat_le, nat_lt, List, [], ◌∷◌, Option, Some, Result, Ok, if◌then◌else◌, length, slice_get, refl, sym, ap, arith}
+use Rattle.std.proofs.Common.{◌≡◌, ℕ, ◌+◌, ◌*◌, ◌≤◌, true, nat_le, nat_lt, List, Option, Some, Result, Ok, if◌then◌else◌, length, slice_get, refl, sym, ap, arith}
 use Rattle.gaspi_types.specs.CallRows.{row_of, entries_of, is_post}
 use Rattle.gaspi_types.specs.Checks.{check, found, absent}
-use Rattle.gaspi_types.specs.Posts.{write_kinds, notify_kinds, write_notify_kinds}
 use Rattle.gaspi_types.specs.Replies.{is_done}
-use Rattle.gaspi_types.specs.SegmentBytes.{is_transfer_size, is_within}
-use Rattle.gaspi_types.specs.SegmentTables.{extent_in, known_extent}
 use Rattle.gaspi_types.specs.declared.call_rows.Posting.{Posting}
 use Rattle.gaspi_types.specs.declared.calls.Call.{Call}
-use Rattle.gaspi_types.specs.declared.calls.Call.TheVariants.{Write, Notify, WriteNotify}
-use Rattle.gaspi_types.specs.declared.calls.posts.Write as write
-use Rattle.gaspi_types.specs.declared.calls.posts.Notify as notify
-use Rattle.gaspi_types.specs.declared.calls.posts.WriteNotify as write_notify
-use Rattle.gaspi_types.specs.declared.segments.SegmentTable.{SegmentTable}
+use Rattle.gaspi_types.specs.declared.calls.Call.TheVariants.{Write, Read, Notify, WriteNotify, ReadNotify}
 use Rattle.gaspi_types.specs.declared.entries.Kind.{Kind}
 use Rattle.gaspi_types.specs.declared.shapes.Limits.{Limits}
 use Rattle.gaspi_types.specs.declared.replies.Refusal.{Refusal}
@@ -25,6 +18,7 @@ use Rattle.gaspi_types.specs.declared.entries.Queue.{Queue}
 use Rattle.gaspi_model.specs.declared.states.Posts.{Posts}
 use Rattle.gaspi_model.specs.declared.states.Memory.{Memory}
 use Rattle.gaspi_model.specs.declared.states.ThreadState.{ThreadState}
+use Rattle.gaspi_model.proofs.Asked.{write-ok, read-ok, notify-ok, write_notify-ok, read_notify-ok}
 use Rattle.gaspi_types.proofs.Chains.{bind_then, found_there, check_holds}
 
 -- what an accepted post stands on
@@ -54,36 +48,6 @@ post_by limits posts rank queue asked reply is =
 abbrev pub HasLength : Result (List Kind) Refusal → ℕ → Type 0
 HasLength asked entries = (kinds : List Kind) → asked ≡ Ok kinds → length kinds ≡ entries
 
-same_length : (those kinds : List Kind) → ◌≡◌ {A = Result (List Kind) Refusal} (Ok those) (Ok kinds) → length kinds ≡ length those
-same_length those kinds is = let same : those ≡ kinds = cc in sym (ap length same)
-
--- a write
-one_write : (me : ℕ) (table : SegmentTable) (call : write.Write) → HasLength (write_kinds me table call) 1
-one_write me table call kinds is =
-    bind_then (found (extent_in table.own call.seg) _) _ _ is (λ mine a more.
-    bind_then (found (known_extent me table call.rank call.rseg) _) _ _ more (λ theirs a more.
-    bind_then (check (is_transfer_size call.size) _) _ _ more (λ u a more.
-    bind_then (check (is_within call.offset call.size mine.size) _) _ _ more (λ u a more.
-    bind_then (check (is_within call.roffset call.size theirs.size) _) _ _ more (λ u a more. same_length (_ ∷ []) kinds more)))))
-
--- a notification
-one_notify : (notes me : ℕ) (table : SegmentTable) (call : notify.Notify) → HasLength (notify_kinds notes me table call) 1
-one_notify notes me table call kinds is =
-    bind_then (found (known_extent me table call.rank call.rseg) _) _ _ is (λ theirs a more.
-    bind_then (check (nat_lt call.note notes) _) _ _ more (λ u a more.
-    bind_then (check (not (call.value == 0)) _) _ _ more (λ u a more. same_length (_ ∷ []) kinds more)))
-
--- a write and its notification
-two_kinds : (notes me : ℕ) (table : SegmentTable) (call : write_notify.WriteNotify) → HasLength (write_notify_kinds notes me table call) 2
-two_kinds notes me table call kinds is =
-    bind_then (found (extent_in table.own call.seg) _) _ _ is (λ mine a more.
-    bind_then (found (known_extent me table call.rank call.rseg) _) _ _ more (λ theirs a more.
-    bind_then (check (is_transfer_size call.size) _) _ _ more (λ u a more.
-    bind_then (check (is_within call.offset call.size mine.size) _) _ _ more (λ u a more.
-    bind_then (check (is_within call.roffset call.size theirs.size) _) _ _ more (λ u a more.
-    bind_then (check (nat_lt call.note notes) _) _ _ more (λ u a more.
-    bind_then (check (not (call.value == 0)) _) _ _ more (λ u a more. same_length (_ ∷ _ ∷ []) kinds more)))))))
-
 -- a call that posts asks for as many entries as its row says, one or two, and owes as many where it is done
 record IsCounted (limits : Limits) (me : ℕ) (posts : Posts) (call : Call) (entries : ℕ) : Type 0 where
   long : HasLength (call_asks limits me posts call) entries
@@ -93,11 +57,15 @@ record IsCounted (limits : Limits) (me : ℕ) (posts : Posts) (call : Call) (ent
 
 counted_of : (limits : Limits) (me : ℕ) (posts : Posts) (call : Call) → is_post call ≡ true → IsCounted limits me posts call (entries_of call)
 counted_of limits me posts (Write call) is =
-    record { long = one_write me posts.segments call; few = omega arith; some = omega arith; charged = λ t reply. refl }
+    record { long = λ kinds asks. ap length (write-ok me posts.segments call kinds asks).is; few = omega arith; some = omega arith; charged = λ t reply. refl }
+counted_of limits me posts (Read call) is =
+    record { long = λ kinds asks. ap length (read-ok me posts.segments call kinds asks).is; few = omega arith; some = omega arith; charged = λ t reply. refl }
 counted_of limits me posts (Notify call) is =
-    record { long = one_notify limits.notes me posts.segments call; few = omega arith; some = omega arith; charged = λ t reply. refl }
+    record { long = λ kinds asks. ap length (notify-ok limits.notes me posts.segments call kinds asks).is; few = omega arith; some = omega arith; charged = λ t reply. refl }
 counted_of limits me posts (WriteNotify call) is =
-    record { long = two_kinds limits.notes me posts.segments call; few = omega arith; some = omega arith; charged = λ t reply. refl }
+    record { long = λ kinds asks. ap length (write_notify-ok limits.notes me posts.segments call kinds asks).is; few = omega arith; some = omega arith; charged = λ t reply. refl }
+counted_of limits me posts (ReadNotify call) is =
+    record { long = λ kinds asks. ap length (read_notify-ok limits.notes me posts.segments call kinds asks).is; few = omega arith; some = omega arith; charged = λ t reply. refl }
 counted_of limits me posts call is = absurd (let no : ⊥ = cc in no)
 
 -- a call that posts does what its row says

@@ -1,13 +1,16 @@
 -- When a call has room for the numbers that it counts on: a post for those of its entries and for its queue's open count,
--- and a segment that is made for its generation and its size.
-use Rattle.std.specs.Prelude.{◌≡◌, ℕ, ◌+◌, ◌<◌, ◌^◌, slice_get, Option, None, Some}
+-- and a segment that is made for its generation and its size. And what a call frees of the room that its rank has taken.
+use Rattle.std.specs.Prelude.{◌≡◌, ℕ, ◌+◌, ◌<◌, ◌^◌, List, slice_get, Option, None, Some, if◌then◌else◌}
 use Rattle.gaspi_types.specs.CallRows.{row_of}
+use Rattle.gaspi_types.specs.Queues.{queue_owed}
+use Rattle.gaspi_types.specs.Replies.{is_idle}
 use Rattle.gaspi_types.specs.SegmentTables.{next_generation}
 use Rattle.gaspi_types.specs.declared.call_rows.Posting.{Posting}
 use Rattle.gaspi_types.specs.declared.calls.Call.{Call}
-use Rattle.gaspi_types.specs.declared.calls.Call.TheVariants.{Alloc}
+use Rattle.gaspi_types.specs.declared.calls.Call.TheVariants.{Alloc, Purge}
 use Rattle.gaspi_types.specs.declared.calls.segments.Alloc as alloc
 use Rattle.gaspi_types.specs.declared.entries.Queue.{Queue}
+use Rattle.gaspi_types.specs.declared.replies.Reply.{Reply}
 use Rattle.gaspi_model.specs.declared.states.Posts.{Posts}
 
 -- for so many entries of a queue
@@ -32,3 +35,25 @@ HasPlainRoom posts call = Unit {0}
 pub record HasCallRoom (posts : Posts) (call : Call) (entries : ℕ) : Type 0 where
   pub posting : HasPostingRoom posts (row_of call).posting entries
   pub plain : HasPlainRoom posts call
+
+-- the queue that a call purges
+abbrev pub purged_queue : Call → Option ℕ
+purged_queue (Purge call) = Some call.queue
+purged_queue call = None
+
+-- what the entries of a queue owe, if it is there
+abbrev pub owed_at : List Queue → ℕ → ℕ
+owed_at queues queue = owed_by (slice_get queues queue)
+  where
+    owed_by : Option Queue → ℕ
+    owed_by None = 0
+    owed_by (Some q) = queue_owed q
+
+-- what is freed where a queue is purged, or none
+abbrev pub freed_at : List Queue → Option ℕ → ℕ
+freed_at queues None = 0
+freed_at queues (Some queue) = owed_at queues queue
+
+-- what a call frees of the room that its rank has taken: a purge that is done what the entries of its queue owed
+abbrev pub freed : Posts → Call → Reply → ℕ
+freed posts call reply = if is_idle reply then 0 else freed_at posts.queues (purged_queue call)

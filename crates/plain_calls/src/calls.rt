@@ -17,7 +17,7 @@ use crate::memory_calls::{load_finds, store_finds, store_leaves};
 use crate::notification_calls::{reset_finds, reset_leaves, waitsome_finds};
 use crate::post_calls::posting_finds;
 use crate::posting::post;
-use crate::queue_calls::{closed, wait_finds};
+use crate::queue_calls::{closed, purge_finds, purged, qsize_finds, state_finds, wait_finds};
 use crate::replies::ready_of;
 use crate::segment_calls::{
     News, alloc_finds, alloc_leaves, delete_finds, delete_leaves, register_finds, register_news,
@@ -39,7 +39,8 @@ fn plain_finds(
     memory: &Memory,
     call: &Call,
 ) -> Result<Result<Option<Reply>, Refusal>, NoMemory>
-    requires { length posts.now.queues ≤ 8 }
+    requires queues { length posts.now.queues ≤ 8 }
+    requires corrupt { length posts.now.corrupt ≤ 32 }
     ensures finds { IfOk result (λ finds. finds ≡ plain_finds limits.now me posts.now memory.now call.now) }
     ensures ample { is_load call.now ≡ false → IsOk result }
 {
@@ -50,6 +51,8 @@ fn plain_finds(
         Call::Store(call) => store_finds(posts, call),
         Call::Load(call) => load_finds(alloc, posts, memory, call)?,
         Call::Wait(call) => wait_finds(posts, call),
+        Call::Purge(call) => purge_finds(posts, call),
+        Call::Qsize(call) => qsize_finds(posts, call),
         Call::Waitsome(call) => waitsome_finds(limits, posts, memory, call),
         Call::Reset(call) => reset_finds(limits, posts, memory, call),
         Call::FetchAdd(
@@ -68,6 +71,7 @@ fn plain_finds(
                 ..
             },
         ) => { word_finds(limits, me, posts, memory, *seg, *offset, *rank) }
+        Call::State => state_finds(posts),
         _ => Ok(Some(Reply::Done)),
     })
 }
@@ -99,7 +103,8 @@ pub fn look(
     thread: ThreadId,
     call: &Call,
 ) -> Result<Finding, NoMemory>
-    requires { length posts.now.queues ≤ 8 }
+    requires queues { length posts.now.queues ≤ 8 }
+    requires corrupt { length posts.now.corrupt ≤ 32 }
     ensures look { IfOk result (λ look. IsFinding look limits.now me posts.now memory.now thread call.now) }
     ensures ample { is_load call.now ≡ false → IsOk result }
 {
@@ -142,6 +147,7 @@ fn plain_done(
         Call::Delete(call) => delete_leaves(posts, memory, call),
         Call::Store(call) => store_leaves(memory, call),
         Call::Wait(call) => closed(posts, call.queue),
+        Call::Purge(call) => purged(posts, call.queue),
         Call::Reset(call) => reset_leaves(memory, call),
         Call::FetchAdd(call) => fetch_add_leaves(memory, call),
         Call::CompareSwap(call) => compare_swap_leaves(memory, call),

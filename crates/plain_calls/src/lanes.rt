@@ -1,7 +1,7 @@
 //! Lanes: the entries of one origin, queue and target. (GASPI: one-sided communication)
 
 ghost use Rattle.std.specs.Prelude.{◌≡◌, ◌+◌, ◌≤◌, ◌^◌, ◌<◌, length, IfOk};
-ghost use Rattle.gaspi_types.specs.Lanes.{is_posted, is_carried, is_write, place_of, carried_count, has_earlier_write, has_posted, is_user, has_user, may_take, may_put, posted_entries};
+ghost use Rattle.gaspi_types.specs.Lanes.{is_posted, is_carried, is_failed, is_write, is_read, place_of, carried_count, has_earlier_write, has_earlier_read, is_awaited, has_awaited, entry_owed, lane_owed, is_user, has_user, may_take, may_put, posted_entries};
 
 use gaspi_types::{Entry, Kind, NoMemory, Phase, Rows};
 use std::alloc::Global;
@@ -27,6 +27,13 @@ pub fn is_write(entry: &Entry) -> bool
     matches!(entry.kind, Kind::Write { .. })
 }
 
+/// Whether an entry reads bytes.
+pub fn is_read(entry: &Entry) -> bool
+    ensures { result ≡ is_read entry.now }
+{
+    matches!(entry.kind, Kind::Read { .. })
+}
+
 /// The place of the entry with a number.
 pub fn place_of(lane: &Rows<Entry>, number: u32) -> Option<usize>
     ensures { result ≡ place_of lane.now number }
@@ -50,24 +57,68 @@ pub fn has_earlier_write(lane: &Rows<Entry>, number: u32) -> bool
         .any(|e| is_write(e) && e.number < number)
 }
 
-/// Whether an entry stands as it was posted.
-pub fn has_posted(lane: &Rows<Entry>) -> bool
-    ensures { result ≡ has_posted lane.now }
+/// Whether a read with a smaller number stands in the lane.
+pub fn has_earlier_read(lane: &Rows<Entry>, number: u32) -> bool
+    ensures { result ≡ has_earlier_read lane.now number }
 {
-    lane.as_slice().iter().any(is_posted)
+    lane.as_slice()
+        .iter()
+        .any(|e| is_read(e) && e.number < number)
 }
 
-/// Whether an entry has to read an own segment yet.
+/// Whether a wait waits for an entry: one that is posted, and a read and its notification as long as they stand.
+fn is_awaited(entry: &Entry) -> bool
+    ensures { result ≡ is_awaited entry.now }
+{
+    is_posted(entry) || matches!(entry.kind, Kind::Read { .. } | Kind::ReadNote { .. })
+}
+
+/// Whether a wait waits for an entry of a lane.
+pub fn has_awaited(lane: &Rows<Entry>) -> bool
+    ensures { result ≡ has_awaited lane.now }
+{
+    lane.as_slice().iter().any(is_awaited)
+}
+
+/// Whether an entry has failed.
+fn is_failed(entry: &Entry) -> bool
+    ensures { result ≡ is_failed entry.now }
+{
+    matches!(entry.phase, Phase::Failed)
+}
+
+/// How many events an entry owes: two where it is posted, and one where it has taken its bytes. (own choice)
+fn entry_owed(entry: &Entry) -> u32
+    ensures { result ≡ entry_owed entry.now }
+{
+    match entry.phase {
+        Phase::Posted => 2,
+        Phase::Carried(_) => 1,
+        Phase::Failed => 0,
+    }
+}
+
+/// How many events the entries of a lane owe.
+pub fn lane_owed(lane: &Rows<Entry>) -> u32
+    requires { lane_owed lane.now < 2 ^ 32 }
+    ensures { result ≡ lane_owed lane.now }
+{
+    lane.as_slice().iter().map(|e| entry_owed(e)).sum()
+}
+
+/// Whether an entry has to read or write an own segment yet.
 fn is_user(segment: u64, entry: &Entry) -> bool
     ensures { result ≡ is_user segment entry.now }
 {
     match &entry.kind {
         Kind::Write { own, target: _ } => is_posted(entry) && u64::from(own.segment) == segment,
+        Kind::Read { own, target: _ } => !is_failed(entry) && u64::from(own.segment) == segment,
         Kind::Notify { .. } => false,
+        Kind::ReadNote { own } => !is_failed(entry) && u64::from(own.segment) == segment,
     }
 }
 
-/// Whether an entry of a lane has to read an own segment yet.
+/// Whether an entry of a lane has to read or write an own segment yet.
 pub fn has_user(segment: u64, lane: &Rows<Entry>) -> bool
     ensures { result ≡ has_user segment lane.now }
 {
@@ -85,7 +136,12 @@ pub fn may_take(depth: u32, lane: &Rows<Entry>, entry: &Entry) -> bool
 pub fn may_put(lane: &Rows<Entry>, entry: &Entry) -> bool
     ensures { result ≡ may_put lane.now entry.now }
 {
-    is_carried(entry) && (is_write(entry) || !has_earlier_write(lane, entry.number))
+    is_carried(entry)
+        && match entry.kind {
+            Kind::Write { .. } | Kind::Read { .. } => true,
+            Kind::Notify { .. } => !has_earlier_write(lane, entry.number),
+            Kind::ReadNote { .. } => !has_earlier_read(lane, entry.number),
+        }
 }
 
 /// The entries of a post, numbered on from a number.

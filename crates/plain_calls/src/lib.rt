@@ -18,9 +18,10 @@ mod segment_calls;
 mod threads;
 
 pub use calls::{look, news, tell};
-pub use lanes::{is_carried, is_posted, is_write, may_put, may_take, place_of};
+pub use lanes::{is_carried, is_posted, is_read, is_write, may_put, may_take, place_of};
 pub use looks::{Finding, Kinds};
 pub use memories::{bytes_of, new_slots, segment_at, set_slot};
+pub use queue_calls::purged_queue;
 pub use recording::record;
 pub use segment_calls::News;
 pub use threads::{is_running, is_there, thread_at};

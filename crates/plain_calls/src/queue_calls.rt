@@ -1,22 +1,26 @@
-//! The calls on a queue: what they find, and what they leave. (GASPI: one-sided communication)
+//! The calls on a queue and on the state vector: what they find, and what they leave. (GASPI: one-sided communication, state
+//! vector)
 
-ghost use Rattle.std.specs.Prelude.{◌≡◌};
+ghost use Rattle.std.specs.Prelude.{◌≡◌, ◌≤◌, ◌<◌, ◌^◌, length, map};
 ghost use Rattle.std.specs.List.{list_any};
-ghost use Rattle.gaspi_types.specs.Lanes.{has_posted};
-ghost use Rattle.gaspi_model.specs.QueueCalls.{wait_finds, closed};
+ghost use Rattle.gaspi_types.specs.Lanes.{has_awaited};
+ghost use Rattle.gaspi_types.specs.Queues.{queue_owed};
+ghost use Rattle.gaspi_model.specs.QueueCalls.{wait_finds, purge_finds, qsize_finds, state_finds, closed, without_entries, emptied, purged};
+ghost use Rattle.plain_calls.specs.Room.{purged_queue, owed_at};
 
-use crate::lanes::has_posted;
+use crate::lanes::{has_awaited, lane_owed};
 use gaspi_model::Posts;
-use gaspi_types::{Queue, Refusal, Reply, Wait};
+use gaspi_types::{Call, Entry, Purge, Qsize, Queue, Refusal, Reply, Rows, Wait, mask_of};
 
-/// Whether an entry of a queue is posted.
-fn has_posted_entry(q: &Queue) -> bool
-    ensures { result ≡ list_any has_posted q.now.lanes }
+/// Whether a wait waits for an entry of a queue.
+fn has_awaited_entry(q: &Queue) -> bool
+    ensures { result ≡ list_any has_awaited q.now.lanes }
 {
-    q.lanes.as_slice().iter().any(has_posted)
+    q.lanes.as_slice().iter().any(has_awaited)
 }
 
-/// Looks at a wait: ready where no entry of its queue is posted. (GASPI: wait)
+/// Looks at a wait: ready where no entry of its queue is posted, and no read and no notification of a read stands in it.
+/// (GASPI: wait)
 pub fn wait_finds(posts: &Posts, call: &Wait) -> Result<Option<Reply>, Refusal>
     ensures { result ≡ wait_finds posts.now call.now }
 {
@@ -29,11 +33,41 @@ pub fn wait_finds(posts: &Posts, call: &Wait) -> Result<Option<Reply>, Refusal>
             rank: rank.number(),
         });
     }
-    if has_posted_entry(q) {
+    if has_awaited_entry(q) {
         Ok(None)
     } else {
         Ok(Some(Reply::Done))
     }
+}
+
+/// Looks at a purge: its queue is there, broken or not. (GASPI: queue_purge)
+pub fn purge_finds(posts: &Posts, call: &Purge) -> Result<Option<Reply>, Refusal>
+    ensures { result ≡ purge_finds posts.now call.now }
+{
+    posts
+        .queues
+        .get(call.queue as usize)
+        .ok_or(Refusal::BadQueue)?;
+    Ok(Some(Reply::Done))
+}
+
+/// Looks at the size of a queue: its open count. (GASPI: queue_size)
+pub fn qsize_finds(posts: &Posts, call: &Qsize) -> Result<Option<Reply>, Refusal>
+    ensures { result ≡ qsize_finds posts.now call.now }
+{
+    let q = posts
+        .queues
+        .get(call.queue as usize)
+        .ok_or(Refusal::BadQueue)?;
+    Ok(Some(Reply::Value(u64::from(q.open_count))))
+}
+
+/// Looks at the state vector: the ranks that are corrupt. (GASPI: state_vec_get)
+pub fn state_finds(posts: &Posts) -> Result<Option<Reply>, Refusal>
+    requires { length posts.now.corrupt ≤ 32 }
+    ensures { result ≡ state_finds posts.now }
+{
+    Ok(Some(Reply::Mask(mask_of(posts.corrupt.as_slice()))))
 }
 
 /// Clears the open count of a queue. (GASPI: wait)
@@ -43,5 +77,66 @@ pub fn closed(posts: &mut Posts, queue: u64)
     let place = queue as usize;
     if place < posts.queues.len() {
         posts.queues.at_mut(place).open_count = 0;
+    }
+}
+
+/// Drops the entries of lanes.
+fn empty_lanes(lanes: &mut Rows<Rows<Entry>>)
+    ensures { lanes.new ≡ map without_entries lanes.old }
+{
+    for target in 0..lanes.len() {
+        lanes.at_mut(target).truncate(0);
+    }
+}
+
+/// Drops the entries of a queue, clears its open count and mends it.
+fn empty_queue(q: &mut Queue)
+    ensures { q.new ≡ emptied q.old }
+{
+    q.open_count = 0;
+    q.broken = None;
+    empty_lanes(&mut q.lanes);
+}
+
+/// Drops the entries of a rank's queue, clears its open count and mends it. Its corrupt ranks stay so. (GASPI: queue_purge)
+pub fn purged(posts: &mut Posts, queue: u64)
+    ensures { posts.new ≡ purged posts.old queue }
+{
+    let place = queue as usize;
+    if place < posts.queues.len() {
+        empty_queue(posts.queues.at_mut(place));
+    }
+}
+
+/// The queue that a call purges.
+pub fn purged_queue(call: &Call) -> Option<u64>
+    ensures { result ≡ purged_queue call.now }
+{
+    match call {
+        Call::Purge(call) => Some(call.queue),
+        _ => None,
+    }
+}
+
+/// How many events the entries of a queue owe.
+fn queue_owed(q: &Queue) -> u32
+    requires { queue_owed q.now < 2 ^ 32 }
+    ensures { result ≡ queue_owed q.now }
+{
+    let mut owed = 0;
+    for lane in q.lanes.as_slice() {
+        owed += lane_owed(lane);
+    }
+    owed
+}
+
+/// How many events the entries of a queue owe, if it is there.
+pub fn owed_at(queues: &Rows<Queue>, queue: u64) -> u32
+    requires { owed_at queues.now queue < 2 ^ 32 }
+    ensures { result ≡ owed_at queues.now queue }
+{
+    match queues.get(queue as usize) {
+        Some(q) => queue_owed(q),
+        None => 0,
     }
 }

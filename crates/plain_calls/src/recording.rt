@@ -10,10 +10,11 @@ ghost use Rattle.gaspi_model.specs.Step.{called, Steps, is_there};
 ghost use Rattle.gaspi_model.specs.Transfers.{Worked};
 ghost use Rattle.plain_calls.specs.Looks.{IsFinding, kinds_of, found_after, made_of};
 ghost use Rattle.plain_calls.specs.Memory.{keeps_memory};
-ghost use Rattle.plain_calls.specs.Room.{HasCallRoom};
+ghost use Rattle.plain_calls.specs.Room.{HasCallRoom, freed};
 
 use crate::calls::call_done;
 use crate::looks::Finding;
+use crate::queue_calls::{owed_at, purged_queue};
 use crate::replies::{is_idle, recorded_reply};
 use crate::threads::{is_running, thread_at};
 use gaspi_model::{Memory, Posts, StepFault, ThreadState, Why};
@@ -34,6 +35,20 @@ fn charge(state: ThreadState, call: &Call, ready: &Ready) -> u32
         1 + 2 * row.entries()
     } else {
         1
+    }
+}
+
+/// What a call whose look is recorded frees of the room that its rank has taken: a purge what its queue's entries owe.
+fn freed(posts: &Posts, call: &Call, look: &Finding) -> u32
+    requires { freed posts.now call.now (recorded_reply look.now.ready) < 2 ^ 32 }
+    ensures { result ≡ freed posts.now call.now (recorded_reply look.now.ready) }
+{
+    if look.is_idle() {
+        return 0;
+    }
+    match purged_queue(call) {
+        Some(queue) => owed_at(&posts.queues, queue),
+        None => 0,
     }
 }
 
@@ -102,9 +117,10 @@ pub fn record(
     if room > limits.events {
         return Err(StepFault::Illegal(Why::Limit));
     }
+    let freed = freed(posts, call, &look);
     match record_found(alloc, limits, posts, memory, thread, call, look) {
         Ok(reply) => {
-            *taken = room;
+            *taken = room - freed;
             Ok(reply)
         }
         Err(NoMemory) => Err(StepFault::NoMemory),

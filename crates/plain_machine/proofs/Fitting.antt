@@ -1,5 +1,6 @@
 -- Ranks and queues keep their numbers: at the start, and at every step.
-use Rattle.std.proofs.Common.{◌≡◌, ℕ, zero, suc, ◌+◌, Bool, true, false, nat_le, List, [], ◌∷◌, Option, None, Some, Result, Ok, Err, ◌⊎◌, inl, inr, length, slice_get, slice_set, refl, sym, ap, ◌∙◌}
+use Rattle.std.proofs.Common.{◌≡◌, ℕ, zero, suc, ◌+◌, ◌≤◌, arith, Bool, true, false, nat_le, List, [], ◌∷◌, Option, None, Some, Result, Ok, Err, ◌⊎◌, inl, inr, length, slice_get, slice_set, refl, sym, ap, ◌∙◌}
+use Rattle.std.proofs.lemmas.Bool.Decides.{nat_tests}
 use Rattle.std.proofs.lemmas.List.{length-set}
 use Rattle.gaspi_types.specs.CallRows.{row_of}
 use Rattle.gaspi_types.specs.Checks.{check}
@@ -16,6 +17,7 @@ use Rattle.gaspi_model.specs.State.{owed, thread_at}
 use Rattle.gaspi_model.specs.Calls.{call_asks, answer, recorded_reply, charge, posts_done, posts_after, memory_after}
 use Rattle.gaspi_model.specs.Posting.{with_post}
 use Rattle.gaspi_types.specs.Tables.{changed_at}
+use Rattle.gaspi_model.specs.Sound.{IsSound}
 use Rattle.gaspi_model.specs.Step.{step, called, is_there}
 use Rattle.gaspi_model.specs.Transfers.{Worked}
 use Rattle.gaspi_model.specs.declared.states.Posts.{Posts}
@@ -27,7 +29,7 @@ use Rattle.plain_machine.specs.Reaching.{call_reach}
 use Rattle.gaspi_types.proofs.Chains.{bind_then}
 use Rattle.gaspi_types.proofs.Items.{changed_at-found}
 use Rattle.plain_calls.proofs.Postings.{posting_of}
-use Rattle.plain_calls.proofs.Queues.{plain_queues}
+use Rattle.plain_calls.proofs.Queues.{one_queue}
 use Rattle.plain_machine.proofs.Reached.{called_back, taken_back, put_back, told_by}
 use Rattle.plain_machine.proofs.Kept.{take_keeps, put_keeps}
 
@@ -55,9 +57,9 @@ queues-done limits me posts thread call = by_posting (row_of call).posting refl
   where
     by_posting : (posting : Option Posting) → (row_of call).posting ≡ posting → length (posts_done limits me posts thread call).queues ≡ length posts.queues
     by_posting None is =
-        elim (plain_queues limits me posts thread call is) [
+        elim (one_queue limits me posts thread call is) [
           | inl same ↦ ap length same
-          | inr at ↦ ap length at.1 ∙ length-changed_at posts.queues at.0 _
+          | inr at ↦ ap length at.2 ∙ length-changed_at posts.queues at.0 at.1
         ]
     by_posting (Some posting) is =
         let p = posting_of limits me posts call posting is in
@@ -107,6 +109,13 @@ fitting_changed s rank change posts memories kept fits = by_item (slice_get post
     by_item (Some q) there =
         rw (changed_at-found posts rank q change there)
         (fitting_with (record { limits = s.limits; posts = posts; memories = memories }) rank q (change q) memories fits refl there (ap length (kept q)))
+
+-- a state vector has a mark for each rank, and so few
+pub few_marks : (s : State) → IsSound s → (rank : ℕ) (p : Posts) → slice_get s.posts rank ≡ Some p → length p.corrupt ≤ 32
+few_marks s sound rank p there =
+    let marks = (sound.posts rank p there).tables.corrupt in
+    let limited = sound.limits in
+    grind (arith, nat_tests, marks, limited)
 
 -- the same posts
 fitting_at : (s t : State) (posts : List Posts) → posts ≡ t.posts → IsFitting (record { limits = s.limits; posts = posts; memories = t.memories }) → IsFitting t

@@ -13,7 +13,7 @@ use Rattle.gaspi_model.specs.State.{owed}
 use Rattle.gaspi_types.specs.Queues.{queue_owed}
 use Rattle.gaspi_model.specs.Posting.{counted}
 use Rattle.gaspi_types.specs.Tables.{changed_at}
-use Rattle.gaspi_model.specs.Transfers.{Found, find_entry, bytes_taken, queue_phase, posts_phase, take, memory_after_put, queue_without, queue_failed, posts_after_put, put, Worked}
+use Rattle.gaspi_model.specs.Transfers.{Found, find_entry, bytes_taken, queue_phase, posts_after_take, take, memory_after_put, queue_without, queue_failed, posts_after_put, put, Worked}
 use Rattle.gaspi_types.specs.declared.entries.Queue.{Queue}
 use Rattle.gaspi_model.specs.declared.states.Posts.{Posts}
 use Rattle.gaspi_model.specs.declared.states.Memory.{Memory}
@@ -22,8 +22,8 @@ use Rattle.gaspi_types.proofs.Chains.{bind_then, found_there, check_holds}
 use Rattle.gaspi_types.proofs.Items.{changed_at-found}
 use Rattle.plain_calls.proofs.Owed.{sum_by-put, sum_by-taken}
 
-pub record IsKept (old new : Posts) : Type 0 where
-  pub taken : new.events + owed new ≡ old.events + owed old
+pub record IsKept (spares : ℕ) (old new : Posts) : Type 0 where
+  pub taken : new.events + owed new + spares ≡ old.events + owed old
   pub queues : length new.queues ≡ length old.queues
 
 -- where an entry was found
@@ -56,11 +56,11 @@ pub lanes_without : (posts : Posts) (queue target : ℕ) (at : Found) → IsAt p
     → (queue_without target at.place at.queue).lanes ≡ slice_set at.queue.lanes target (remove at.lane at.place)
 lanes_without posts queue target at there = rw there.lane refl
 
--- a lane replaced by one that owes one event less
-kept_lane : (posts : Posts) (queue target : ℕ) (at : Found) (change : Queue → Queue) (lane : List Entry) (corrupt : List Bool) → IsAt posts queue target at
-    → (change at.queue).lanes ≡ slice_set at.queue.lanes target lane → lane_owed lane + 1 ≡ lane_owed at.lane
-    → IsKept posts (counted (record posts { queues = changed_at posts.queues queue change; corrupt = corrupt }))
-kept_lane posts queue target at change lane corrupt there lanes less =
+-- a lane replaced by one that owes one event less, and those that are spared
+kept_lane : (posts : Posts) (queue target : ℕ) (at : Found) (change : Queue → Queue) (lane : List Entry) (corrupt : List Bool) (spares : ℕ) → IsAt posts queue target at
+    → (change at.queue).lanes ≡ slice_set at.queue.lanes target lane → lane_owed lane + 1 + spares ≡ lane_owed at.lane
+    → IsKept spares posts (counted (record posts { queues = changed_at posts.queues queue change; corrupt = corrupt }))
+kept_lane posts queue target at change lane corrupt spares there lanes less =
     let at_queue = changed_at-found posts.queues queue at.queue change there.q in
     let all = sum_by-put queue_owed posts.queues queue at.queue (change at.queue) there.q in
     let own = sum_by-put lane_owed at.queue.lanes target at.lane lane there.lane in
@@ -81,27 +81,39 @@ first_holds : (a b : Bool) → (a && b) ≡ true → a ≡ true
 first_holds true b is = refl
 first_holds false b is = cc
 
--- a take keeps the room that is taken: its entry owes one event less
+-- a take keeps the room that is taken: its entry owes one event less, and where it failed none
+abbrev pub spares_of : Outcome → ℕ
+spares_of Applied = 0
+spares_of Failed = 1
+
 pub take_keeps : (limits : Limits) (posts : Posts) (memory : Memory) (queue target number : ℕ) (outcome : Outcome) (after : Posts)
-    → take limits posts memory queue target number outcome ≡ Ok after → IsKept posts after
+    → take limits posts memory queue target number outcome ≡ Ok after → IsKept (spares_of outcome) posts after
 take_keeps limits posts memory queue target number outcome after is =
     bind_then (find_entry posts queue target number _) _ _ is (λ at found_it more.
     bind_then (bytes_taken limits memory at outcome) _ _ more (λ bytes given left.
     bind_then (check (is_none at.queue.broken) _) _ _ given (λ u whole more.
     bind_then (check (may_take limits.depth at.lane at.entry) _) _ _ more (λ u permitted more.
-    taken at bytes after (found_at _ _ _ _ _ at found_it) (first_holds _ _ (check_holds _ _ _ permitted)) left))))
+    done at bytes outcome after (found_at _ _ _ _ _ at found_it) (first_holds _ _ (check_holds _ _ _ permitted)) left))))
   where
-    taken : (at : Found) (bytes : List ℕ) (after : Posts) → IsAt posts queue target at → is_posted at.entry ≡ true
-        → ◌≡◌ {A = Result Posts Why} (Ok (counted (posts_phase posts queue target at.place (phases.Carried bytes)))) (Ok after) → IsKept posts after
-    taken at bytes after there posted is =
-        let same : counted (posts_phase posts queue target at.place (phases.Carried bytes)) ≡ after = cc in
+    kept_with : (at : Found) (bytes : List ℕ) (outcome : Outcome) → IsAt posts queue target at → is_posted at.entry ≡ true → IsKept (spares_of outcome) posts (posts_after_take posts queue target at.place bytes outcome)
+    kept_with at bytes Applied there posted =
         let put = sum_by-put entry_owed at.lane at.place at.entry (record at.entry { phase = phases.Carried bytes }) there.entry in
         let owes = posted_owes at.entry.phase posted in
-        rw (← same) (kept_lane posts queue target at (queue_phase target at.place (phases.Carried bytes)) _ posts.corrupt there (phase_lanes posts queue target at (phases.Carried bytes) there) (omega (arith, put, owes)))
+        kept_lane posts queue target at (queue_phase target at.place (phases.Carried bytes)) _ posts.corrupt 0 there (phase_lanes posts queue target at (phases.Carried bytes) there) (omega (arith, put, owes))
+    kept_with at bytes Failed there posted =
+        let put = sum_by-put entry_owed at.lane at.place at.entry (record at.entry { phase = phases.Failed }) there.entry in
+        let owes = posted_owes at.entry.phase posted in
+        kept_lane posts queue target at (queue_failed target at.place) _ (slice_set posts.corrupt target true) 1 there (phase_lanes posts queue target at phases.Failed there) (omega (arith, put, owes))
+
+    done : (at : Found) (bytes : List ℕ) (outcome : Outcome) (after : Posts) → IsAt posts queue target at → is_posted at.entry ≡ true
+        → ◌≡◌ {A = Result Posts Why} (Ok (posts_after_take posts queue target at.place bytes outcome)) (Ok after) → IsKept (spares_of outcome) posts after
+    done at bytes outcome after there posted is =
+        let same : posts_after_take posts queue target at.place bytes outcome ≡ after = cc in
+        rw (← same) (kept_with at bytes outcome there posted)
 
 -- a put keeps it too, also one that failed
 pub put_keeps : (posts : Posts) (memory : Memory) (queue target number : ℕ) (outcome : Outcome) (after : Worked)
-    → put posts memory queue target number outcome ≡ Ok after → IsKept posts after.posts
+    → put posts memory queue target number outcome ≡ Ok after → IsKept 0 posts after.posts
 put_keeps posts memory queue target number outcome after is =
     bind_then (find_entry posts queue target number _) _ _ is (λ at found_it more.
     bind_then (memory_after_put memory at outcome) _ _ more (λ m given left.
@@ -109,18 +121,18 @@ put_keeps posts memory queue target number outcome after is =
     bind_then (check (may_put at.lane at.entry) _) _ _ more (λ u permitted more.
     done at outcome m (found_at _ _ _ _ _ at found_it) (first_holds _ _ (check_holds _ _ _ permitted)) left))))
   where
-    kept_with : (at : Found) (outcome : Outcome) → IsAt posts queue target at → is_carried at.entry ≡ true → IsKept posts (posts_after_put posts queue target at.place outcome)
+    kept_with : (at : Found) (outcome : Outcome) → IsAt posts queue target at → is_carried at.entry ≡ true → IsKept 0 posts (posts_after_put posts queue target at.place outcome)
     kept_with at Applied there carried =
         let put = sum_by-taken entry_owed at.lane at.place at.entry there.entry in
         let owes = carried_owes at.entry.phase carried in
-        kept_lane posts queue target at (queue_without target at.place) _ posts.corrupt there (lanes_without posts queue target at there) (omega (arith, put, owes))
+        kept_lane posts queue target at (queue_without target at.place) _ posts.corrupt 0 there (lanes_without posts queue target at there) (omega (arith, put, owes))
     kept_with at Failed there carried =
         let put = sum_by-put entry_owed at.lane at.place at.entry (record at.entry { phase = phases.Failed }) there.entry in
         let owes = carried_owes at.entry.phase carried in
-        kept_lane posts queue target at (queue_failed target at.place) _ (slice_set posts.corrupt target true) there (phase_lanes posts queue target at phases.Failed there) (omega (arith, put, owes))
+        kept_lane posts queue target at (queue_failed target at.place) _ (slice_set posts.corrupt target true) 0 there (phase_lanes posts queue target at phases.Failed there) (omega (arith, put, owes))
 
     done : (at : Found) (outcome : Outcome) (m : Memory) → IsAt posts queue target at → is_carried at.entry ≡ true
-        → ◌≡◌ {A = Result Worked Why} (Ok (record { posts = posts_after_put posts queue target at.place outcome; memory = m })) (Ok after) → IsKept posts after.posts
+        → ◌≡◌ {A = Result Worked Why} (Ok (record { posts = posts_after_put posts queue target at.place outcome; memory = m })) (Ok after) → IsKept 0 posts after.posts
     done at outcome m there carried is =
         let same : record { posts = posts_after_put posts queue target at.place outcome; memory = m } ≡ after = cc in
         rw (← same) (kept_with at outcome there carried)

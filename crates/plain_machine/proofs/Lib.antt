@@ -1,3 +1,4 @@
+pub mod Dropped
 pub mod Fitting
 pub mod Kept
 pub mod Lifted

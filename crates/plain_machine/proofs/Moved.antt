@@ -1,27 +1,28 @@
 -- A take and a put in the whole state, from the entry that was found.
-use Rattle.std.proofs.Common.{◌≡◌, ℕ, ◌<◌, ◌==◌, nat_lt, Bool, true, false, List, length, map, Option, None, Some, Result, Ok, Err, IfOk, slice_get, slice_set, refl, sym, ap, subst, ◌∙◌, arith}
+use Rattle.std.proofs.Common.{◌≡◌, ℕ, ◌+◌, ◌-◌, ◌<◌, ◌==◌, nat_lt, Bool, true, false, List, [], length, map, Option, None, Some, Result, Ok, Err, IfOk, IsOk, slice_get, slice_set, refl, sym, ap, subst, ◌∙◌, arith}
 use Rattle.std.proofs.lemmas.Bool.{eqb-true}
 use Rattle.std.proofs.lemmas.Bool.Decides.{nat_tests}
-use Rattle.std.specs.Option.{unwrap_or}
-use Rattle.std.proofs.lemmas.Option.{slice_get_within}
+use Rattle.std.specs.Option.{option_map, unwrap_or}
+use Rattle.std.proofs.lemmas.List.{map-set}
+use Rattle.std.proofs.lemmas.Option.{slice_get_within, slice_get-map}
 use Rattle.gaspi_types.specs.Checks.{◌>>=◌, found}
 use Rattle.gaspi_types.specs.Lanes.{place_of}
 use Rattle.gaspi_types.specs.Touches.{reach_of, take_touch, put_touch}
-use Rattle.gaspi_types.specs.declared.entries.Phase.TheVariants as phases
 use Rattle.gaspi_types.specs.declared.entries.Kind.{Kind}
-use Rattle.gaspi_types.specs.declared.entries.Kind.TheVariants.{Write, Notify}
+use Rattle.gaspi_types.specs.declared.entries.Kind.TheVariants.{Write, Read, Notify, ReadNote}
 use Rattle.gaspi_types.specs.declared.events.Event.TheVariants.{Take, Put}
 use Rattle.gaspi_types.specs.declared.events.Outcome.{Outcome}
-use Rattle.gaspi_types.specs.declared.events.Outcome.TheVariants.{Failed}
+use Rattle.gaspi_types.specs.declared.events.Outcome.TheVariants.{Applied, Failed}
 use Rattle.gaspi_types.specs.declared.shapes.Limits.{Limits}
 use Rattle.gaspi_types.specs.declared.touches.Touch.{Touch}
 use Rattle.gaspi_types.specs.declared.touches.Touch.TheVariants as touches
 use Rattle.gaspi_types.specs.declared.touches.Reach.{Reach}
 use Rattle.gaspi_types.specs.declared.touches.Reach.TheVariants.{PeerMemory}
 use Rattle.gaspi_model.specs.Parts.{no_memory, memory_or_none}
-use Rattle.gaspi_model.specs.Posting.{counted}
+use Rattle.gaspi_model.specs.State.{owed}
+use Rattle.gaspi_types.specs.Tables.{changed_at}
 use Rattle.gaspi_model.specs.Step.{step, Steps}
-use Rattle.gaspi_model.specs.Transfers.{Found, find_entry, posts_phase, bytes_taken, put_outcome, memory_after_put, posts_after_put, Worked}
+use Rattle.gaspi_model.specs.Transfers.{Found, find_entry, bytes_taken, outcome_at, take_outcome, put_outcome, memory_after_put, posts_after_take, posts_after_put, Worked}
 use Rattle.gaspi_model.specs.declared.states.Posts.{Posts}
 use Rattle.gaspi_model.specs.declared.states.Memory.{Memory}
 use Rattle.gaspi_model.specs.declared.states.State.{State}
@@ -29,15 +30,19 @@ use Rattle.gaspi_model.specs.declared.states.StepFault.{StepFault}
 use Rattle.gaspi_model.specs.declared.states.StepFault.TheVariants as faults
 use Rattle.gaspi_model.specs.declared.states.Why.{Why}
 use Rattle.gaspi_model.specs.declared.states.Why.TheVariants as whys
-use Rattle.plain_machine.specs.Entries.{reached_outcome, memories_after_put}
-use Rattle.plain_machine.specs.Machine.{taken_of, put_event}
+use Rattle.plain_machine.specs.Entries.{reached_outcome, memories_after_put, outcome_of_taken, GivesTaken, posts_taken, spared}
+use Rattle.plain_machine.specs.declared.transfers.Taken.{Taken}
+use Rattle.plain_machine.specs.declared.transfers.Taken.TheVariants.{Bytes}
+use Rattle.plain_machine.specs.declared.transfers.Taken.TheVariants as taken_is
+use Rattle.plain_machine.specs.Machine.{taken_of, take_event, put_event}
 use Rattle.plain_machine.specs.Reaching.{entry_reach, memory_at, with_memory_at}
 use Rattle.plain_machine.specs.declared.standing.LaneId.{LaneId}
-use Rattle.plain_machine.proofs.Kept.{take_keeps, put_keeps}
+use Rattle.plain_machine.proofs.Kept.{spares_of, take_keeps, put_keeps}
 use Rattle.plain_machine.proofs.Lifted.{lift_steps}
 use Rattle.plain_machine.proofs.Lists.{map_kept}
 use Rattle.plain_machine.proofs.Reached.{take_as, put_as, taken_back, put_back, memory_peer}
 use Rattle.gaspi_types.proofs.Chains.{bind_then, found_there}
+use Rattle.gaspi_types.proofs.Items.{changed_at-found}
 
 -- what is found does not turn on the cause that is given where nothing is
 found_for : (posts : Posts) (queue target number : ℕ) (why why' : Why) (at : Found) → find_entry posts queue target number why ≡ Ok at → find_entry posts queue target number why' ≡ Ok at
@@ -61,14 +66,14 @@ two_changes (Ok x) f g = refl
 two_changes (Err why) f g = refl
 
 pub take_found : (s : State) (origin queue target number : ℕ) (outcome : Outcome) (p : Posts) (at : Found) (m : Memory) → slice_get s.posts origin ≡ Some p
-    → find_entry p queue target number whys.Take ≡ Ok at → m ≡ memory_at s.memories origin (reach_of s.limits.ranks origin (take_touch at.entry.kind))
+    → find_entry p queue target number whys.Take ≡ Ok at → m ≡ memory_at s.memories origin (reach_of s.limits.ranks origin (take_touch target at.entry.kind))
     → step s (Take origin queue target number outcome)
-    ≡ (bytes_taken s.limits m at outcome >>= (λ bytes. Ok (record s { posts = slice_set s.posts origin (counted (posts_phase p queue target at.place (phases.Carried bytes))) })))
+    ≡ (bytes_taken s.limits m at outcome >>= (λ bytes. Ok (record s { posts = slice_set s.posts origin (posts_after_take p queue target at.place bytes outcome) })))
 take_found s origin queue target number outcome p at m there is memory =
     rw memory
-    (take_as s origin queue target number outcome p _ there (reached s.limits origin take_touch p queue target number whys.Take at is)
-    ∙ rw is (two_changes (bytes_taken s.limits (memory_at s.memories origin (reach_of s.limits.ranks origin (take_touch at.entry.kind))) at outcome)
-    (λ bytes. counted (posts_phase p queue target at.place (phases.Carried bytes))) (λ after. record s { posts = slice_set s.posts origin after })))
+    (take_as s origin queue target number outcome p _ there (reached s.limits origin (take_touch target) p queue target number whys.Take at is)
+    ∙ rw is (two_changes (bytes_taken s.limits (memory_at s.memories origin (reach_of s.limits.ranks origin (take_touch target at.entry.kind))) at outcome)
+    (λ bytes. posts_after_take p queue target at.place bytes outcome) (λ after. record s { posts = slice_set s.posts origin after })))
 
 put_found : (s : State) (origin queue target number : ℕ) (outcome : Outcome) (p : Posts) (at : Found) (reach : Reach) → slice_get s.posts origin ≡ Some p
     → find_entry p queue target number whys.Put ≡ Ok at → reach ≡ reach_of s.limits.ranks origin (put_touch target at.entry.kind)
@@ -95,29 +100,38 @@ memory_named memories ranks me target all = by_tests (target == me) (nat_lt targ
     by_tests false true a b = rw (a, b) refl
     by_tests false false a b = rw (a, b) (by_item (slice_get memories target) refl b)
 
-put_touches : (target : ℕ) (kind : Kind) → put_touch target kind ≡ touches.MemoryOf target
-put_touches target (Write own to) = refl
-put_touches target (Notify to value) = refl
+-- so the machine's outcome is that on the memory of the target, also where a transfer reaches another one
+take_outcome_named : (memories : List Memory) (ranks me target : ℕ) (kind : Kind) → length memories ≡ ranks
+    → take_outcome (memory_at memories me (reach_of ranks me (take_touch target kind))) kind ≡ take_outcome (memory_or_none (slice_get memories target)) kind
+take_outcome_named memories ranks me target (Write own to) all = refl
+take_outcome_named memories ranks me target (Read own to) all = ap (λ (m : Memory). outcome_at m to.segment to.generation) (memory_named memories ranks me target all)
+take_outcome_named memories ranks me target (Notify to value) all = refl
+take_outcome_named memories ranks me target (ReadNote own) all = refl
 
-put_lost : (kind : Kind) → Failed ≡ put_outcome no_memory kind
-put_lost (Write own to) = refl
-put_lost (Notify to value) = refl
+put_outcome_named : (memories : List Memory) (ranks me target : ℕ) (kind : Kind) → length memories ≡ ranks
+    → put_outcome (memory_at memories me (reach_of ranks me (put_touch target kind))) kind ≡ put_outcome (memory_or_none (slice_get memories target)) kind
+put_outcome_named memories ranks me target (Write own to) all = ap (λ (m : Memory). outcome_at m to.segment to.generation) (memory_named memories ranks me target all)
+put_outcome_named memories ranks me target (Read own to) all = refl
+put_outcome_named memories ranks me target (Notify to value) all = ap (λ (m : Memory). outcome_at m to.segment to.generation) (memory_named memories ranks me target all)
+put_outcome_named memories ranks me target (ReadNote own) all = refl
 
--- the event of the put of an entry that was found
+-- the event of the take, and of the put, of an entry that was found
+pub take_event_found : (s : State) (id : LaneId) (number : ℕ) (given : Option Outcome) (p : Posts) (at : Found) (m : Memory) → length s.memories ≡ s.limits.ranks → slice_get s.posts id.origin ≡ Some p
+    → find_entry p id.queue id.target number whys.Take ≡ Ok at → m ≡ memory_at s.memories id.origin (reach_of s.limits.ranks id.origin (take_touch id.target at.entry.kind))
+    → take_event s id number given ≡ Take id.origin id.queue id.target number (unwrap_or given (take_outcome m at.entry.kind))
+take_event_found s id number (Some outcome) p at m all there is reached_it = refl
+take_event_found s id number None p at m all there is reached_it =
+    rw (there, found_for p id.queue id.target number whys.Take whys.Put at is)
+    (ap (Take id.origin id.queue id.target number) (sym (ap (λ (x : Memory). take_outcome x at.entry.kind) reached_it ∙ take_outcome_named s.memories s.limits.ranks id.origin id.target at.entry.kind all)))
+
 pub event_found : (s : State) (id : LaneId) (number : ℕ) (given : Option Outcome) (p : Posts) (at : Found) (reach : Reach) → length s.memories ≡ s.limits.ranks → slice_get s.posts id.origin ≡ Some p
     → find_entry p id.queue id.target number whys.Put ≡ Ok at → reach ≡ reach_of s.limits.ranks id.origin (put_touch id.target at.entry.kind)
     → put_event s id number given ≡ Put id.origin id.queue id.target number (reached_outcome given s.memories id.origin reach at)
 event_found s id number (Some outcome) p at reach all there is reached_it = refl
 event_found s id number None p at reach all there is reached_it =
-    let memory : memory_at s.memories id.origin reach ≡ memory_or_none (slice_get s.memories id.target) =
-    ap (memory_at s.memories id.origin) (reached_it ∙ ap (reach_of s.limits.ranks id.origin) (put_touches id.target at.entry.kind))
-    ∙ memory_named s.memories s.limits.ranks id.origin id.target all in
-    rw memory (by_item (slice_get s.memories id.target) refl)
-  where
-    by_item : (o : Option Memory) → slice_get s.memories id.target ≡ o
-        → put_event s id number None ≡ Put id.origin id.queue id.target number (put_outcome (memory_or_none (slice_get s.memories id.target)) at.entry.kind)
-    by_item None lost = rw (there, lost) (ap (Put id.origin id.queue id.target number) (put_lost at.entry.kind))
-    by_item (Some memory) stands = rw (there, stands, is) refl
+    rw (there, is)
+    (ap (Put id.origin id.queue id.target number)
+    (sym (ap (λ (r : Reach). put_outcome (memory_at s.memories id.origin r) at.entry.kind) reached_it ∙ put_outcome_named s.memories s.limits.ranks id.origin id.target at.entry.kind all)))
 
 -- the put into the memory that is reached, among all memories
 pub put_reaches : (memories : List Memory) (me : ℕ) (reach : Reach) (at : Found) (given : Option Outcome) (result : Result (Unit {0}) StepFault) (m m' : Memory)
@@ -139,28 +153,62 @@ pub steps_fault : {A : Type 0} (fault : StepFault) (old new : A) (s : State) (wh
 steps_fault (faults.Illegal why) old new s whole given f outcome is was steps = (is ∙ rw steps.0 refl, ap whole steps.1 ∙ was)
 steps_fault faults.NoMemory old new s whole given f outcome is was steps = ap whole steps ∙ was
 
--- both keep the room that their origin has taken
-pub take_keeps_taken : (s t : State) (origin queue target number : ℕ) (outcome : Outcome) → step s (Take origin queue target number outcome) ≡ Ok t → map taken_of t.posts ≡ map taken_of s.posts
-take_keeps_taken s t origin queue target number outcome is =
+-- a number of a list less one
+less_at : (f : Posts → ℕ) (table : List Posts) (place : ℕ) (old new : Posts) → slice_get table place ≡ Some old → f new + 1 ≡ f old → map f (slice_set table place new) ≡ changed_at (map f table) place (λ n. n - 1)
+less_at f table place old new there less =
+    let mapped : slice_get (map f table) place ≡ Some (f old) = slice_get-map f table place ∙ ap (option_map f) there in
+    map-set f table place new ∙ (let one : f new ≡ f old - 1 = omega (arith, less) in ap (slice_set (map f table) place) one) ∙ sym (changed_at-found (map f table) place (f old) (λ n. n - 1) mapped)
+
+-- a put keeps the room that its origin has taken, and so does a take, but for what is spared
+pub take_taken : (s t : State) (origin queue target number : ℕ) (outcome : Outcome) → step s (Take origin queue target number outcome) ≡ Ok t → map taken_of t.posts ≡ spared (map taken_of s.posts) origin outcome
+take_taken s t origin queue target number outcome is =
     let b = taken_back s t origin queue target number outcome is in
-    ap (λ (x : State). map taken_of x.posts) (sym b.is)
-    ∙ map_kept taken_of s.posts origin b.p b.after b.there (take_keeps s.limits b.p b.memory queue target number outcome b.after b.steps).taken
+    ap (λ (x : State). map taken_of x.posts) (sym b.is) ∙ by_outcome outcome b.p b.after b.there (take_keeps s.limits b.p b.memory queue target number outcome b.after b.steps).taken
+  where
+    by_outcome : (outcome : Outcome) (p after : Posts) → slice_get s.posts origin ≡ Some p → after.events + owed after + spares_of outcome ≡ p.events + owed p
+        → map taken_of (slice_set s.posts origin after) ≡ spared (map taken_of s.posts) origin outcome
+    by_outcome Applied p after there kept = map_kept taken_of s.posts origin p after there (omega (arith, kept))
+    by_outcome Failed p after there kept = less_at taken_of s.posts origin p after there kept
 
 pub put_keeps_taken : (s t : State) (origin queue target number : ℕ) (outcome : Outcome) → step s (Put origin queue target number outcome) ≡ Ok t → map taken_of t.posts ≡ map taken_of s.posts
 put_keeps_taken s t origin queue target number outcome is =
     let b = put_back s t origin queue target number outcome is in
     ap (map taken_of) (sym b.posts)
-    ∙ map_kept taken_of s.posts origin b.p b.after.posts b.there (put_keeps b.p b.memory queue target number outcome b.after b.steps).taken
+    ∙ map_kept taken_of s.posts origin b.p b.after.posts b.there (let kept = (put_keeps b.p b.memory queue target number outcome b.after b.steps).taken in omega (arith, kept))
 
 -- a take and a put that are made
-pub take_done : (s : State) (origin queue target number : ℕ) (outcome : Outcome) (p p' : Posts) (at : Found) (m : Memory) (bytes : List ℕ) → slice_get s.posts origin ≡ Some p
-    → find_entry p queue target number whys.Take ≡ Ok at → m ≡ memory_at s.memories origin (reach_of s.limits.ranks origin (take_touch at.entry.kind))
-    → bytes_taken s.limits m at outcome ≡ Ok bytes → p' ≡ counted (posts_phase p queue target at.place (phases.Carried bytes))
-    → step s (Take origin queue target number outcome) ≡ Ok (record s { posts = slice_set s.posts origin p' })
-take_done s origin queue target number outcome p p' at m bytes there is memory given after =
-    take_found s origin queue target number outcome p at m there is memory
-    ∙ (ap (λ (r : Result (List ℕ) Why). r >>= (λ b. Ok (record s { posts = slice_set s.posts origin (counted (posts_phase p queue target at.place (phases.Carried b))) }))) given
-    ∙ ap (λ (q : Posts). Ok (record s { posts = slice_set s.posts origin q })) (sym after))
+pub take_done : (s : State) (id : LaneId) (number : ℕ) (given : Option Outcome) (p p' : Posts) (at : Found) (m : Memory) (taken : Taken) → length s.memories ≡ s.limits.ranks → slice_get s.posts id.origin ≡ Some p
+    → find_entry p id.queue id.target number whys.Take ≡ Ok at → m ≡ memory_at s.memories id.origin (reach_of s.limits.ranks id.origin (take_touch id.target at.entry.kind))
+    → outcome_of_taken taken ≡ unwrap_or given (take_outcome m at.entry.kind) → GivesTaken (Ok taken) (bytes_taken s.limits m at (unwrap_or given (take_outcome m at.entry.kind)))
+    → p' ≡ posts_taken p id.queue id.target at.place taken → step s (take_event s id number given) ≡ Ok (record s { posts = slice_set s.posts id.origin p' })
+take_done s id number given p p' at m taken all there is memory made gives after =
+    ap (step s) (take_event_found s id number given p at m all there is memory ∙ ap (Take id.origin id.queue id.target number) (sym made))
+    ∙ (take_found s id.origin id.queue id.target number (outcome_of_taken taken) p at m there is memory
+    ∙ (by_taken taken (subst (λ (o : Outcome). GivesTaken (Ok taken) (bytes_taken s.limits m at o)) (sym made) gives)
+    ∙ ap (λ (q : Posts). Ok (record s { posts = slice_set s.posts id.origin q })) (sym after)))
+  where
+    failed : (r : Result (List ℕ) Why) → IsOk r
+        → (r >>= (λ bytes. Ok (record s { posts = slice_set s.posts id.origin (posts_after_take p id.queue id.target at.place bytes Failed) })))
+        ≡ Ok (record s { posts = slice_set s.posts id.origin (posts_after_take p id.queue id.target at.place [] Failed) })
+    failed (Ok bytes) made = refl
+    failed (Err why) made = absurd (let no : ⊥ = cc in no)
+
+    by_taken : (taken : Taken) → GivesTaken (Ok taken) (bytes_taken s.limits m at (outcome_of_taken taken))
+        → (bytes_taken s.limits m at (outcome_of_taken taken) >>= (λ bytes. Ok (record s { posts = slice_set s.posts id.origin (posts_after_take p id.queue id.target at.place bytes (outcome_of_taken taken)) })))
+        ≡ Ok (record s { posts = slice_set s.posts id.origin (posts_taken p id.queue id.target at.place taken) })
+    by_taken (Bytes bytes) gives = rw gives refl
+    by_taken taken_is.Failed gives = failed (bytes_taken s.limits m at Failed) gives
+
+-- one that gives nothing changes nothing
+pub take_fault : (s : State) (id : LaneId) (number : ℕ) (given : Option Outcome) (p : Posts) (at : Found) (m : Memory) (fault : StepFault) → length s.memories ≡ s.limits.ranks → slice_get s.posts id.origin ≡ Some p
+    → find_entry p id.queue id.target number whys.Take ≡ Ok at → m ≡ memory_at s.memories id.origin (reach_of s.limits.ranks id.origin (take_touch id.target at.entry.kind))
+    → GivesTaken (Err fault) (bytes_taken s.limits m at (unwrap_or given (take_outcome m at.entry.kind))) → Steps (Err fault) s s (step s (take_event s id number given))
+take_fault s id number given p at m (faults.Illegal why) all there is memory gives = (
+  ap (step s) (take_event_found s id number given p at m all there is memory)
+      ∙ (take_found s id.origin id.queue id.target number (unwrap_or given (take_outcome m at.entry.kind)) p at m there is memory ∙ rw gives refl),
+  refl,
+)
+take_fault s id number given p at m faults.NoMemory all there is memory gives = refl
 
 pub put_done : (s : State) (id : LaneId) (number : ℕ) (given : Option Outcome) (outcome : Outcome) (p p' : Posts) (at : Found) (reach : Reach) (memories' : List Memory) → length s.memories ≡ s.limits.ranks
     → slice_get s.posts id.origin ≡ Some p → find_entry p id.queue id.target number whys.Put ≡ Ok at → reach ≡ reach_of s.limits.ranks id.origin (put_touch id.target at.entry.kind)

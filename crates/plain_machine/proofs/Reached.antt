@@ -125,12 +125,12 @@ called_as s c call reply p reach there is = by_reach reach is (called s.limits c
 
 -- A take in the whole state: it reads the memory that it works on.
 pub take_as : (s : State) (origin queue target number : ℕ) (outcome : Outcome) (p : Posts) (reach : Reach) → slice_get s.posts origin ≡ Some p
-    → entry_reach s.limits origin take_touch p queue target number ≡ reach
+    → entry_reach s.limits origin (take_touch target) p queue target number ≡ reach
     → step s (Take origin queue target number outcome)
     ≡ (take s.limits p (memory_at s.memories origin reach) queue target number outcome >>= (λ after. Ok (record s { posts = slice_set s.posts origin after })))
 take_as s origin queue target number outcome p reach there is = by_reach reach is (take s.limits p (memory_at s.memories origin reach) queue target number outcome) refl
   where
-    by_reach : (reach : Reach) → entry_reach s.limits origin take_touch p queue target number ≡ reach
+    by_reach : (reach : Reach) → entry_reach s.limits origin (take_touch target) p queue target number ≡ reach
         → (r : Result Posts Why) → take s.limits p (memory_at s.memories origin reach) queue target number outcome ≡ r
         → step s (Take origin queue target number outcome)
         ≡ (take s.limits p (memory_at s.memories origin reach) queue target number outcome >>= (λ after. Ok (record s { posts = slice_set s.posts origin after })))
@@ -240,7 +240,7 @@ taken_back s t origin queue target number outcome is =
 
     by_posts : (p : Posts) → slice_get s.posts origin ≡ Some p → IsTaken s t origin queue target number outcome
     by_posts p there =
-        let reach = entry_reach s.limits origin take_touch p queue target number in
+        let reach = entry_reach s.limits origin (take_touch target) p queue target number in
         bind_then (take s.limits p (memory_at s.memories origin reach) queue target number outcome) _ _
         (sym (take_as s origin queue target number outcome p reach there refl) ∙ is) (λ after steps more.
         same p after (memory_at s.memories origin reach) more there steps)

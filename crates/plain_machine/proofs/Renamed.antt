@@ -32,7 +32,7 @@ use Rattle.gaspi_types.specs.Queues.{with_entries}
 use Rattle.gaspi_types.specs.Tables.{changed_at}
 use Rattle.gaspi_model.specs.Sound.{IsSound, IsSoundPosts}
 use Rattle.gaspi_model.specs.Step.{step, called, is_there, Steps}
-use Rattle.gaspi_model.specs.Transfers.{Found, find_entry, bytes_taken, queue_phase, posts_phase, take, memory_after_put, queue_without, queue_failed, posts_after_put, put, Worked}
+use Rattle.gaspi_model.specs.Transfers.{Found, find_entry, bytes_taken, queue_phase, posts_after_take, take, memory_after_put, queue_without, queue_failed, posts_after_put, put, Worked}
 use Rattle.gaspi_types.specs.declared.entries.Queue.{Queue}
 use Rattle.gaspi_model.specs.declared.states.Posts.{Posts}
 use Rattle.gaspi_model.specs.declared.states.Memory.{Memory}
@@ -42,13 +42,14 @@ use Rattle.gaspi_model.specs.declared.states.StepFault.TheVariants as faults
 use Rattle.gaspi_model.specs.declared.states.Why.{Why}
 use Rattle.plain_machine.specs.Machine.{IsFitting}
 use Rattle.plain_machine.specs.Reaching.{call_reach, with_peer_at}
-use Rattle.plain_machine.specs.Standing.{lane_id, lane_named, queue_named, rank_named, standing_lanes, lane_entries, is_before, post_lane, posting_lane, call_lane, event_lane, is_put}
+use Rattle.plain_machine.specs.Standing.{lane_id, lane_named, queue_named, rank_named, standing_lanes, lane_entries, is_before, post_lane, posting_lane, call_lane, event_lane, event_purge, is_put}
 use Rattle.plain_machine.specs.declared.standing.LaneId.{LaneId}
 use Rattle.gaspi_types.proofs.Chains.{bind_then, check_holds}
 use Rattle.plain_machine.proofs.Kept.{IsAt, found_at, phase_lanes, lanes_without}
 use Rattle.plain_calls.proofs.CallRoom.{found_by, posted}
 use Rattle.plain_calls.proofs.Postings.{HasLength, IsPost, posting_of}
 use Rattle.plain_calls.proofs.Queues.{plain_queues}
+use Rattle.plain_calls.specs.Room.{purged_queue}
 use Rattle.plain_calls.proofs.PostedEntries.{length-posted_entries}
 use Rattle.plain_machine.proofs.Lists.{same_in, same_changed}
 use Rattle.plain_machine.proofs.Reached.{called_back, taken_back, put_back, told_by}
@@ -110,19 +111,28 @@ take_names : (ps : List Posts) (o : ℕ) (limits : Limits) (posts : Posts) (memo
 take_names ps o limits posts memory queue target number outcome after o_there is =
     bind_then (find_entry posts queue target number _) _ _ is (λ at found_it more.
     bind_then (bytes_taken limits memory at outcome) _ _ more (λ bytes given left.
-    done at (phases.Carried bytes) after (found_at _ _ _ _ _ at found_it) left))
+    done at bytes outcome after (found_at _ _ _ _ _ at found_it) left))
   where
-    done : (at : Found) (phase : Phase) (after : Posts) → IsAt posts queue target at
-        → ◌≡◌ {A = Result Posts Why} (Ok (counted (posts_phase posts queue target at.place phase))) (Ok after) → standing_lanes (slice_set ps o after) ≡ standing_lanes ps
-    done at phase after there is =
-        let p' : Posts = counted (posts_phase posts queue target at.place phase) in
-        let same : p' ≡ after = cc in
+    of_phase : (at : Found) (phase : Phase) (change : Queue → Queue) (p' : Posts) → IsAt posts queue target at → p'.queues ≡ changed_at posts.queues queue change
+        → (change at.queue).lanes ≡ slice_set at.queue.lanes target (slice_set at.lane at.place (record at.entry { phase = phase })) → standing_lanes (slice_set ps o p') ≡ standing_lanes ps
+    of_phase at phase change p' there changed lanes =
         let lane' : List Entry = slice_set at.lane at.place (record at.entry { phase = phase }) in
-        let parts =
-        parted ps o queue target posts p' at.lane lane' o_there
-        (relaned posts p' queue target at (queue_phase target at.place phase) lane' there refl (phase_lanes posts queue target at phase there)) in
-        rw (← same) (kept_by (lane_id o queue target) _ _ (lane_named o queue (target, at.lane))
-        (rw (named_set o queue target at.place at.lane (record at.entry { phase = phase })) at parts))
+        let parts = parted ps o queue target posts p' at.lane lane' o_there (relaned posts p' queue target at change lane' there changed lanes) in
+        kept_by (lane_id o queue target) _ _ (lane_named o queue (target, at.lane))
+        (rw (named_set o queue target at.place at.lane (record at.entry { phase = phase })) at parts)
+
+    of_outcome : (at : Found) (bytes : List ℕ) (outcome : Outcome) → IsAt posts queue target at → (p' : Posts) → p' ≡ posts_after_take posts queue target at.place bytes outcome
+        → standing_lanes (slice_set ps o p') ≡ standing_lanes ps
+    of_outcome at bytes Applied there p' is =
+        of_phase at (phases.Carried bytes) (queue_phase target at.place (phases.Carried bytes)) p' there (ap (λ (p : Posts). p.queues) is) (phase_lanes posts queue target at (phases.Carried bytes) there)
+    of_outcome at bytes Failed there p' is =
+        of_phase at phases.Failed (queue_failed target at.place) p' there (ap (λ (p : Posts). p.queues) is) (phase_lanes posts queue target at phases.Failed there)
+
+    done : (at : Found) (bytes : List ℕ) (outcome : Outcome) (after : Posts) → IsAt posts queue target at
+        → ◌≡◌ {A = Result Posts Why} (Ok (posts_after_take posts queue target at.place bytes outcome)) (Ok after) → standing_lanes (slice_set ps o after) ≡ standing_lanes ps
+    done at bytes outcome after there is =
+        let same : after ≡ posts_after_take posts queue target at.place bytes outcome = cc in
+        of_outcome at bytes outcome there after same
 
 -- a put may take the name of its lane away
 put_names : (ps : List Posts) (o : ℕ) (posts : Posts) (memory : Memory) (queue target number : ℕ) (outcome : Outcome) (after : Worked) → slice_get ps o ≡ Some posts
@@ -193,11 +203,11 @@ post_has_lane limits me posts rank queue asked reply limited few p lane =
     let is : post_lane me rank queue ≡ Some (lane_id me queue rank) = rw a rw b refl in
     cc
 
--- a call that posts nothing keeps the names of its rank
-quiet_plain : (limits : Limits) (me : ℕ) (posts : Posts) (thread : ℕ) (call : Call) (j : ℕ) → (row_of call).posting ≡ None
+-- a call that posts nothing and purges nothing keeps the names of its rank
+quiet_plain : (limits : Limits) (me : ℕ) (posts : Posts) (thread : ℕ) (call : Call) (j : ℕ) → (row_of call).posting ≡ None → purged_queue call ≡ None
     → rank_named (j, posts_done limits me posts thread call) ≡ rank_named (j, posts)
-quiet_plain limits me posts thread call j is =
-    elim (plain_queues limits me posts thread call is) [
+quiet_plain limits me posts thread call j is kept =
+    elim (plain_queues limits me posts thread call is kept) [
       | inl same ↦ ap (λ (qs : List Queue). flat_map (queue_named j) (enumerate_from 0 qs)) same
       | inr at ↦
           ap (λ (qs : List Queue). flat_map (queue_named j) (enumerate_from 0 qs)) at.1
@@ -206,12 +216,12 @@ quiet_plain limits me posts thread call j is =
 
 -- so does one that posts to no lane
 quiet_call : (limits : Limits) (me : ℕ) (posts : Posts) (memory : Memory) (thread : ℕ) (call : Call) (reply : Reply) (j : ℕ) → are_limits limits ≡ true → length posts.queues ≤ 8
-    → same_reply reply (recorded_reply (answer limits me posts memory thread call)) ≡ true → is_idle reply ≡ false → call_lane me call ≡ None
+    → same_reply reply (recorded_reply (answer limits me posts memory thread call)) ≡ true → is_idle reply ≡ false → call_lane me call ≡ None → purged_queue call ≡ None
     → rank_named (j, posts_done limits me posts thread call) ≡ rank_named (j, posts)
-quiet_call limits me posts memory thread call reply j limited few same busy lane = by_posting (row_of call).posting refl
+quiet_call limits me posts memory thread call reply j limited few same busy lane kept = by_posting (row_of call).posting refl
   where
     by_posting : (posting : Option Posting) → (row_of call).posting ≡ posting → rank_named (j, posts_done limits me posts thread call) ≡ rank_named (j, posts)
-    by_posting None is = quiet_plain limits me posts thread call j is
+    by_posting None is = quiet_plain limits me posts thread call j is kept
     by_posting (Some posting) is =
         let p = posting_of limits me posts call posting is in
         let f = found_by limits me posts memory thread call reply same busy in
@@ -220,9 +230,9 @@ quiet_call limits me posts memory thread call reply j limited few same busy lane
         absurd (post_has_lane limits me posts posting.rank posting.queue (call_asks limits me posts call) f.reply_found limited few post none)
 
 -- what a recorded call has bind_then
-record IsAnswered (limits : Limits) (me : ℕ) (posts : Posts) (memory : Memory) (thread : ℕ) (call : Call) (reply : Reply) (after : Posts) : Type 0 where
-  replied : same_reply reply (recorded_reply (answer limits me posts memory thread call)) ≡ true
-  after_is : posts_after limits me posts thread call reply ≡ after
+pub record IsAnswered (limits : Limits) (me : ℕ) (posts : Posts) (memory : Memory) (thread : ℕ) (call : Call) (reply : Reply) (after : Posts) : Type 0 where
+  pub replied : same_reply reply (recorded_reply (answer limits me posts memory thread call)) ≡ true
+  pub after_is : posts_after limits me posts thread call reply ≡ after
 
 called_by : (limits : Limits) (me : ℕ) (posts : Posts) (memory : Memory) (thread : ℕ) (call : Call) (reply : Reply) (after : Worked)
     → called limits me posts memory thread call reply ≡ Ok after → IsAnswered limits me posts memory thread call reply after.posts
@@ -245,14 +255,14 @@ told_standing reach me p call reply all =
     (λ rank change kept. same_changed rank_named 0 rank all change (λ j peer. ap (λ (qs : List Queue). flat_map (queue_named j) (enumerate_from 0 qs)) (kept peer)))
 
 -- what a step that was made has done to the posts
-record IsPosted (s t : State) (o : ℕ) (P : Posts → Posts → Type 0) : Type 0 where
-  p : Posts
-  p' : Posts
-  there : slice_get s.posts o ≡ Some p
-  is : standing_lanes t.posts ≡ standing_lanes (slice_set s.posts o p')
-  by : P p p'
+pub record IsPosted (s t : State) (o : ℕ) (P : Posts → Posts → Type 0) : Type 0 where
+  pub p : Posts
+  pub p' : Posts
+  pub there : slice_get s.posts o ≡ Some p
+  pub is : standing_lanes t.posts ≡ standing_lanes (slice_set s.posts o p')
+  pub by : P p p'
 
-call_posts : (s t : State) (c : CallerId) (call : Call) (reply : Reply) → step s (Called c call reply) ≡ Ok t
+pub call_posts : (s t : State) (c : CallerId) (call : Call) (reply : Reply) → step s (Called c call reply) ≡ Ok t
     → IsPosted s t c.rank (λ p p'. (memory : Memory) × IsAnswered s.limits c.rank p memory c.thread call reply p')
 call_posts s t c call reply is =
     let b = called_back s t c call reply is in
@@ -302,8 +312,8 @@ leaving s t (Put origin queue target number outcome) id lane puts is =
 leaving s t other id lane puts is = absurd (let no : ⊥ = cc in no)
 
 -- any other event keeps the names
-pub quiet : (s t : State) (e : Event) → IsSound s → IsFitting s → event_lane e ≡ None → step s e ≡ Ok t → standing_lanes t.posts ≡ standing_lanes s.posts
-quiet s t (Called c call reply) sound fits lane is = by_idle (is_idle reply) refl
+pub quiet : (s t : State) (e : Event) → IsSound s → IsFitting s → event_lane e ≡ None → event_purge e ≡ None → step s e ≡ Ok t → standing_lanes t.posts ≡ standing_lanes s.posts
+quiet s t (Called c call reply) sound fits lane purge is = by_idle (is_idle reply) refl
   where
     done : IsPosted s t c.rank (λ p p'. (memory : Memory) × IsAnswered s.limits c.rank p memory c.thread call reply p')
     done = call_posts s t c call reply is
@@ -315,12 +325,13 @@ quiet s t (Called c call reply) sound fits lane is = by_idle (is_idle reply) ref
     by_idle false busy =
         let after : counted (posts_done s.limits c.rank done.p c.thread call) ≡ done.p' = rw busy at done.by.1.after_is in
         let none : call_lane c.rank call ≡ None = rw busy at lane in
+        let kept : purged_queue call ≡ None = rw busy at purge in
         rw (done.is, ← after) (same_in rank_named 0 c.rank s.posts done.p (counted (posts_done s.limits c.rank done.p c.thread call)) done.there
-        (λ j. quiet_call s.limits c.rank done.p done.by.0 c.thread call reply j sound.limits (fits.queues c.rank done.p done.there) done.by.1.replied busy none))
-quiet s t (Take origin queue target number outcome) sound fits lane is =
+        (λ j. quiet_call s.limits c.rank done.p done.by.0 c.thread call reply j sound.limits (fits.queues c.rank done.p done.there) done.by.1.replied busy none kept))
+quiet s t (Take origin queue target number outcome) sound fits lane purge is =
     let b = taken_back s t origin queue target number outcome is in
     rw (← b.is) (take_names s.posts origin s.limits b.p b.memory queue target number outcome b.after b.there b.steps)
-quiet s t (Put origin queue target number outcome) sound fits lane is = absurd (let no : ⊥ = cc in no)
+quiet s t (Put origin queue target number outcome) sound fits lane purge is = absurd (let no : ⊥ = cc in no)
 
 -- The names after the step of a function that steps.
 
@@ -329,9 +340,9 @@ pub same_posts : (s t : State) (fault : StepFault) (outcome : Result State Why) 
 same_posts s t (faults.Illegal why) outcome steps = ap (λ (x : State). x.posts) steps.1
 same_posts s t faults.NoMemory outcome steps = ap (λ (x : State). x.posts) steps
 
-pub quiet_steps : (s t : State) (e : Event) (result : Result (Unit {0}) StepFault) → IsSound s → IsFitting s → event_lane e ≡ None → Steps result s t (step s e) → standing_lanes t.posts ≡ standing_lanes s.posts
-quiet_steps s t e (Ok done) sound fits lane steps = quiet s t e sound fits lane steps
-quiet_steps s t e (Err fault) sound fits lane steps = ap standing_lanes (same_posts s t fault (step s e) steps)
+pub quiet_steps : (s t : State) (e : Event) (result : Result (Unit {0}) StepFault) → IsSound s → IsFitting s → event_lane e ≡ None → event_purge e ≡ None → Steps result s t (step s e) → standing_lanes t.posts ≡ standing_lanes s.posts
+quiet_steps s t e (Ok done) sound fits lane purge steps = quiet s t e sound fits lane purge steps
+quiet_steps s t e (Err fault) sound fits lane purge steps = ap standing_lanes (same_posts s t fault (step s e) steps)
 
 -- a lane that has an entry, or has none
 pub named_some : (o queue target : ℕ) (lane : List Entry) → (lane ≡ [] → ⊥) → lane_named o queue (target, lane) ≡ lane_id o queue target ∷ []

@@ -11,6 +11,7 @@ use Rattle.gaspi_model.specs.declared.states.Posts.{Posts}
 use Rattle.gaspi_model.specs.declared.states.Memory.{Memory}
 use Rattle.gaspi_model.specs.declared.states.State.{State}
 use Rattle.plain_calls.specs.Looks.{IsFinding}
+use Rattle.plain_calls.specs.Room.{purged_queue}
 use Rattle.plain_calls.specs.declared.looks.Finding.{Finding}
 use Rattle.plain_machine.specs.Standing.{call_lane}
 use Rattle.plain_machine.specs.declared.standing.LaneId.{LaneId}
@@ -28,3 +29,7 @@ pub record IsFindingOn (look : Finding) (limits : Limits) (posts : Posts) (memor
 -- the lane to which a call posts whose look is recorded
 abbrev pub look_lane : ℕ → Call → Finding → Option LaneId
 look_lane rank call look = if is_idle (recorded_reply look.ready) then None else call_lane rank call
+
+-- the queue that a call purges whose look is recorded
+abbrev pub look_purge : Call → Finding → Option ℕ
+look_purge call look = if is_idle (recorded_reply look.ready) then None else purged_queue call

@@ -1,8 +1,8 @@
 -- The machine: a sound state, the room that each rank has taken, and the lanes that have an entry.
-use Rattle.std.specs.Prelude.{◌≡◌, ℕ, ◌+◌, ◌≤◌, List, map, length, slice_get, Option, None, Some, true}
+use Rattle.std.specs.Prelude.{◌≡◌, ℕ, ◌+◌, ◌≤◌, List, map, length, slice_get, Option, None, Some, true, false}
 use Rattle.gaspi_types.specs.declared.shapes.Limits.{Limits}
 use Rattle.gaspi_types.specs.declared.events.Event.{Event}
-use Rattle.gaspi_types.specs.declared.events.Event.TheVariants.{Put}
+use Rattle.gaspi_types.specs.declared.events.Event.TheVariants.{Take, Put}
 use Rattle.gaspi_types.specs.declared.events.Outcome.{Outcome}
 use Rattle.gaspi_model.specs.State.{owed}
 use Rattle.gaspi_model.specs.Sound.{IsSound}
@@ -44,7 +44,11 @@ pub record IsMachine (s : State) (rooms : List ℕ) (standing : List LaneId) : T
   pub taken : rooms ≡ map taken_of s.posts
   pub named : standing ≡ standing_lanes s.posts
 
--- the event of an entry's put: with the outcome that is given, or else the machine's
+-- the event of an entry's take, and of its put: with the outcome that is given, or else the machine's
+abbrev pub take_event : State → LaneId → ℕ → Option Outcome → Event
+take_event s id number (Some outcome) = Take id.origin id.queue id.target number outcome
+take_event s id number None = transfer_event s (record { origin = id.origin; queue = id.queue; target = id.target; number = number; put = false })
+
 abbrev pub put_event : State → LaneId → ℕ → Option Outcome → Event
 put_event s id number (Some outcome) = Put id.origin id.queue id.target number outcome
 put_event s id number None = transfer_event s (record { origin = id.origin; queue = id.queue; target = id.target; number = number; put = true })

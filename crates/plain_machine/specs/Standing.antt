@@ -1,8 +1,8 @@
 -- The lanes that have an entry, by origin, queue and target, and the transfers that may come next in a lane.
-use Rattle.std.specs.Prelude.{◌≡◌, ℕ, ◌+◌, Bool, true, false, ◌&&◌, ◌||◌, ◌==◌, nat_lt, List, [], ◌∷◌, length, Option, None, Some, if◌then◌else◌, slice_get, is_none}
+use Rattle.std.specs.Prelude.{◌≡◌, ℕ, ◌+◌, Bool, true, false, not, ◌&&◌, ◌||◌, ◌==◌, nat_lt, List, [], ◌∷◌, length, Option, None, Some, if◌then◌else◌, slice_get, is_none}
 use Rattle.std.specs.List.{flat_map, enumerate_from}
 use Rattle.gaspi_types.specs.CallRows.{row_of}
-use Rattle.gaspi_types.specs.Lanes.{carried_count, has_earlier_write}
+use Rattle.gaspi_types.specs.Lanes.{carried_count, has_earlier_write, has_earlier_read}
 use Rattle.gaspi_types.specs.Replies.{is_idle}
 use Rattle.gaspi_types.specs.declared.call_rows.Posting.{Posting}
 use Rattle.gaspi_types.specs.declared.calls.Call.{Call}
@@ -14,6 +14,7 @@ use Rattle.gaspi_types.specs.declared.shapes.Limits.{Limits}
 use Rattle.gaspi_model.specs.Transfers.{lane_transfers}
 use Rattle.gaspi_types.specs.declared.entries.Queue.{Queue}
 use Rattle.gaspi_model.specs.declared.states.Posts.{Posts}
+use Rattle.plain_calls.specs.Room.{purged_queue}
 use Rattle.plain_machine.specs.declared.standing.LaneId.{LaneId}
 use Rattle.plain_machine.specs.declared.listing.LaneSummary.{LaneSummary}
 use Rattle.plain_machine.specs.declared.listing.Sought.{Sought}
@@ -96,11 +97,21 @@ posting_lane rank (Some posting) = post_lane rank posting.rank posting.queue
 abbrev pub call_lane : ℕ → Call → Option LaneId
 call_lane rank call = posting_lane rank (row_of call).posting
 
--- The lane to which an event may add entries, or from which it may take one: that of a post which is done, and of a put.
+-- The lane to which an event may add entries, or from which it may take one: that of a post which is done, and of a put. A
+-- purge has none: it takes all entries of its queue's lanes.
 abbrev pub event_lane : Event → Option LaneId
 event_lane (Called c call reply) = if is_idle reply then None else call_lane c.rank call
 event_lane (Take origin queue target number outcome) = None
 event_lane (Put origin queue target number outcome) = Some (lane_id origin queue target)
+
+-- the queue whose lanes lose all entries by an event: that of a purge which is done
+abbrev pub event_purge : Event → Option ℕ
+event_purge (Called c call reply) = if is_idle reply then None else purged_queue call
+event_purge transfer = None
+
+-- a lane that is none of an origin's queue
+abbrev pub is_elsewhere : ℕ → ℕ → LaneId → Bool
+is_elsewhere origin queue id = not (id.origin == origin) || not (id.queue == queue)
 
 abbrev pub is_put : Event → Bool
 is_put (Put origin queue target number outcome) = true
@@ -111,10 +122,11 @@ abbrev pub is_over : Option ℕ → ℕ → Bool
 is_over None n = false
 is_over (Some least) n = nat_lt least n
 
--- what a summary says of a lane: how many entries have taken their bytes, and the least number of a write
+-- what a summary says of a lane: how many entries have taken their bytes, and the least number of a write and of a read
 pub record IsSummary (lane : List Entry) (summary : LaneSummary) : Type 0 where
   pub carried : summary.carried ≡ carried_count lane
   pub writes : (n : ℕ) → has_earlier_write lane n ≡ is_over summary.first_write n
+  pub reads : (n : ℕ) → has_earlier_read lane n ≡ is_over summary.first_read n
 
 -- an item of a list that is sought by its place: itself, or how far the place is over the list's end
 abbrev pub Seeks : Sought → List Transfer → ℕ → Type 0

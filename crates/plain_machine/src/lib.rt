@@ -12,6 +12,3 @@ mod steps;
 mod transfers;
 
 pub use machine::{Machine, Transfers};
-
-#[cfg(test)]
-mod tests;

@@ -5,23 +5,24 @@
 ghost use Rattle.std.specs.Prelude.{◌≡◌, ℕ, ◌≤◌, ◌<◌, ◌^◌, ◌++◌, ◌||◌, ◌&&◌, nat_lt, List, length, slice_get, OnOk, IfOk};
 ghost use Rattle.std.specs.List.{flat_map};
 ghost use Rattle.std.specs.Option.{option_to_list};
-ghost use Rattle.gaspi_types.specs.Lanes.{is_write};
+ghost use Rattle.gaspi_types.specs.Lanes.{may_put};
 ghost use Rattle.gaspi_types.specs.declared.entries.Entry.{Entry};
 ghost use Rattle.gaspi_model.specs.Transfers.{transfer_of};
 ghost use Rattle.plain_machine.specs.Standing.{is_over, IsSummary, Seeks, entries_transfers, open_transfers};
 
 use crate::standing::{LaneId, open_entries};
 use gaspi_model::Posts;
-use gaspi_types::{Entry, Limits, NoMemory, Rows, Transfer};
-use plain_calls::{is_carried, is_posted, is_write};
+use gaspi_types::{Entry, Kind, Limits, NoMemory, Rows, Transfer};
+use plain_calls::{is_carried, is_posted, is_read, is_write};
 use std::alloc::Global;
 
 /// What decides which entries of a lane may move: how many of them have taken their bytes, and the least number of a
-/// write among them.
+/// write and of a read among them.
 #[derive(Clone, Copy, Debug, PartialEq, Eq)]
 pub struct LaneSummary {
     pub carried: usize,
     pub first_write: Option<u32>,
+    pub first_read: Option<u32>,
 }
 
 /// A transfer that was sought by its place, or how far the place is over the end of the list.
@@ -31,16 +32,16 @@ pub enum Sought {
     Left(usize),
 }
 
-/// The lesser of a number and an entry's number, if that is a write.
-fn lesser_write(least: Option<u32>, entry: &Entry) -> Option<u32>
-    ensures { (n : ℕ) → is_over result n ≡ (is_over least n || (is_write entry.now && nat_lt entry.now.number n)) }
+/// The lesser of a number, if there is one, and another one, if that counts.
+fn lesser(least: Option<u32>, counts: bool, other: u32) -> Option<u32>
+    ensures { (n : ℕ) → is_over result n ≡ (is_over least n || (counts && nat_lt other n)) }
 {
-    if !is_write(entry) {
+    if !counts {
         return least;
     }
     match least {
-        Some(number) if number <= entry.number => least,
-        Some(_) | None => Some(entry.number),
+        Some(number) if number <= other => least,
+        Some(_) | None => Some(other),
     }
 }
 
@@ -50,15 +51,18 @@ fn summary_of(entries: &[Entry]) -> LaneSummary
 {
     let mut carried = 0;
     let mut first_write = None;
+    let mut first_read = None;
     for entry in entries {
         if is_carried(entry) {
             carried += 1;
         }
-        first_write = lesser_write(first_write, entry);
+        first_write = lesser(first_write, is_write(entry), entry.number);
+        first_read = lesser(first_read, is_read(entry), entry.number);
     }
     LaneSummary {
         carried,
         first_write,
+        first_read,
     }
 }
 
@@ -72,6 +76,18 @@ fn is_over(least: Option<u32>, number: u32) -> bool
     }
 }
 
+/// Whether an entry may be put, by the summary of its lane. (GASPI: notification order)
+fn may_put(summary: LaneSummary, entry: &Entry) -> bool
+    ensures { (lane : List Entry) → IsSummary lane summary → result ≡ may_put lane entry.now }
+{
+    is_carried(entry)
+        && match entry.kind {
+            Kind::Write { .. } | Kind::Read { .. } => true,
+            Kind::Notify { .. } => !is_over(summary.first_write, entry.number),
+            Kind::ReadNote { .. } => !is_over(summary.first_read, entry.number),
+        }
+}
+
 /// The transfer of an entry that may come next, by the summary of its lane.
 fn transfer_of(
     limits: &Limits,
@@ -82,9 +98,7 @@ fn transfer_of(
     ensures { (lane : List Entry) → IsSummary lane summary → option_to_list result ≡ transfer_of id.now.origin id.now.queue id.now.target limits.now lane entry.now }
 {
     let takes = is_posted(entry) && summary.carried < limits.depth as usize;
-    let puts = is_carried(entry)
-        && (is_write(entry) || !is_over(summary.first_write, entry.number));
-    if takes || puts {
+    if takes || may_put(summary, entry) {
         Some(Transfer {
             origin: id.origin,
             queue: id.queue,

@@ -1,6 +1,6 @@
 //! A look at a call in the whole state, and its record: the step by the call with what the look found.
 
-ghost use Rattle.std.specs.Prelude.{◌≡◌, ◌≢◌, ◌<◌, ◌||◌, List, length, map, slice_get, IfOk, IsOk, Err, true, false, Some};
+ghost use Rattle.std.specs.Prelude.{◌≡◌, ◌≢◌, ◌<◌, ◌||◌, List, length, map, slice_get, IfOk, IsOk, Err, true, false, Some, None};
 ghost use Rattle.gaspi_types.specs.declared.events.Event.TheVariants.{Called};
 ghost use Rattle.gaspi_types.specs.declared.touches.Reach.TheVariants.{PeerPosts};
 ghost use Rattle.gaspi_model.specs.Calls.{recorded_reply};
@@ -9,14 +9,14 @@ ghost use Rattle.gaspi_model.specs.declared.states.Memory.{Memory};
 ghost use Rattle.gaspi_model.specs.declared.states.Posts.{Posts};
 ghost use Rattle.plain_calls.specs.Looks.{made_of};
 ghost use Rattle.plain_calls.specs.Memory.{is_load, keeps_memory};
-ghost use Rattle.plain_machine.specs.Looking.{IsFindingIn, IsFindingOn};
+ghost use Rattle.plain_machine.specs.Looking.{IsFindingIn, IsFindingOn, look_purge};
 ghost use Rattle.plain_machine.specs.Machine.{AreWhole, IsMachine, state_in, taken_of};
 ghost use Rattle.plain_machine.specs.Reaching.{call_reach, Lent, call_lent, AreRanks};
 ghost use Rattle.plain_machine.specs.Standing.{standing_lanes};
 
 use crate::ranks::Ranks;
 use crate::reaching::{call_reach, no_memory, worked_memory};
-use crate::standing::{LaneId, has_entry, look_lane, name_lane};
+use crate::standing::{LaneId, has_entry, look_lane, look_purge, name_lane, unname_queue};
 use gaspi_model::{Memory, StepFault, Why};
 use gaspi_types::{Call, CallerId, NoMemory, RankId, Reach, Reply, Rows};
 use plain_calls::{Finding, is_there, look, news, record, tell, thread_at};
@@ -162,9 +162,43 @@ fn record_in(
     }
 }
 
-/// Records a look at a call, and names the lane to which it posts. It gives the reply with which the call was recorded.
-/// The look is one of this very call in this very state, so nothing is looked for again: what is left to check is that the
-/// rank has room.
+/// Records a look at a call that purges nothing, and names the lane to which it posts.
+fn record_posting(
+    ranks: &mut Ranks,
+    memories: &mut Rows<Memory>,
+    standing: &mut Vec<LaneId>,
+    alloc: Global,
+    caller: CallerId,
+    call: &Call,
+    look: Finding,
+) -> Result<Reply, StepFault>
+    requires machine { IsMachine (state_in ranks.old memories.old) ranks.old.taken standing.old.items }
+    requires declared { is_declared (state_in ranks.old memories.old) caller.rank caller.thread ≡ true }
+    requires look { IsFindingIn look (state_in ranks.old memories.old) caller call.now }
+    requires unpurged { look_purge call.now look ≡ None }
+    ensures reply { IfOk result (λ reply. reply ≡ recorded_reply look.ready) }
+    ensures step { Steps (made_of result) (state_in ranks.old memories.old) (state_in ranks.new memories.new) (step (state_in ranks.old memories.old) (Called caller call.now (recorded_reply look.ready))) }
+    ensures taken { ranks.new.taken ≡ map taken_of ranks.new.posts }
+    ensures named { standing.new.items ≡ standing_lanes ranks.new.posts }
+    ensures ample { keeps_memory call.now ≡ false → result ≢ Err StepFault.NoMemory }
+{
+    let Some(id) = look_lane(caller.rank, call, &look) else {
+        return record_in(ranks, memories, alloc, caller, call, look);
+    };
+    if has_entry(&ranks.posts, &id) {
+        return record_in(ranks, memories, alloc, caller, call, look);
+    }
+    if standing.reserve(1).is_err() {
+        return Err(StepFault::NoMemory);
+    }
+    let reply = record_in(ranks, memories, alloc, caller, call, look)?;
+    name_lane(standing, id);
+    Ok(reply)
+}
+
+/// Records a look at a call, and names the lane to which it posts; the lanes of a queue that it purges are named no more. It
+/// gives the reply with which the call was recorded. The look is one of this very call in this very state, so nothing is
+/// looked for again: what is left to check is that the rank has room.
 pub fn record_named(
     ranks: &mut Ranks,
     memories: &mut Rows<Memory>,
@@ -183,17 +217,12 @@ pub fn record_named(
     ensures named { standing.new.items ≡ standing_lanes ranks.new.posts }
     ensures ample { keeps_memory call.now ≡ false → result ≢ Err StepFault.NoMemory }
 {
-    let Some(id) = look_lane(caller.rank, call, &look) else {
-        return record_in(ranks, memories, alloc, caller, call, look);
+    let Some(queue) = look_purge(call, &look) else {
+        return record_posting(ranks, memories, standing, alloc, caller, call, look);
     };
-    if has_entry(&ranks.posts, &id) {
-        return record_in(ranks, memories, alloc, caller, call, look);
-    }
-    if standing.reserve(1).is_err() {
-        return Err(StepFault::NoMemory);
-    }
+    let origin = caller.rank;
     let reply = record_in(ranks, memories, alloc, caller, call, look)?;
-    name_lane(standing, id);
+    unname_queue(standing, origin, queue);
     Ok(reply)
 }
 

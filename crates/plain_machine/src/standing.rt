@@ -1,14 +1,14 @@
 //! The lanes that have an entry, by their names. (GASPI: one-sided communication)
 
 ghost use Rattle.std.specs.Prelude.{◌≡◌, ◌≢◌, ◌<◌, ◌≤◌, [], length, true, false, vec_len, vec_capacity};
-ghost use Rattle.std.specs.List.{insert, remove, prefix_len};
+ghost use Rattle.std.specs.List.{filter, insert, remove, prefix_len};
 ghost use Rattle.std.specs.Option.{option_copied};
-ghost use Rattle.plain_machine.specs.Standing.{is_before, lane_queue, queue_entries, lane_entries, open_entries, post_lane};
-ghost use Rattle.plain_machine.specs.Looking.{look_lane};
+ghost use Rattle.plain_machine.specs.Standing.{is_before, is_elsewhere, lane_queue, queue_entries, lane_entries, open_entries, post_lane};
+ghost use Rattle.plain_machine.specs.Looking.{look_lane, look_purge};
 
 use gaspi_model::Posts;
 use gaspi_types::{Call, Entry, Queue, QueueId, RankId, Rows};
-use plain_calls::Finding;
+use plain_calls::{Finding, purged_queue};
 
 /// The name of a lane: its origin, its queue and its target.
 #[derive(Clone, Copy, Debug, PartialEq, Eq)]
@@ -110,6 +110,16 @@ pub fn look_lane(rank: RankId, call: &Call, look: &Finding) -> Option<LaneId>
     }
 }
 
+/// The queue that a call purges whose look is recorded.
+pub fn look_purge(call: &Call, look: &Finding) -> Option<u64>
+    ensures { result ≡ look_purge call.now look.now }
+{
+    if look.is_idle() {
+        return None;
+    }
+    purged_queue(call)
+}
+
 /// Names a lane at its place. There is room for it.
 pub fn name_lane(standing: &mut Vec<LaneId>, id: LaneId)
     requires { vec_len standing.old < vec_capacity standing.old }
@@ -126,4 +136,11 @@ pub fn unname_lane(standing: &mut Vec<LaneId>, id: &LaneId)
 {
     let place = place_among(standing, id);
     let _named = standing.remove(place);
+}
+
+/// Takes the names of all lanes of an origin's queue out. No entry is looked at.
+pub fn unname_queue(standing: &mut Vec<LaneId>, origin: RankId, queue: u64)
+    ensures { standing.new.items ≡ filter (is_elsewhere origin queue) standing.old.items }
+{
+    standing.retain(|id| id.origin != origin || u64::from(id.queue.number()) != queue);
 }

@@ -7,8 +7,8 @@ ghost use Rattle.gaspi_model.specs.Step.{step, Steps, transfer_event};
 ghost use Rattle.gaspi_model.specs.declared.states.Memory.{Memory};
 ghost use Rattle.plain_calls.specs.Looks.{made_of};
 ghost use Rattle.plain_calls.specs.Memory.{takes_memory};
-ghost use Rattle.plain_machine.specs.Machine.{AreWhole, IsMachine, state_in, taken_of, put_event};
-ghost use Rattle.plain_machine.specs.Entries.{found_at, reached_outcome, memories_after_put};
+ghost use Rattle.plain_machine.specs.Machine.{AreWhole, IsMachine, state_in, taken_of, take_event, put_event};
+ghost use Rattle.plain_machine.specs.Entries.{found_at, reached_outcome, memories_after_put, spared};
 ghost use Rattle.plain_machine.specs.Standing.{standing_lanes};
 
 use crate::looking::step_called;
@@ -20,17 +20,29 @@ use gaspi_model::{Memory, StepFault, Why};
 use gaspi_types::{Event, Outcome, RankId, Reach, Rows, Transfer};
 use std::alloc::Global;
 
-/// Steps by a take: a write takes its bytes from its origin's memory.
+/// A take that failed spares its rank the event of the entry's put.
+fn spare(rooms: &mut Rows<u32>, rank: usize, outcome: Outcome)
+    ensures { rooms.new ≡ spared rooms.old rank outcome }
+{
+    if matches!(outcome, Outcome::Failed) && rank < rooms.len() {
+        let room = rooms.at_mut(rank);
+        *room = room.saturating_sub(1);
+    }
+}
+
+/// Steps by a take, with the outcome that is given, or else the machine's: a write takes its bytes from its origin's memory,
+/// a read from its target's. It gives the outcome.
 fn step_take(
     ranks: &mut Ranks,
     memories: &Rows<Memory>,
     alloc: Global,
     id: &LaneId,
     number: u32,
-    outcome: Outcome,
-) -> Result<(), StepFault>
+    given: Option<Outcome>,
+) -> Result<Outcome, StepFault>
     requires { AreWhole ranks.old memories.now }
-    ensures step { Steps result (state_in ranks.old memories.now) (state_in ranks.new memories.now) (step (state_in ranks.old memories.now) (Take id.now.origin id.now.queue id.now.target number outcome)) }
+    ensures outcome { IfOk result (λ outcome. take_event (state_in ranks.old memories.now) id.now number given ≡ Take id.now.origin id.now.queue id.now.target number outcome) }
+    ensures step { Steps (made_of result) (state_in ranks.old memories.now) (state_in ranks.new memories.now) (step (state_in ranks.old memories.now) (take_event (state_in ranks.old memories.now) id.now number given)) }
     ensures taken { ranks.new.taken ≡ map taken_of ranks.new.posts }
 {
     let rank = id.origin.index();
@@ -45,13 +57,19 @@ fn step_take(
     let reach = at
         .entry
         .kind
-        .take_touch()
+        .take_touch(id.target)
         .reach(ranks.limits.ranks, id.origin);
     let memory = worked_memory(memories, &none, id.origin, reach);
-    let bytes = take_bytes(alloc, &ranks.limits, memory, &at, outcome)?;
-    let place = at.place;
-    set_taken(ranks.posts.at_mut(rank), id, place, bytes);
-    Ok(())
+    match take_bytes(alloc, &ranks.limits, memory, &at, given) {
+        Ok(taken) => {
+            let outcome = taken.outcome();
+            let place = at.place;
+            set_taken(ranks.posts.at_mut(rank), id, place, taken);
+            spare(&mut ranks.taken, rank, outcome);
+            Ok(outcome)
+        }
+        Err(fault) => Err(fault),
+    }
 }
 
 /// Puts an entry that was found into the memory that it reaches, with the outcome that is given, or else the machine's. It
@@ -169,7 +187,9 @@ pub fn step(
                 queue: *queue,
                 target: *target,
             };
-            step_take(ranks, memories, alloc, &id, *number, *outcome)
+            let given = Some(*outcome);
+            let _outcome = step_take(ranks, memories, alloc, &id, *number, given)?;
+            Ok(())
         }
         Event::Put(origin, queue, target, number, outcome) => {
             let id = LaneId {
@@ -209,7 +229,6 @@ pub fn make(
         let outcome = step_leaving(ranks, memories, standing, alloc, &id, number, None)?;
         return Ok(Event::Put(id.origin, id.queue, id.target, number, outcome));
     }
-    let outcome = Outcome::Applied;
-    step_take(ranks, memories, alloc, &id, number, outcome)?;
+    let outcome = step_take(ranks, memories, alloc, &id, number, None)?;
     Ok(Event::Take(id.origin, id.queue, id.target, number, outcome))
 }

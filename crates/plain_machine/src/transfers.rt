@@ -2,17 +2,17 @@
 
 ghost use Rattle.std.specs.Prelude.{◌≡◌, ◌≢◌, ◌+◌, ◌<◌, ◌^◌, IfOk, Err};
 ghost use Rattle.std.specs.Option.{unwrap_or};
-ghost use Rattle.gaspi_types.specs.declared.entries.Phase.TheVariants.{Carried};
-ghost use Rattle.gaspi_model.specs.Posting.{counted};
-ghost use Rattle.gaspi_model.specs.Transfers.{same_outcome, find_entry, lane_phase, queue_phase, posts_phase, taken_bytes, bytes_taken, target_segment, target_generation, put_outcome, carried_bytes, memory_put, memory_after_put, queue_without, posts_without, queue_failed, posts_failed, posts_after_put};
+ghost use Rattle.gaspi_model.specs.Transfers.{same_outcome, find_entry, lane_phase, queue_phase, posts_phase, outcome_at, take_outcome, put_outcome, taken_bytes, bytes_taken, carried_bytes, memory_put, memory_after_put, queue_without, posts_without, queue_failed, posts_failed, posts_after_put};
 ghost use Rattle.gaspi_model.specs.Step.{Steps};
 ghost use Rattle.plain_calls.specs.Looks.{made_of};
 ghost use Rattle.gaspi_model.specs.declared.states.Memory.{Memory};
-ghost use Rattle.plain_machine.specs.Entries.{Finds, Gives, found_at};
+ghost use Rattle.plain_machine.specs.Entries.{Finds, GivesTaken, found_at, outcome_of_taken, posts_taken};
 
 use crate::standing::LaneId;
 use gaspi_model::{Memory, Posts, StepFault, Why};
-use gaspi_types::{Bytes, Entry, Kind, Limits, NoMemory, Outcome, Phase, Queue, RankId, Rows};
+use gaspi_types::{
+    Bytes, Destination, Entry, Kind, Limits, NoMemory, Outcome, Phase, Queue, RankId, Rows,
+};
 use plain_calls::{bytes_of, may_put, may_take, place_of, segment_at, set_slot};
 use segment_tables::{is_generation, range_of, store_bytes};
 use std::alloc::Global;
@@ -57,19 +57,54 @@ fn same_outcome(a: Outcome, b: Outcome) -> bool
     )
 }
 
+/// How a transfer ends that works on a segment of that generation: it fails where that is gone. (GASPI: state vector)
+fn outcome_at(memory: &Memory, segment: u32, generation: u32) -> Outcome
+    ensures { result ≡ outcome_at memory.now segment generation }
+{
+    if is_generation(generation, segment_at(memory, u64::from(segment))) {
+        Outcome::Applied
+    } else {
+        Outcome::Failed
+    }
+}
+
+/// How a take ends: that of a read fails where the target's segment of its generation is gone. (GASPI: state vector)
+fn take_outcome(memory: &Memory, kind: &Kind) -> Outcome
+    ensures { result ≡ take_outcome memory.now kind.now }
+{
+    match kind {
+        Kind::Read { own: _, target } => outcome_at(memory, target.segment, target.generation),
+        Kind::Write { .. } | Kind::Notify { .. } | Kind::ReadNote { .. } => Outcome::Applied,
+    }
+}
+
+/// How a put ends: that of a write or a notification fails where the target's segment of its generation is gone.
+/// (GASPI: state vector)
+fn put_outcome(memory: &Memory, kind: &Kind) -> Outcome
+    ensures { result ≡ put_outcome memory.now kind.now }
+{
+    match kind {
+        Kind::Write { own: _, target } => outcome_at(memory, target.segment, target.generation),
+        Kind::Notify { target, value: _ } => {
+            outcome_at(memory, target.segment, target.generation)
+        }
+        Kind::Read { .. } | Kind::ReadNote { .. } => Outcome::Applied,
+    }
+}
+
 /// The bytes that an entry takes.
 fn taken_bytes(alloc: Global, memory: &Memory, kind: &Kind) -> Result<Bytes, NoMemory>
     ensures { IfOk result (λ bytes. bytes ≡ taken_bytes memory.now kind.now) }
 {
-    match kind {
-        Kind::Write { own, target: _ } => {
-            let bytes = bytes_of(memory, u64::from(own.segment));
+    match kind.source() {
+        Some(range) => {
+            let bytes = bytes_of(memory, u64::from(range.segment));
             Rows::copied_from(
                 alloc,
-                range_of(bytes, own.offset as usize, own.size as usize),
+                range_of(bytes, range.offset as usize, range.size as usize),
             )
         }
-        Kind::Notify { .. } => Ok(Rows::new(alloc)),
+        None => Ok(Rows::new(alloc)),
     }
 }
 
@@ -147,59 +182,65 @@ fn remove_entry(posts: &mut Posts, id: &LaneId, place: usize)
     }
 }
 
-/// The bytes with which an entry may be taken that was found: it is posted, its queue is not broken, and fewer entries of
-/// its lane than a queue holds have taken their bytes.
+/// What the take of an entry gives: its bytes, or that it failed.
+#[derive(Debug, Drop)]
+pub enum Taken {
+    Bytes(Bytes),
+    Failed,
+}
+
+impl Taken {
+    /// How the take ends.
+    pub fn outcome(&self) -> Outcome
+        ensures { result ≡ outcome_of_taken self.now }
+    {
+        match self {
+            Taken::Bytes(_) => Outcome::Applied,
+            Taken::Failed => Outcome::Failed,
+        }
+    }
+}
+
+/// Takes the bytes of an entry that was found: it is posted, its queue is not broken, and fewer entries of its lane than a
+/// queue holds have taken their bytes. The outcome is the one that is given, which has to be the machine's, or else the
+/// machine's.
 pub fn take_bytes(
     alloc: Global,
     limits: &Limits,
     memory: &Memory,
     at: &FoundEntry<'_>,
-    outcome: Outcome,
-) -> Result<Bytes, StepFault>
-    ensures { Gives result (bytes_taken limits.now memory.now (found_at at.now) outcome) }
+    given: Option<Outcome>,
+) -> Result<Taken, StepFault>
+    ensures outcome { IfOk result (λ taken. outcome_of_taken taken ≡ unwrap_or given (take_outcome memory.now (found_at at.now).entry.kind)) }
+    ensures bytes { GivesTaken result (bytes_taken limits.now memory.now (found_at at.now) (unwrap_or given (take_outcome memory.now (found_at at.now).entry.kind))) }
 {
+    let fitting = take_outcome(memory, &at.entry.kind);
+    let outcome = given.unwrap_or(fitting);
     if at.queue.broken.is_some()
         || !may_take(limits.depth, at.lane, at.entry)
-        || !same_outcome(outcome, Outcome::Applied)
+        || !same_outcome(outcome, fitting)
     {
         return Err(StepFault::Illegal(Why::Take));
     }
+    if matches!(outcome, Outcome::Failed) {
+        return Ok(Taken::Failed);
+    }
     match taken_bytes(alloc, memory, &at.entry.kind) {
-        Ok(bytes) => Ok(bytes),
+        Ok(bytes) => Ok(Taken::Bytes(bytes)),
         Err(NoMemory) => Err(StepFault::NoMemory),
     }
 }
 
-/// Gives the entry at a place the bytes that it takes, and counts the event.
-pub fn set_taken(posts: &mut Posts, id: &LaneId, place: usize, bytes: Bytes)
+/// Gives the entry at a place the bytes that it takes, or marks it as failed, and counts the event.
+pub fn set_taken(posts: &mut Posts, id: &LaneId, place: usize, taken: Taken)
     requires { posts.old.events + 1 < 2 ^ 32 }
-    ensures { posts.new ≡ counted (posts_phase posts.old id.now.queue id.now.target place (Carried bytes)) }
+    ensures { posts.new ≡ posts_taken posts.old id.now.queue id.now.target place taken }
 {
-    set_phase(posts, id, place, Phase::Carried(bytes));
+    match taken {
+        Taken::Bytes(bytes) => set_phase(posts, id, place, Phase::Carried(bytes)),
+        Taken::Failed => fail_entry(posts, id, place),
+    }
     posts.events += 1;
-}
-
-/// The segment and the generation to which an entry puts.
-fn target_of(kind: &Kind) -> (u32, u32)
-    ensures segment { result.0 ≡ target_segment kind.now }
-    ensures generation { result.1 ≡ target_generation kind.now }
-{
-    match kind {
-        Kind::Write { own: _, target } => (target.segment, target.generation),
-        Kind::Notify { target, value: _ } => (target.segment, target.generation),
-    }
-}
-
-/// How a put ends: it fails where the target's segment of the entry's generation is gone. (GASPI: state vector)
-fn put_outcome(memory: &Memory, kind: &Kind) -> Outcome
-    ensures { result ≡ put_outcome memory.now kind.now }
-{
-    let (segment, generation) = target_of(kind);
-    if is_generation(generation, segment_at(memory, u64::from(segment))) {
-        Outcome::Applied
-    } else {
-        Outcome::Failed
-    }
 }
 
 /// The bytes that an entry has taken.
@@ -216,26 +257,21 @@ fn carried_bytes(phase: &Phase) -> &[u8]
 fn memory_put(memory: &mut Memory, entry: &Entry)
     ensures { memory.new ≡ memory_put memory.old entry.now }
 {
-    match &entry.kind {
-        Kind::Write { own: _, target } => store_bytes(
+    match entry.kind.destination() {
+        Destination::Range(range) => store_bytes(
             &mut memory.segments,
-            u64::from(target.segment),
-            u64::from(target.offset),
+            u64::from(range.segment),
+            u64::from(range.offset),
             carried_bytes(&entry.phase),
         ),
-        Kind::Notify { target, value } => {
-            set_slot(
-                memory,
-                u64::from(target.segment),
-                u64::from(target.note),
-                *value,
-            );
+        Destination::Slot(slot, value) => {
+            set_slot(memory, u64::from(slot.segment), u64::from(slot.note), value);
         }
     }
 }
 
 /// Puts an entry that was found, into the memory: it has taken its bytes, its queue is not broken, and, for a notification,
-/// no earlier write stands in its lane. The outcome is the one that is given, which has to be the machine's, or else the
+/// no earlier write, or no earlier read, stands in its lane. The outcome is the one that is given, which has to be the machine's, or else the
 /// machine's. It takes no memory.
 pub fn put_bytes(
     memory: &mut Memory,

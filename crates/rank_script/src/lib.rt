@@ -17,6 +17,3 @@ pub use run_laws::runs;
 pub use scripts::{Halted, RunOutcome, Script, ScriptFault, ScriptLine, Scripts};
 pub use split::split_input;
 pub use world_texts::{MOST_INPUT_BYTES, read_input, read_world};
-
-#[cfg(test)]
-mod tests;

@@ -4,6 +4,3 @@
 mod comparisons;
 
 pub use comparisons::same_reply;
-
-#[cfg(test)]
-mod tests;

@@ -43,6 +43,3 @@ fn without_return(line: &[u8]) -> &[u8]
     };
     if *last == b'\r' { front } else { line }
 }
-
-#[cfg(test)]
-mod tests;

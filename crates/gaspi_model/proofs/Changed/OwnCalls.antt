@@ -4,7 +4,7 @@ use Rattle.std.specs.List.{slice_get, slice_set, slice_index, list_any}
 use Rattle.std.specs.Option.{option_map, unwrap_or}
 use Rattle.std.proofs.lemmas.Bool.{ltb-true}
 use Rattle.gaspi_types.specs.CallRows.{row_of}
-use Rattle.gaspi_types.specs.Lanes.{has_posted}
+use Rattle.gaspi_types.specs.Lanes.{has_awaited}
 use Rattle.gaspi_types.specs.Replies.{is_idle}
 use Rattle.gaspi_types.specs.SegmentBytes.{range_of}
 use Rattle.gaspi_types.specs.SegmentTables.{extent_in, own_range_checks, alloc_checks}
@@ -103,7 +103,7 @@ own-there s me posts memory seg mine sound hp hm there =
 same-bytes : (a b : List ℕ) → ◌≡◌ {A = Option Reply} (Some (replies.Bytes a)) (Some (replies.Bytes b)) → b ≡ a
 same-bytes a b h = cc
 
-same-value : (a b : ℕ) → ◌≡◌ {A = Option Reply} (Some (replies.Value a)) (Some (replies.Value b)) → a ≡ b
+pub same-value : (a b : ℕ) → ◌≡◌ {A = Option Reply} (Some (replies.Value a)) (Some (replies.Value b)) → a ≡ b
 same-value a b h = cc
 
 load-found : (posts : Posts) (memory : Memory) (call : load.Load) (bytes : List ℕ) → load_finds posts memory call ≡ Ok (Some (replies.Bytes bytes))
@@ -205,7 +205,7 @@ record IsWaitFound (posts : Posts) (call : wait.Wait) : Type 0 where
   q : Queue
   there : slice_get posts.queues call.queue ≡ Some q
   whole : q.broken ≡ None
-  taken : list_any has_posted q.lanes ≡ false
+  taken : list_any has_awaited q.lanes ≡ false
 
 none-posted : (b : Bool) → ◌≡◌ {A = Option Reply} (if b then None else Some replies.Done) (Some replies.Done) → b ≡ false
 none-posted true h = absurd (let no : ⊥ = cc in no)
@@ -215,7 +215,7 @@ wait-found : (posts : Posts) (call : wait.Wait) → wait_finds posts call ≡ Ok
 wait-found posts call h =
     found_then (slice_get posts.queues call.queue) _ _ (Some replies.Done) h (λ q there h1.
     absent_then q.broken _ _ (Some replies.Done) h1 (λ whole h2.
-    record { q = q; there = there; whole = whole; taken = none-posted (list_any has_posted q.lanes) (same_Ok _ _ h2) }))
+    record { q = q; there = there; whole = whole; taken = none-posted (list_any has_awaited q.lanes) (same_Ok _ _ h2) }))
 
 pub waited : (s t : State) (c : CallerId) (call : wait.Wait) → IsSound s → step s (Called c (calls.Wait call) replies.Done) ≡ Ok t → IsWaited s t c.rank call.queue
 waited s t c call sound h =

@@ -27,7 +27,7 @@ use Rattle.gaspi_model.specs.declared.states.Memory.{Memory}
 use Rattle.gaspi_model.specs.declared.states.State.{State}
 use Rattle.gaspi_types.proofs.Items.{slice_get-set_other, slice_get-set_same}
 use Rattle.gaspi_model.proofs.Sound.Told.{IsTold, told, told-get}
-use Rattle.gaspi_model.proofs.Made.{IsPut, memories_at, call_reach, put_reach, step-called, step-take, step-put}
+use Rattle.gaspi_model.proofs.Made.{IsTake, IsPut, memories_at, call_reach, put_reach, step-called, step-take, step-put}
 
 -- of a state with the posts of a rank replaced
 pub active-changed : (s : State) (table : List Posts) (o : ℕ) (posts after : Posts) → slice_get s.posts o ≡ Some posts → (memories : List Memory) (rank thread : ℕ)
@@ -89,11 +89,15 @@ active s t (Called c call reply) rank thread h ends =
 active s t (Take origin queue target number outcome) rank thread h ends =
     let made = step-take s t origin queue target number outcome h in
     let m = made.4 in
-    rw m.leaves (active-changed s s.posts origin made.0 made.2 m.posts_there s.memories rank thread (λ here. rw m.is.leaves refl))
+    rw m.leaves (active-changed s s.posts origin made.0 made.2 m.posts_there s.memories rank thread (λ here. same-take made.0 made.1 outcome made.2 made.3 m.is))
+  where
+    same-take : (posts : Posts) (memory : Memory) (outcome : Outcome) (after : Posts) (at : Found) → IsTake s.limits posts memory queue target number outcome after at → thread_at after thread ≡ thread_at posts thread
+    same-take posts memory Applied after at h = rw h.leaves refl
+    same-take posts memory Failed after at h = rw h.leaves refl
 active s t (Put origin queue target number outcome) rank thread h ends =
     let made = step-put s t origin queue target number outcome h in
     let m = made.4 in
-    rw m.leaves (active-changed s s.posts origin made.0 made.2.posts m.posts_there (memories_at (put_reach s.limits.ranks origin target) origin made.2.memory s.memories) rank thread (λ here. same-put made.0 made.1 outcome made.2 made.3 m.is))
+    rw m.leaves (active-changed s s.posts origin made.0 made.2.posts m.posts_there (memories_at (put_reach s.limits.ranks origin target made.3.entry.kind) origin made.2.memory s.memories) rank thread (λ here. same-put made.0 made.1 outcome made.2 made.3 m.is))
   where
     same-put : (posts : Posts) (memory : Memory) (outcome : Outcome) (after : Worked) (at : Found) → IsPut posts memory queue target number outcome after at → thread_at after.posts thread ≡ thread_at posts thread
     same-put posts memory Applied after at h = rw h.leaves refl

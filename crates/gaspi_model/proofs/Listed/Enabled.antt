@@ -13,7 +13,7 @@ use Rattle.gaspi_types.specs.Replies.{refusal_number, refusal_fields, type_numbe
 use Rattle.gaspi_types.specs.declared.collectives.Numbers.{Numbers}
 use Rattle.gaspi_types.specs.declared.entries.Entry.{Entry}
 use Rattle.gaspi_types.specs.declared.entries.Kind.{Kind}
-use Rattle.gaspi_types.specs.declared.entries.Kind.TheVariants.{Write, Notify}
+use Rattle.gaspi_types.specs.declared.entries.Kind.TheVariants.{Write, Read, Notify, ReadNote}
 use Rattle.gaspi_types.specs.declared.shapes.Limits.{Limits}
 use Rattle.gaspi_types.specs.declared.calls.Call.{Call}
 use Rattle.gaspi_types.specs.declared.replies.Refusal.{Refusal}
@@ -28,11 +28,12 @@ use Rattle.gaspi_types.specs.declared.events.Event.TheVariants.{Called, Take, Pu
 use Rattle.gaspi_model.specs.State.{owed, thread_at, is_running}
 use Rattle.gaspi_model.specs.Calls.{answer, recorded_reply, charge, peer_after}
 use Rattle.gaspi_model.specs.Parts.{Parts, parts_of, with_parts, touched_of, worked_memory, with_worked_memory}
-use Rattle.gaspi_model.proofs.Made.{worked-at, memory_at, put_reach, entry-found}
+use Rattle.gaspi_model.proofs.Made.{worked-at, memory_at, take_reach, put_reach, entry-found}
+use Rattle.gaspi_types.specs.declared.touches.Touch.TheVariants as touches
 use Rattle.gaspi_types.specs.Touches.{reach_of}
 use Rattle.gaspi_types.specs.declared.touches.Reach.{Reach}
 use Rattle.std.specs.Option.{option_map}
-use Rattle.gaspi_model.specs.Transfers.{find_entry, entry_in, take, put, Worked, put_outcome, same_outcome, transfer_of, lane_transfers, queue_transfers, rank_transfers, transfers}
+use Rattle.gaspi_model.specs.Transfers.{find_entry, entry_in, take, put, Worked, outcome_at, take_outcome, put_outcome, same_outcome, transfer_of, lane_transfers, queue_transfers, rank_transfers, transfers}
 use Rattle.gaspi_model.specs.Step.{step, called, is_there, call_memory, event_reach, answer_in, is_active, room_taken, transfer_event}
 use Rattle.gaspi_model.specs.Sound.{IsSound}
 use Rattle.gaspi_types.specs.declared.entries.Queue.{Queue}
@@ -226,33 +227,68 @@ found-entry : (posts : Posts) (t : Transfer) (q : Queue) (lane : List Entry) (pl
     → find_entry posts t.queue t.target t.number why ≡ Ok (record { queue = q; lane = lane; place = place; entry = e })
 found-entry posts t q lane place e why hq hl hp he = rw (hq, hl, hp, he) refl
 
--- the memory to which a put puts
-put-memory : (s : State) (posts : Posts) (origin queue target number : ℕ) (outcome : Outcome) (e : Entry) (memory : Memory) → entry_in posts queue target number ≡ Some e
-    → slice_get s.memories target ≡ Some memory → target < s.limits.ranks
-    → worked_memory (event_reach s.limits posts (Put origin queue target number outcome)) (parts_of s posts (touched_of origin (event_reach s.limits posts (Put origin queue target number outcome)))) ≡ memory
-put-memory s posts origin queue target number outcome e memory found there ranked =
-    worked-at s posts origin (event_reach s.limits posts (Put origin queue target number outcome))
-    ∙ ap (λ (r : Reach). memory_at r origin s.memories) (by-kind e.kind refl) ∙ go (target == origin) refl
+-- the memory of a rank that an event reaches is that rank's
+target-memory : (s : State) (origin target : ℕ) (memory : Memory) → slice_get s.memories target ≡ Some memory → target < s.limits.ranks
+    → memory_at (reach_of s.limits.ranks origin (touches.MemoryOf target)) origin s.memories ≡ memory
+target-memory s origin target memory there ranked = go (target == origin) refl
   where
-    by-kind : (k : Kind) → e.kind ≡ k → event_reach s.limits posts (Put origin queue target number outcome) ≡ put_reach s.limits.ranks origin target
-    by-kind (Write own to) is = rw (found, is) refl
-    by-kind (Notify to value) is = rw (found, is) refl
-
-    go : (b : Bool) → (target == origin) ≡ b → memory_at (put_reach s.limits.ranks origin target) origin s.memories ≡ memory
+    go : (b : Bool) → (target == origin) ≡ b → memory_at (reach_of s.limits.ranks origin (touches.MemoryOf target)) origin s.memories ≡ memory
     go true is =
         let here : slice_get s.memories origin ≡ Some memory = subst (λ (n : ℕ). slice_get s.memories n ≡ Some memory) (eqb-true target origin is) there in
         rw (is, here) refl
     go false is = rw (is, lt-ltb target s.limits.ranks ranked, there) refl
+
+-- so the machine's outcome of a transfer is told by the memory of its target
+take-outcome : (s : State) (origin target : ℕ) (memory : Memory) (kind : Kind) → slice_get s.memories target ≡ Some memory → target < s.limits.ranks
+    → take_outcome (memory_at (take_reach s.limits.ranks origin target kind) origin s.memories) kind ≡ take_outcome memory kind
+take-outcome s origin target memory (Write own to) there ranked = refl
+take-outcome s origin target memory (Read own to) there ranked = ap (λ (m : Memory). outcome_at m to.segment to.generation) (target-memory s origin target memory there ranked)
+take-outcome s origin target memory (Notify to value) there ranked = refl
+take-outcome s origin target memory (ReadNote own) there ranked = refl
+
+put-outcome : (s : State) (origin target : ℕ) (memory : Memory) (kind : Kind) → slice_get s.memories target ≡ Some memory → target < s.limits.ranks
+    → put_outcome (memory_at (put_reach s.limits.ranks origin target kind) origin s.memories) kind ≡ put_outcome memory kind
+put-outcome s origin target memory (Write own to) there ranked = ap (λ (m : Memory). outcome_at m to.segment to.generation) (target-memory s origin target memory there ranked)
+put-outcome s origin target memory (Read own to) there ranked = refl
+put-outcome s origin target memory (Notify to value) there ranked = ap (λ (m : Memory). outcome_at m to.segment to.generation) (target-memory s origin target memory there ranked)
+put-outcome s origin target memory (ReadNote own) there ranked = refl
+
+-- the memory that a transfer works on
+take-worked : (s : State) (posts : Posts) (origin queue target number : ℕ) (outcome : Outcome) (e : Entry) → entry_in posts queue target number ≡ Some e
+    → worked_memory (event_reach s.limits posts (Take origin queue target number outcome)) (parts_of s posts (touched_of origin (event_reach s.limits posts (Take origin queue target number outcome))))
+    ≡ memory_at (take_reach s.limits.ranks origin target e.kind) origin s.memories
+take-worked s posts origin queue target number outcome e found =
+    let reaches : event_reach s.limits posts (Take origin queue target number outcome) ≡ take_reach s.limits.ranks origin target e.kind = rw found refl in
+    worked-at s posts origin (event_reach s.limits posts (Take origin queue target number outcome)) ∙ ap (λ (r : Reach). memory_at r origin s.memories) reaches
+
+put-worked : (s : State) (posts : Posts) (origin queue target number : ℕ) (outcome : Outcome) (e : Entry) → entry_in posts queue target number ≡ Some e
+    → worked_memory (event_reach s.limits posts (Put origin queue target number outcome)) (parts_of s posts (touched_of origin (event_reach s.limits posts (Put origin queue target number outcome))))
+    ≡ memory_at (put_reach s.limits.ranks origin target e.kind) origin s.memories
+put-worked s posts origin queue target number outcome e found =
+    let reaches : event_reach s.limits posts (Put origin queue target number outcome) ≡ put_reach s.limits.ranks origin target e.kind = rw found refl in
+    worked-at s posts origin (event_reach s.limits posts (Put origin queue target number outcome)) ∙ ap (λ (r : Reach). memory_at r origin s.memories) reaches
 
 pub transfer-is_step : (s : State) (t : Transfer) (k : ℕ) → IsSound s → slice_get (transfers s.limits s.posts) k ≡ Some t → IsOk (step s (transfer_event s t))
 transfer-is_step s t k sound at =
     let l = listed s.limits s.posts t k at in
     go l.0 l.1 l.2 l.3 l.4 l.5
   where
-    take-step : (posts : Posts) (q : Queue) (lane : List Entry) (place : ℕ) (e : Entry) → slice_get s.posts t.origin ≡ Some posts
+    take-step : (posts : Posts) (q : Queue) (lane : List Entry) (place : ℕ) (e : Entry) (memory : Memory) → slice_get s.posts t.origin ≡ Some posts → slice_get s.memories t.target ≡ Some memory
+        → t.target < s.limits.ranks → entry_in posts t.queue t.target t.number ≡ Some e
         → find_entry posts t.queue t.target t.number whys.Take ≡ Ok (record { queue = q; lane = lane; place = place; entry = e })
-        → is_none q.broken ≡ true → may_take s.limits.depth lane e ≡ true → IsOk (step s (Take t.origin t.queue t.target t.number Applied))
-    take-step posts q lane place e hp hf whole permitted = rw (hp, hf, whole, permitted) refl
+        → is_none q.broken ≡ true → may_take s.limits.depth lane e ≡ true → IsOk (step s (Take t.origin t.queue t.target t.number (take_outcome memory e.kind)))
+    take-step posts q lane place e memory hp hm ranked found hf whole permitted =
+        let outcome = take_outcome memory e.kind in
+        let reach = event_reach s.limits posts (Take t.origin t.queue t.target t.number outcome) in
+        let parts = parts_of s posts (touched_of t.origin reach) in
+        let worked = memory_at (take_reach s.limits.ranks t.origin t.target e.kind) t.origin s.memories in
+        let leave = λ (after : Posts). (let left : Parts = record parts { posts = after } in left) in
+        let fits : same_outcome outcome (take_outcome worked e.kind) ≡ true = rw (take-outcome s t.origin t.target memory e.kind hm ranked) (same_outcome-refl outcome) in
+        let takes : IsOk (take s.limits posts worked t.queue t.target t.number outcome) = rw (hf, whole, permitted, fits) refl in
+        let done : IsOk (take s.limits posts (worked_memory reach parts) t.queue t.target t.number outcome) =
+        subst (λ (m : Memory). IsOk (take s.limits posts m t.queue t.target t.number outcome)) (sym (take-worked s posts t.origin t.queue t.target t.number outcome e found)) takes in
+        rw hp (ok-then (take s.limits posts (worked_memory reach parts) t.queue t.target t.number outcome >>= λ after. Ok (leave after)) (with_parts s t.origin (touched_of t.origin reach))
+        (ok-then (take s.limits posts (worked_memory reach parts) t.queue t.target t.number outcome) leave done))
 
     put-step : (posts : Posts) (q : Queue) (lane : List Entry) (place : ℕ) (e : Entry) (memory : Memory) → slice_get s.posts t.origin ≡ Some posts → slice_get s.memories t.target ≡ Some memory
         → t.target < s.limits.ranks → entry_in posts t.queue t.target t.number ≡ Some e
@@ -262,10 +298,12 @@ transfer-is_step s t k sound at =
         let outcome = put_outcome memory e.kind in
         let reach = event_reach s.limits posts (Put t.origin t.queue t.target t.number outcome) in
         let parts = parts_of s posts (touched_of t.origin reach) in
-        let is = put-memory s posts t.origin t.queue t.target t.number outcome e memory found hm ranked in
+        let worked = memory_at (put_reach s.limits.ranks t.origin t.target e.kind) t.origin s.memories in
         let leave = λ (after : Worked). (let left : Parts = record (with_worked_memory reach parts after.memory) { posts = after.posts } in left) in
-        let puts : IsOk (put posts memory t.queue t.target t.number outcome) = rw (hf, whole, permitted, same_outcome-refl outcome) refl in
-        let done : IsOk (put posts (worked_memory reach parts) t.queue t.target t.number outcome) = subst (λ (m : Memory). IsOk (put posts m t.queue t.target t.number outcome)) (sym is) puts in
+        let fits : same_outcome outcome (put_outcome worked e.kind) ≡ true = rw (put-outcome s t.origin t.target memory e.kind hm ranked) (same_outcome-refl outcome) in
+        let puts : IsOk (put posts worked t.queue t.target t.number outcome) = rw (hf, whole, permitted, fits) refl in
+        let done : IsOk (put posts (worked_memory reach parts) t.queue t.target t.number outcome) =
+        subst (λ (m : Memory). IsOk (put posts m t.queue t.target t.number outcome)) (sym (put-worked s posts t.origin t.queue t.target t.number outcome e found)) puts in
         rw hp (ok-then (put posts (worked_memory reach parts) t.queue t.target t.number outcome >>= λ after. Ok (leave after)) (with_parts s t.origin (touched_of t.origin reach))
         (ok-then (put posts (worked_memory reach parts) t.queue t.target t.number outcome) leave done))
 
@@ -277,7 +315,8 @@ transfer-is_step s t k sound at =
         let event : transfer_event s t ≡ Put t.origin t.queue t.target t.number (put_outcome target e.kind) = rw (is, hp, ht, hf whys.Put) refl in
         subst (λ (x : Event). IsOk (step s x)) (sym event) (put-step posts q lane place e target hp ht ranked found (hf whys.Put) whole permitted)
     by-kind posts q lane place e target hp ht ranked found hf whole false is permitted =
-        rw is (take-step posts q lane place e hp (hf whys.Take) whole permitted)
+        let event : transfer_event s t ≡ Take t.origin t.queue t.target t.number (take_outcome target e.kind) = rw (is, hp, ht, hf whys.Put) refl in
+        subst (λ (x : Event). IsOk (step s x)) (sym event) (take-step posts q lane place e target hp ht ranked found (hf whys.Take) whole permitted)
 
     go : (posts : Posts) (q : Queue) (lane : List Entry) (place : ℕ) (e : Entry) → IsListed s.limits s.posts t posts q lane place e → IsOk (step s (transfer_event s t))
     go posts q lane place e l =

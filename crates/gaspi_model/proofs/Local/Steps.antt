@@ -8,7 +8,7 @@ use Rattle.gaspi_types.specs.Touches.{reach_of}
 use Rattle.gaspi_types.specs.declared.shapes.CallerId.{CallerId}
 use Rattle.gaspi_types.specs.declared.shapes.Limits.{Limits}
 use Rattle.gaspi_types.specs.declared.calls.Call.{Call}
-use Rattle.gaspi_types.specs.declared.calls.Call.TheVariants.{Write, Notify, WriteNotify, Wait}
+use Rattle.gaspi_types.specs.declared.calls.Call.TheVariants.{Write, Read, Notify, WriteNotify, ReadNotify, Wait}
 use Rattle.gaspi_types.specs.declared.calls.queues.Wait as wait
 use Rattle.gaspi_types.specs.declared.call_rows.Posting.{Posting}
 use Rattle.gaspi_types.specs.declared.replies.Reply.{Reply}
@@ -104,8 +104,10 @@ few s e = go (slice_get s.posts (owner_of e)) refl
 -- a call that posts reaches its owner's posts alone
 posting-reaches-none : (call : Call) (to : Posting) → (row_of call).posting ≡ Some to → (row_of call).touch ≡ touches.Nothing
 posting-reaches-none (Write call) to is = refl
+posting-reaches-none (Read call) to is = refl
 posting-reaches-none (Notify call) to is = refl
 posting-reaches-none (WriteNotify call) to is = refl
+posting-reaches-none (ReadNotify call) to is = refl
 posting-reaches-none call to is = absurd (let no : ⊥ = cc in no)
 
 untouched : (s : State) (c : CallerId) (call : Call) (reply : Reply) → (row_of call).touch ≡ touches.Nothing → footprint s (Called c call reply) ≡ shards.Posts c.rank ∷ []

@@ -1,32 +1,38 @@
--- A write stands in its lane until it is put, and while it stands no later notification of its lane is put.
+-- A write or a read stands in its lane until it is put, and while it stands no later notification of its kind and lane is
+-- put.
 use Rattle.std.proofs.Common.{◌≡◌, ℕ, zero, suc, ◌+◌, ◌<◌, arith, Bool, true, false, not, ◌==◌, ◌&&◌, ◌||◌, nat_lt, List, [], ◌∷◌, ◌++◌, length, remove, Option, None, Some, Result, Ok, Err, refl, sym, ap, ◌∙◌, subst, ◌⊎◌, inl, inr, if◌then◌else◌}
-use Rattle.std.specs.List.{slice_get, slice_set, prefix_len}
-use Rattle.std.proofs.lemmas.Bool.{eqb-true, lt-ltb}
-use Rattle.gaspi_types.specs.Lanes.{is_write, is_write_kind, has_earlier_write, may_put, may_put_kind, is_carried, place_of, posted_entries}
+use Rattle.std.specs.List.{slice_get, slice_set, prefix_len, list_any}
+use Rattle.std.proofs.lemmas.Bool.{eq-eqb, eqb-true, eqb-false, lt-ltb}
+use Rattle.gaspi_types.specs.Kinds.{is_write_kind, is_read_kind, is_notify_kind, is_read_note_kind}
+use Rattle.gaspi_types.specs.Lanes.{may_put, may_put_kind, is_carried, place_of, posted_entries}
 use Rattle.gaspi_types.specs.Replies.{is_idle}
 use Rattle.gaspi_types.specs.declared.entries.Entry.{Entry}
 use Rattle.gaspi_types.specs.declared.entries.Kind.{Kind}
-use Rattle.gaspi_types.specs.declared.entries.Kind.TheVariants.{Write, Notify}
+use Rattle.gaspi_types.specs.declared.entries.Kind.TheVariants.{Write, Read, Notify, ReadNote}
 use Rattle.gaspi_types.specs.declared.entries.Phase.{Phase}
 use Rattle.gaspi_types.specs.declared.entries.Phase.TheVariants as phases
 use Rattle.gaspi_types.specs.declared.shapes.Limits.{Limits}
 use Rattle.gaspi_types.specs.declared.calls.Call.{Call}
-use Rattle.gaspi_types.specs.declared.calls.Call.TheVariants.{Wait}
+use Rattle.gaspi_types.specs.declared.calls.Call.TheVariants.{Wait, Purge}
 use Rattle.gaspi_types.specs.CallRows.{row_of}
 use Rattle.gaspi_types.specs.declared.call_rows.Posting.{Posting}
 use Rattle.gaspi_types.specs.declared.replies.Reply.{Reply}
+use Rattle.gaspi_types.specs.declared.replies.Reply.TheVariants as replies
 use Rattle.gaspi_types.specs.declared.replies.Refusal.{Refusal}
+use Rattle.gaspi_types.specs.declared.replies.Refusal.TheVariants.{BadQueue}
+use Rattle.gaspi_types.specs.declared.shapes.CallerId.{CallerId}
 use Rattle.gaspi_types.specs.declared.events.Outcome.TheVariants.{Applied, Failed}
 use Rattle.gaspi_types.specs.declared.events.Event.{Event}
 use Rattle.gaspi_types.specs.declared.events.Event.TheVariants.{Called, Take, Put}
 use Rattle.gaspi_model.specs.Posting.{with_post, counted}
 use Rattle.gaspi_types.specs.Tables.{changed_at}
 use Rattle.gaspi_types.specs.Queues.{with_entries}
-use Rattle.gaspi_model.specs.Calls.{posts_done, plain_done, call_asks}
+use Rattle.gaspi_model.specs.Calls.{posts_done, plain_done, call_asks, answer, recorded_reply}
+use Rattle.gaspi_model.specs.QueueCalls.{emptied}
 use Rattle.gaspi_model.specs.Transfers.{Found, find_entry, taken_bytes}
 use Rattle.gaspi_model.specs.State.{opening}
 use Rattle.gaspi_model.specs.Step.{step, after, reached, is_legal}
-use Rattle.gaspi_model.specs.Order.{IsWriteStanding, IsNotificationStanding}
+use Rattle.gaspi_model.specs.Order.{IsStanding, IsWriteStanding, IsReadStanding, IsNotificationStanding, IsReadNoteStanding, is_purge_of}
 use Rattle.gaspi_types.specs.World.{World}
 use Rattle.gaspi_model.specs.Shards.{standing}
 use Rattle.gaspi_types.specs.declared.entries.Queue.{Queue}
@@ -35,12 +41,14 @@ use Rattle.gaspi_model.specs.declared.states.Memory.{Memory}
 use Rattle.gaspi_model.specs.declared.states.State.{State}
 use Rattle.gaspi_model.specs.declared.states.Why.{Why}
 use Rattle.gaspi_model.specs.declared.states.Why.TheVariants as whys
-use Rattle.gaspi_types.proofs.Chains.{both}
+use Rattle.gaspi_types.proofs.Chains.{both, found_then, same_Ok}
+use Rattle.gaspi_model.proofs.FoundReplies.{found-reply}
+use Rattle.gaspi_model.proofs.Same.{same_reply-same}
 use Rattle.gaspi_model.proofs.Made.{step-called, step-take, step-put}
 use Rattle.gaspi_types.proofs.Items.{slice_get-set_same, slice_get-set_other, same-or-not}
 use Rattle.gaspi_model.proofs.Sound.Told.{IsTold, told, told-get}
 use Rattle.gaspi_model.proofs.Histories.{after-first, after-both, leads}
-use Rattle.gaspi_model.proofs.FoundEntries.{IsFound, find_entry-ok, found-again, with_phase}
+use Rattle.gaspi_model.proofs.FoundEntries.{IsFound, find_entry-ok, found-again, with_phase, queue_with_failed, failed_with}
 
 one-more : (n : ℕ) → 1 + n ≡ suc n
 one-more n = omega arith
@@ -66,12 +74,12 @@ found-number lane k place e h at = go (nat_lt (prefix_len (λ x. not (x.number =
         number-stops k lane e (rw same at)
     go false is = absurd (let none : ◌≡◌ {A = Option ℕ} None (Some place) = rw is at h in let no : ⊥ = cc in no)
 
--- a write with a number stands in a lane
-record HasWrite (lane : List Entry) (m : ℕ) : Type 0 where
+-- an entry of a kind with a number stands in a lane
+record HasEntry (K : Kind → Bool) (lane : List Entry) (m : ℕ) : Type 0 where
   place : ℕ
   entry : Entry
   there : slice_get lane place ≡ Some entry
-  writes : is_write entry ≡ true
+  kind : K entry.kind ≡ true
   numbered : entry.number ≡ m
 
 append-keeps : {A : Type 0} (xs ys : List A) (k : ℕ) (x : A) → slice_get xs k ≡ Some x → slice_get (xs ++ ys) k ≡ Some x
@@ -87,11 +95,11 @@ remove-keeps (y ∷ xs) zero (suc k) x at apart = (k, at)
 remove-keeps (y ∷ xs) (suc i) zero x at apart = (0, at)
 remove-keeps (y ∷ xs) (suc i) (suc k) x at apart = let rest = remove-keeps xs i k x at (λ e. apart (ap (λ (n : ℕ). suc n) e)) in (suc rest.0, rest.1)
 
-write-appended : (lane more : List Entry) (m : ℕ) → HasWrite lane m → HasWrite (lane ++ more) m
-write-appended lane more m h = record { place = h.place; entry = h.entry; there = append-keeps lane more h.place h.entry h.there; writes = h.writes; numbered = h.numbered }
+entry-appended : {K : Kind → Bool} (lane more : List Entry) (m : ℕ) → HasEntry K lane m → HasEntry K (lane ++ more) m
+entry-appended lane more m h = record { place = h.place; entry = h.entry; there = append-keeps lane more h.place h.entry h.there; kind = h.kind; numbered = h.numbered }
 
-write-phase : (lane : List Entry) (place : ℕ) (e : Entry) (phase : Phase) (m : ℕ) → slice_get lane place ≡ Some e → HasWrite lane m → HasWrite (with_phase lane place e phase) m
-write-phase lane place e phase m at h = same-or-not place h.place
+entry-phase : {K : Kind → Bool} (lane : List Entry) (place : ℕ) (e : Entry) (phase : Phase) (m : ℕ) → slice_get lane place ≡ Some e → HasEntry K lane m → HasEntry K (with_phase lane place e phase) m
+entry-phase lane place e phase m at h = same-or-not place h.place
     (λ same.
     let at' : slice_get lane place ≡ Some h.entry = rw same h.there in
     let is : e ≡ h.entry = (let some : ◌≡◌ {A = Option Entry} (Some e) (Some h.entry) = sym at ∙ at' in cc) in
@@ -99,49 +107,52 @@ write-phase lane place e phase m at h = same-or-not place h.place
       place = place;
       entry = record e { phase = phase };
       there = slice_get-set_same lane place e (record e { phase = phase }) at;
-      writes = rw is h.writes;
+      kind = rw is h.kind;
       numbered = rw is h.numbered;
     })
-    (λ apart. record { place = h.place; entry = h.entry; there = slice_get-set_other lane place h.place (record e { phase = phase }) apart ∙ h.there; writes = h.writes; numbered = h.numbered })
+    (λ apart. record { place = h.place; entry = h.entry; there = slice_get-set_other lane place h.place (record e { phase = phase }) apart ∙ h.there; kind = h.kind; numbered = h.numbered })
 
-write-removed : (lane : List Entry) (place : ℕ) (e : Entry) (m : ℕ) → slice_get lane place ≡ Some e → HasWrite lane m → (e.number ≡ m) ⊎ HasWrite (remove lane place) m
-write-removed lane place e m at h = same-or-not place h.place
+entry-removed : {K : Kind → Bool} (lane : List Entry) (place : ℕ) (e : Entry) (m : ℕ) → slice_get lane place ≡ Some e → HasEntry K lane m → (e.number ≡ m) ⊎ HasEntry K (remove lane place) m
+entry-removed lane place e m at h = same-or-not place h.place
     (λ same.
     let at' : slice_get lane place ≡ Some h.entry = rw same h.there in
     let is : e ≡ h.entry = (let some : ◌≡◌ {A = Option Entry} (Some e) (Some h.entry) = sym at ∙ at' in cc) in
     inl (rw is h.numbered))
-    (λ apart. let rest = remove-keeps lane place h.place h.entry h.there apart in inr (record { place = rest.0; entry = h.entry; there = rest.1; writes = h.writes; numbered = h.numbered }))
+    (λ apart. let rest = remove-keeps lane place h.place h.entry h.there apart in inr (record { place = rest.0; entry = h.entry; there = rest.1; kind = h.kind; numbered = h.numbered }))
 
--- a write that stands is an earlier one for every greater number
-write-earlier : (lane : List Entry) (place : ℕ) (e : Entry) (n : ℕ) → slice_get lane place ≡ Some e → is_write e ≡ true → e.number < n → has_earlier_write lane n ≡ true
-write-earlier [] place e n at writes less = absurd (let no : ⊥ = cc in no)
-write-earlier (x ∷ lane) zero e n at writes less =
+-- an entry that stands is an earlier one for every greater number
+abbrev has_earlier : (Kind → Bool) → List Entry → ℕ → Bool
+has_earlier K lane n = list_any (λ (x : Entry). K x.kind && nat_lt x.number n) lane
+
+entry-earlier : (K : Kind → Bool) (lane : List Entry) (place : ℕ) (e : Entry) (n : ℕ) → slice_get lane place ≡ Some e → K e.kind ≡ true → e.number < n → has_earlier K lane n ≡ true
+entry-earlier K [] place e n at kind less = absurd (let no : ⊥ = cc in no)
+entry-earlier K (x ∷ lane) zero e n at kind less =
     let same : x ≡ e = cc in
-    let here : (is_write x && nat_lt x.number n) ≡ true = rw (same, writes, lt-ltb e.number n less) refl in
+    let here : (K x.kind && nat_lt x.number n) ≡ true = rw (same, kind, lt-ltb e.number n less) refl in
     rw here refl
-write-earlier (x ∷ lane) (suc place) e n at writes less = rw (write-earlier lane place e n at writes less) (or-true (is_write x && nat_lt x.number n))
+entry-earlier K (x ∷ lane) (suc place) e n at kind less = rw (entry-earlier K lane place e n at kind less) (or-true (K x.kind && nat_lt x.number n))
   where
     or-true : (b : Bool) → (b || true) ≡ true
     or-true true = refl
     or-true false = refl
 
 -- the same of a lane of a rank's posts
-record InQueue (q : Queue) (target m : ℕ) : Type 0 where
+record InQueue (K : Kind → Bool) (q : Queue) (target m : ℕ) : Type 0 where
   lane : List Entry
   lane_there : slice_get q.lanes target ≡ Some lane
-  has : HasWrite lane m
+  has : HasEntry K lane m
 
-record InQueues (queues : List Queue) (queue target m : ℕ) : Type 0 where
+record InQueues (K : Kind → Bool) (queues : List Queue) (queue target m : ℕ) : Type 0 where
   q : Queue
   queue_there : slice_get queues queue ≡ Some q
-  in_queue : InQueue q target m
+  in_queue : InQueue K q target m
 
-queues-changed : (queues : List Queue) (changed : ℕ) (change : Queue → Queue) (queue target m : ℕ)
-    → ((q : Queue) → slice_get queues changed ≡ Some q → changed ≡ queue → InQueue q target m → InQueue (change q) target m)
-    → InQueues queues queue target m → InQueues (changed_at queues changed change) queue target m
-queues-changed queues changed change queue target m keeps h = go (slice_get queues changed) refl
+queues-changed : {K : Kind → Bool} (queues : List Queue) (changed : ℕ) (change : Queue → Queue) (queue target m : ℕ)
+    → ((q : Queue) → slice_get queues changed ≡ Some q → changed ≡ queue → InQueue K q target m → InQueue K (change q) target m)
+    → InQueues K queues queue target m → InQueues K (changed_at queues changed change) queue target m
+queues-changed {K} queues changed change queue target m keeps h = go (slice_get queues changed) refl
   where
-    go : (o : Option Queue) → slice_get queues changed ≡ o → InQueues (changed_at queues changed change) queue target m
+    go : (o : Option Queue) → slice_get queues changed ≡ o → InQueues K (changed_at queues changed change) queue target m
     go None at = rw at h
     go (Some x) at = rw at (same-or-not changed queue
         (λ same.
@@ -149,60 +160,79 @@ queues-changed queues changed change queue target m keeps h = go (slice_get queu
         record { q = change x; queue_there = subst (λ (k : ℕ). slice_get (slice_set queues changed (change x)) k ≡ Some (change x)) same (slice_get-set_same queues changed x (change x) at); in_queue = keeps x at same (rw is h.in_queue) })
         (λ apart. record { q = h.q; queue_there = slice_get-set_other queues changed queue (change x) apart ∙ h.queue_there; in_queue = h.in_queue }))
 
--- a lane of a queue replaced by one that has the writes of the old one
-lane-replaced : (q : Queue) (replaced : ℕ) (lane lane' : List Entry) (target m : ℕ) → slice_get q.lanes replaced ≡ Some lane
-    → (replaced ≡ target → HasWrite lane m → HasWrite lane' m) → InQueue q target m → InQueue (record q { lanes = slice_set q.lanes replaced lane' }) target m
+-- a lane of a queue replaced by one that has the entries of the old one
+lane-replaced : {K : Kind → Bool} (q : Queue) (replaced : ℕ) (lane lane' : List Entry) (target m : ℕ) → slice_get q.lanes replaced ≡ Some lane
+    → (replaced ≡ target → HasEntry K lane m → HasEntry K lane' m) → InQueue K q target m → InQueue K (record q { lanes = slice_set q.lanes replaced lane' }) target m
 lane-replaced q replaced lane lane' target m at keeps h = same-or-not replaced target
     (λ same.
     let is : lane ≡ h.lane = (let some : ◌≡◌ {A = Option (List Entry)} (Some lane) (Some h.lane) = sym at ∙ rw same h.lane_there in cc) in
     record { lane = lane'; lane_there = subst (λ (k : ℕ). slice_get (slice_set q.lanes replaced lane') k ≡ Some lane') same (slice_get-set_same q.lanes replaced lane lane' at); has = keeps same (rw is h.has) })
     (λ apart. record { lane = h.lane; lane_there = slice_get-set_other q.lanes replaced target lane' apart ∙ h.lane_there; has = h.has })
 
-entries-keep : (q : Queue) (added : ℕ) (more : List Entry) (target m : ℕ) → InQueue q target m → InQueue (with_entries added more q) target m
-entries-keep q added more target m h = go (slice_get q.lanes added) refl
+entries-keep : {K : Kind → Bool} (q : Queue) (added : ℕ) (more : List Entry) (target m : ℕ) → InQueue K q target m → InQueue K (with_entries added more q) target m
+entries-keep {K} q added more target m h = go (slice_get q.lanes added) refl
   where
-    go : (o : Option (List Entry)) → slice_get q.lanes added ≡ o → InQueue (with_entries added more q) target m
+    go : (o : Option (List Entry)) → slice_get q.lanes added ≡ o → InQueue K (with_entries added more q) target m
     go None at = rw at (record { lane = h.lane; lane_there = h.lane_there; has = h.has })
     go (Some lane) at =
-        let changed = lane-replaced q added lane (lane ++ more) target m at (λ same. write-appended lane more m) h in
+        let changed = lane-replaced q added lane (lane ++ more) target m at (λ same. entry-appended lane more m) h in
         rw at (record { lane = changed.lane; lane_there = changed.lane_there; has = changed.has })
 
-post-keeps : (posts : Posts) (posted rank queue target m : ℕ) (asked : Result (List Kind) Refusal) → InQueues posts.queues queue target m
-    → InQueues (with_post posts posted rank asked).queues queue target m
+post-keeps : {K : Kind → Bool} (posts : Posts) (posted rank queue target m : ℕ) (asked : Result (List Kind) Refusal) → InQueues K posts.queues queue target m
+    → InQueues K (with_post posts posted rank asked).queues queue target m
 post-keeps posts posted rank queue target m (Err refusal) h = h
 post-keeps posts posted rank queue target m (Ok kinds) h =
     queues-changed posts.queues posted (with_entries rank (posted_entries posts.next kinds)) queue target m
     (λ q at same. entries-keep q rank (posted_entries posts.next kinds) target m) h
 
-done-keeps : (limits : Limits) (me : ℕ) (posts : Posts) (thread : ℕ) (call : Call) (queue target m : ℕ) → InQueues posts.queues queue target m
-    → InQueues (posts_done limits me posts thread call).queues queue target m
-done-keeps limits me posts thread call queue target m h = go (row_of call).posting refl
+-- whether a call is a purge of a queue
+abbrev purges : Call → ℕ → Bool
+purges (Purge call) queue = call.queue == queue
+purges call queue = false
+
+done-keeps : {K : Kind → Bool} (limits : Limits) (me : ℕ) (posts : Posts) (thread : ℕ) (call : Call) (queue target m : ℕ) → purges call queue ≡ false → InQueues K posts.queues queue target m
+    → InQueues K (posts_done limits me posts thread call).queues queue target m
+done-keeps {K} limits me posts thread call queue target m unpurged h = go (row_of call).posting refl
   where
-    plain : (call : Call) → InQueues (plain_done posts thread call).queues queue target m
-    plain (Wait call) =
+    plain : (call : Call) → purges call queue ≡ false → InQueues K (plain_done posts thread call).queues queue target m
+    plain (Purge call) apart = queues-changed posts.queues call.queue emptied queue target m (λ q at same i. absurd (eqb-false call.queue queue apart same)) h
+    plain (Wait call) apart =
         queues-changed posts.queues call.queue (λ (q : Queue). record q { open_count = 0 }) queue target m
         (λ q at same i. record { lane = i.lane; lane_there = i.lane_there; has = i.has }) h
-    plain other = h
+    plain other apart = h
 
-    go : (o : Option Posting) → (row_of call).posting ≡ o → InQueues (posts_done limits me posts thread call).queues queue target m
-    go None none = rw none (plain call)
+    go : (o : Option Posting) → (row_of call).posting ≡ o → InQueues K (posts_done limits me posts thread call).queues queue target m
+    go None none = rw none (plain call unpurged)
     go (Some to) post = rw post (post-keeps posts to.queue to.rank queue target m (call_asks limits me posts call) h)
 
-idle-keeps : (idle : Bool) (before done : Posts) (queue target m : ℕ) → InQueues before.queues queue target m → InQueues done.queues queue target m
-    → InQueues (counted (if idle then before else done)).queues queue target m
+idle-keeps : {K : Kind → Bool} (idle : Bool) (before done : Posts) (queue target m : ℕ) → InQueues K before.queues queue target m → (idle ≡ false → InQueues K done.queues queue target m)
+    → InQueues K (counted (if idle then before else done)).queues queue target m
 idle-keeps true before done queue target m h h' = h
-idle-keeps false before done queue target m h h' = h'
+idle-keeps false before done queue target m h h' = h' refl
 
--- a write stands in the lane of an origin to a target
-record Stands (s : State) (origin queue target m : ℕ) : Type 0 where
+same-done : (reply : Reply) → ◌≡◌ {A = Option Reply} (Some replies.Done) (Some reply) → reply ≡ replies.Done
+same-done reply h = cc
+
+-- a call of an origin that is recorded, and is no purge of a queue that is done, has not purged it
+not-purged : (limits : Limits) (c : CallerId) (posts : Posts) (memory : Memory) (call : Call) (reply : Reply) (origin queue : ℕ) → c.rank ≡ origin
+    → is_purge_of origin queue (Called c call reply) ≡ false → is_idle reply ≡ false → reply ≡ recorded_reply (answer limits c.rank posts memory c.thread call) → purges call queue ≡ false
+not-purged limits c posts memory (Purge call) reply origin queue same unpurged awake is =
+    let finds = found-reply limits c.rank posts memory c.thread (Purge call) reply is awake in
+    let done : reply ≡ replies.Done = found_then (slice_get posts.queues call.queue) BadQueue _ (Some reply) finds (λ q there h1. same-done reply (same_Ok _ _ h1)) in
+    let apart : ((c.rank == origin) && (call.queue == queue)) ≡ false = subst (λ (r : Reply). is_purge_of origin queue (Called c (Purge call) r) ≡ false) done unpurged in
+    rw (eq-eqb c.rank origin same) at apart
+not-purged limits c posts memory call reply origin queue same unpurged awake is = refl
+
+-- an entry of a kind stands in the lane of an origin to a target
+record Stands (K : Kind → Bool) (s : State) (origin queue target m : ℕ) : Type 0 where
   posts : Posts
   posts_there : slice_get s.posts origin ≡ Some posts
-  in_queues : InQueues posts.queues queue target m
+  in_queues : InQueues K posts.queues queue target m
 
--- the posts of a rank replaced by ones that have the writes of the old ones
-posts-replaced : (s : State) (rank : ℕ) (posts posts' : Posts) (origin queue target m : ℕ) → slice_get s.posts rank ≡ Some posts
-    → (t : State) → t.posts ≡ slice_set s.posts rank posts' → (rank ≡ origin → InQueues posts.queues queue target m → InQueues posts'.queues queue target m)
-    → Stands s origin queue target m → Stands t origin queue target m
+-- the posts of a rank replaced by ones that have the entries of the old ones
+posts-replaced : {K : Kind → Bool} (s : State) (rank : ℕ) (posts posts' : Posts) (origin queue target m : ℕ) → slice_get s.posts rank ≡ Some posts
+    → (t : State) → t.posts ≡ slice_set s.posts rank posts' → (rank ≡ origin → InQueues K posts.queues queue target m → InQueues K posts'.queues queue target m)
+    → Stands K s origin queue target m → Stands K t origin queue target m
 posts-replaced s rank posts posts' origin queue target m at t is keeps h = same-or-not rank origin
     (λ same.
     let old : posts ≡ h.posts = (let some : ◌≡◌ {A = Option Posts} (Some posts) (Some h.posts) = sym at ∙ rw same h.posts_there in cc) in
@@ -214,20 +244,20 @@ posts-replaced s rank posts posts' origin queue target m at t is keeps h = same-
     (λ apart. record { posts = h.posts; posts_there = rw is (slice_get-set_other s.posts rank origin posts' apart ∙ h.posts_there); in_queues = h.in_queues })
 
 -- a segment told to a rank leaves what stands in lanes
-told-stands : (t : State) (ranks me : ℕ) (p : Posts) (call : Call) (reply : Reply) (all : List Posts) (origin queue target m : ℕ) → t.posts ≡ told ranks me p call reply all → {limits : Limits} {memories : List Memory}
-    → Stands (record { limits = limits; posts = all; memories = memories }) origin queue target m → Stands t origin queue target m
-told-stands t ranks me p call reply all origin queue target m is h = go (told-get ranks me p call reply all origin)
+told-stands : {K : Kind → Bool} (t : State) (ranks me : ℕ) (p : Posts) (call : Call) (reply : Reply) (all : List Posts) (origin queue target m : ℕ) → t.posts ≡ told ranks me p call reply all → {limits : Limits} {memories : List Memory}
+    → Stands K (record { limits = limits; posts = all; memories = memories }) origin queue target m → Stands K t origin queue target m
+told-stands {K} t ranks me p call reply all origin queue target m is h = go (told-get ranks me p call reply all origin)
   where
-    go : IsTold all (told ranks me p call reply all) origin → Stands t origin queue target m
+    go : IsTold all (told ranks me p call reply all) origin → Stands K t origin queue target m
     go (inl same) = record { posts = h.posts; posts_there = rw is (same ∙ h.posts_there); in_queues = h.in_queues }
     go (inr (x, known, before, now)) =
         let same : x ≡ h.posts = (let some : ◌≡◌ {A = Option Posts} (Some x) (Some h.posts) = sym before ∙ h.posts_there in cc) in
         record { posts = record x { segments = record x.segments { known = known } }; posts_there = rw is now; in_queues = rw same h.in_queues }
 
-found-replaced : (posts : Posts) (changed replaced number : ℕ) (at : Found) (lane' : List Entry) (change : Queue → Queue) (queue target m : ℕ)
+found-replaced : {K : Kind → Bool} (posts : Posts) (changed replaced number : ℕ) (at : Found) (lane' : List Entry) (change : Queue → Queue) (queue target m : ℕ)
     → IsFound posts changed replaced number at
-    → ((q : Queue) → (change q).lanes ≡ slice_set q.lanes replaced lane') → (changed ≡ queue → replaced ≡ target → HasWrite at.lane m → HasWrite lane' m) → InQueues posts.queues queue target m
-    → InQueues (changed_at posts.queues changed change) queue target m
+    → ((q : Queue) → (change q).lanes ≡ slice_set q.lanes replaced lane') → (changed ≡ queue → replaced ≡ target → HasEntry K at.lane m → HasEntry K lane' m) → InQueues K posts.queues queue target m
+    → InQueues K (changed_at posts.queues changed change) queue target m
 found-replaced posts changed replaced number at lane' change queue target m is lanes keeps h =
     queues-changed posts.queues changed change queue target m
     (λ q here b i.
@@ -235,6 +265,13 @@ found-replaced posts changed replaced number at lane' change queue target m is l
     let there : slice_get q.lanes replaced ≡ Some at.lane = rw same is.in_queue in
     let r = lane-replaced q replaced at.lane lane' target m there (keeps b) i in
     record { lane = r.lane; lane_there = rw (lanes q) r.lane_there; has = r.has }) h
+
+-- an entry that failed stands still
+failed-keeps : {K : Kind → Bool} (posts : Posts) (changed replaced number : ℕ) (at : Found) (queue target m : ℕ) → IsFound posts changed replaced number at
+    → InQueues K posts.queues queue target m → InQueues K (counted (failed_with posts changed replaced at)).queues queue target m
+failed-keeps posts changed replaced number at queue target m is i =
+    found-replaced posts changed replaced number at (with_phase at.lane at.place at.entry phases.Failed) (queue_with_failed replaced at) queue target m is (λ q. refl)
+    (λ b c. entry-phase at.lane at.place at.entry phases.Failed m is.in_lane) i
 
 -- a put of that number in that lane
 abbrev IsThis : (origin origin' queue queue' target target' m m' : ℕ) → Type 0 → Type 0
@@ -253,34 +290,39 @@ this-or-not origin origin' queue queue' target target' m m' this other =
     (λ differs. other (λ a b c d. differs b)))
     (λ differs. other (λ a b c d. differs a))
 
--- a write that stands is put, or still stands
-step-keeps : (s t : State) (e : Event) (origin queue target m : ℕ) → step s e ≡ Ok t → Stands s origin queue target m
-    → (e ≡ Put origin queue target m Applied) ⊎ Stands t origin queue target m
-step-keeps s t (Called c call reply) origin queue target m h stands =
+-- an entry that stands is put, or still stands, unless its queue is purged
+step-keeps : {K : Kind → Bool} (s t : State) (e : Event) (origin queue target m : ℕ) → is_purge_of origin queue e ≡ false → step s e ≡ Ok t → Stands K s origin queue target m
+    → (e ≡ Put origin queue target m Applied) ⊎ Stands K t origin queue target m
+step-keeps s t (Called c call reply) origin queue target m unpurged h stands =
     let made = step-called s t c call reply h in
     let f = made.3 in
     let all = slice_set s.posts c.rank made.2.posts in
     inr (told-stands t s.limits.ranks c.rank made.0 call reply all origin queue target m (ap (λ (x : State). x.posts) f.leaves)
     (posts-replaced s c.rank made.0 made.2.posts origin queue target m f.posts_there (record s { posts = all }) refl
-    (λ same i. rw f.is.leaves (idle-keeps (is_idle reply) made.0 (posts_done s.limits c.rank made.0 c.thread call) queue target m i (done-keeps s.limits c.rank made.0 c.thread call queue target m i))) stands))
-step-keeps s t (Take origin' queue' target' number outcome) origin queue target m h stands =
-    let made = step-take s t origin' queue' target' number outcome h in
+    (λ same i. rw f.is.leaves (idle-keeps (is_idle reply) made.0 (posts_done s.limits c.rank made.0 c.thread call) queue target m i
+    (λ awake. done-keeps s.limits c.rank made.0 c.thread call queue target m (not-purged s.limits c made.0 made.1 call reply origin queue same unpurged awake (same_reply-same _ _ f.is.answered)) i))) stands))
+step-keeps s t (Take origin' queue' target' number Failed) origin queue target m unpurged h stands =
+    let made = step-take s t origin' queue' target' number Failed h in
+    let f = made.4 in
+    let at = made.3 in
+    inr (posts-replaced s origin' made.0 made.2 origin queue target m f.posts_there t (ap (λ (x : State). x.posts) f.leaves)
+    (λ same i. rw f.is.leaves (failed-keeps made.0 queue' target' number at queue target m f.is.is i)) stands)
+step-keeps s t (Take origin' queue' target' number Applied) origin queue target m unpurged h stands =
+    let made = step-take s t origin' queue' target' number Applied h in
     let f = made.4 in
     let at = made.3 in
     let phase = phases.Carried (taken_bytes made.1 at.entry.kind) in
     let lane = with_phase at.lane at.place at.entry phase in
     inr (posts-replaced s origin' made.0 made.2 origin queue target m f.posts_there t (ap (λ (x : State). x.posts) f.leaves)
     (λ same i. rw f.is.leaves (found-replaced made.0 queue' target' number at lane (λ (q : Queue). record q { lanes = slice_set q.lanes target' lane }) queue target m f.is.is (λ q. refl)
-    (λ b c. write-phase at.lane at.place at.entry phase m f.is.is.in_lane) i)) stands)
-step-keeps s t (Put origin' queue' target' number Failed) origin queue target m h stands =
+    (λ b c. entry-phase at.lane at.place at.entry phase m f.is.is.in_lane) i)) stands)
+step-keeps s t (Put origin' queue' target' number Failed) origin queue target m unpurged h stands =
     let made = step-put s t origin' queue' target' number Failed h in
     let f = made.4 in
     let at = made.3 in
-    let lane = with_phase at.lane at.place at.entry phases.Failed in
     inr (posts-replaced s origin' made.0 made.2.posts origin queue target m f.posts_there t (ap (λ (x : State). x.posts) f.leaves)
-    (λ same i. rw f.is.leaves (found-replaced made.0 queue' target' number at lane (λ (q : Queue). record q { broken = Some target'; lanes = slice_set q.lanes target' lane }) queue target m f.is.is (λ q. refl)
-    (λ b c. write-phase at.lane at.place at.entry phases.Failed m f.is.is.in_lane) i)) stands)
-step-keeps s t (Put origin' queue' target' number Applied) origin queue target m h stands =
+    (λ same i. rw f.is.leaves (failed-keeps made.0 queue' target' number at queue target m f.is.is i)) stands)
+step-keeps s t (Put origin' queue' target' number Applied) origin queue target m unpurged h stands =
     let made = step-put s t origin' queue' target' number Applied h in
     let f = made.4 in
     let at = made.3 in
@@ -289,28 +331,34 @@ step-keeps s t (Put origin' queue' target' number Applied) origin queue target m
     (λ apart.
     inr (posts-replaced s origin' made.0 made.2.posts origin queue target m f.posts_there t (ap (λ (x : State). x.posts) f.leaves)
     (λ a i. rw f.is.leaves (found-replaced made.0 queue' target' number at (remove at.lane at.place) (λ (q : Queue). record q { lanes = slice_set q.lanes target' (remove at.lane at.place) }) queue target m f.is.is (λ q. refl)
-    (λ b c has. stays at.entry number (found-number at.lane number at.place at.entry f.is.is.numbered f.is.is.in_lane) (apart a b c) (write-removed at.lane at.place at.entry m f.is.is.in_lane has)) i)) stands))
+    (λ b c has. stays at.entry number (found-number at.lane number at.place at.entry f.is.is.numbered f.is.is.in_lane) (apart a b c) (entry-removed at.lane at.place at.entry m f.is.is.in_lane has)) i)) stands))
   where
     stays : {P : Type 0} (x : Entry) (k : ℕ) → x.number ≡ k → (k ≡ m → ⊥) → (x.number ≡ m) ⊎ P → P
     stays x k is differs (inl same) = absurd (differs (sym is ∙ same))
     stays x k is differs (inr has) = has
 
--- in each list of events that are steps a write that stood at first is put, or still stands
-after-keeps : (s t : State) (events : List Event) (origin queue target m : ℕ) → after s events ≡ Ok t → Stands s origin queue target m
-    → ((k : ℕ) × (slice_get events k ≡ Some (Put origin queue target m Applied))) ⊎ Stands t origin queue target m
-after-keeps s t [] origin queue target m h stands = inr (let same : s ≡ t = cc in rw (sym same) stands)
-after-keeps s t (e ∷ events) origin queue target m h stands =
+either-false : (a b : Bool) → (a || b) ≡ false → (a ≡ false) × (b ≡ false)
+either-false true b h = absurd (let no : ⊥ = cc in no)
+either-false false b h = (refl, h)
+
+-- in each list of events that are steps, none of them a purge of its queue, an entry that stood at first is put, or still
+-- stands
+after-keeps : {K : Kind → Bool} (s t : State) (events : List Event) (origin queue target m : ℕ) → list_any (is_purge_of origin queue) events ≡ false → after s events ≡ Ok t → Stands K s origin queue target m
+    → ((k : ℕ) × (slice_get events k ≡ Some (Put origin queue target m Applied))) ⊎ Stands K t origin queue target m
+after-keeps {K} s t [] origin queue target m unpurged h stands = inr (let same : s ≡ t = cc in rw (sym same) stands)
+after-keeps {K} s t (e ∷ events) origin queue target m unpurged h stands =
     let first = after-first s t e events h in
-    go (step-keeps s first.0 e origin queue target m first.1 stands) (after-keeps first.0 t events origin queue target m first.2)
+    let none = either-false (is_purge_of origin queue e) (list_any (is_purge_of origin queue) events) unpurged in
+    go (step-keeps s first.0 e origin queue target m none.0 first.1 stands) (after-keeps first.0 t events origin queue target m none.1 first.2)
   where
-    further : {u : State} → ((k : ℕ) × (slice_get events k ≡ Some (Put origin queue target m Applied))) ⊎ Stands u origin queue target m
-        → ((k : ℕ) × (slice_get (e ∷ events) k ≡ Some (Put origin queue target m Applied))) ⊎ Stands u origin queue target m
+    further : {u : State} → ((k : ℕ) × (slice_get events k ≡ Some (Put origin queue target m Applied))) ⊎ Stands K u origin queue target m
+        → ((k : ℕ) × (slice_get (e ∷ events) k ≡ Some (Put origin queue target m Applied))) ⊎ Stands K u origin queue target m
     further (inl found) = inl (suc found.0, found.1)
     further (inr still) = inr still
 
-    go : {u v : State} → (e ≡ Put origin queue target m Applied) ⊎ Stands u origin queue target m
-        → (Stands u origin queue target m → ((k : ℕ) × (slice_get events k ≡ Some (Put origin queue target m Applied))) ⊎ Stands v origin queue target m)
-        → ((k : ℕ) × (slice_get (e ∷ events) k ≡ Some (Put origin queue target m Applied))) ⊎ Stands v origin queue target m
+    go : {u v : State} → (e ≡ Put origin queue target m Applied) ⊎ Stands K u origin queue target m
+        → (Stands K u origin queue target m → ((k : ℕ) × (slice_get events k ≡ Some (Put origin queue target m Applied))) ⊎ Stands K v origin queue target m)
+        → ((k : ℕ) × (slice_get (e ∷ events) k ≡ Some (Put origin queue target m Applied))) ⊎ Stands K v origin queue target m
     go (inl is) rest = inl (0, ap (λ (x : Event). Some x) is)
     go (inr still) rest = further (rest still)
 
@@ -335,8 +383,8 @@ standing-at s origin queue target number e h = with-posts (slice_get s.posts ori
     with-posts None hp = absurd (let none : ◌≡◌ {A = Option Entry} None (Some e) = rw hp at h in let no : ⊥ = cc in no)
     with-posts (Some posts) hp = with-found posts hp (find_entry posts queue target number whys.Put) refl
 
-write-stands : (s : State) (origin queue target m : ℕ) (e : Entry) → standing s origin queue target m ≡ Some e → is_write e ≡ true → Stands s origin queue target m
-write-stands s origin queue target m e h writes =
+entry-stands : (K : Kind → Bool) (s : State) (origin queue target m : ℕ) (e : Entry) → standing s origin queue target m ≡ Some e → K e.kind ≡ true → Stands K s origin queue target m
+entry-stands K s origin queue target m e h kind =
     let i = standing-at s origin queue target m e h in
     let f = find_entry-ok i.posts queue target m _ i.at i.found in
     record {
@@ -348,22 +396,37 @@ write-stands s origin queue target m e h writes =
         in_queue = record {
           lane = i.at.lane;
           lane_there = f.in_queue;
-          has = record { place = i.at.place; entry = i.at.entry; there = f.in_lane; writes = rw i.is writes; numbered = found-number i.at.lane m i.at.place i.at.entry f.numbered f.in_lane };
+          has = record { place = i.at.place; entry = i.at.entry; there = f.in_lane; kind = rw i.is kind; numbered = found-number i.at.lane m i.at.place i.at.entry f.numbered f.in_lane };
         };
       };
     }
 
-notify-waits : (lane : List Entry) (e : Entry) → is_write e ≡ false → may_put lane e ≡ true → has_earlier_write lane e.number ≡ true → ⊥
+-- entries of one kind wait for the earlier ones of another
+abbrev Waits : (Kind → Bool) → (Kind → Bool) → Type 0
+Waits K N = (lane : List Entry) (e : Entry) → N e.kind ≡ true → may_put lane e ≡ true → has_earlier K lane e.number ≡ true → ⊥
+
+notify-waits : Waits is_write_kind is_notify_kind
 notify-waits lane e kind put earlier = go e.kind kind ((both (is_carried e) (may_put_kind lane e.number e.kind) put).1)
   where
-    go : (k : Kind) → is_write_kind k ≡ false → may_put_kind lane e.number k ≡ true → ⊥
+    go : (k : Kind) → is_notify_kind k ≡ true → may_put_kind lane e.number k ≡ true → ⊥
     go (Write own target) is h = cc
+    go (Read own target) is h = cc
     go (Notify target value) is h = let none : not true ≡ true = rw earlier at h in cc
+    go (ReadNote own) is h = cc
 
--- while a write stands, no notification of its lane with a greater number is put
-no-put : (t u : State) (origin queue target m n : ℕ) (e : Entry) → Stands t origin queue target m → standing t origin queue target n ≡ Some e → is_write e ≡ false → m < n
+read-note-waits : Waits is_read_kind is_read_note_kind
+read-note-waits lane e kind put earlier = go e.kind kind ((both (is_carried e) (may_put_kind lane e.number e.kind) put).1)
+  where
+    go : (k : Kind) → is_read_note_kind k ≡ true → may_put_kind lane e.number k ≡ true → ⊥
+    go (Write own target) is h = cc
+    go (Read own target) is h = cc
+    go (Notify target value) is h = cc
+    go (ReadNote own) is h = let none : not true ≡ true = rw earlier at h in cc
+
+-- while an entry stands, none of its lane that waits for it is put with a greater number
+no-put : (K N : Kind → Bool) → Waits K N → (t u : State) (origin queue target m n : ℕ) (e : Entry) → Stands K t origin queue target m → standing t origin queue target n ≡ Some e → N e.kind ≡ true → m < n
     → step t (Put origin queue target n Applied) ≡ Ok u → ⊥
-no-put t u origin queue target m n e stands h kind less put =
+no-put K N waits t u origin queue target m n e stands h kind less put =
     let made = step-put t u origin queue target n Applied put in
     let f = made.4 in
     let i = standing-at t origin queue target n e h in
@@ -377,27 +440,40 @@ no-put t u origin queue target m n e stands h kind less put =
     let queue' : stands.in_queues.q ≡ made.3.queue = (let some : ◌≡◌ {A = Option Queue} (Some stands.in_queues.q) (Some made.3.queue) = sym stands.in_queues.queue_there ∙ rw posts' f.is.is.in_posts in cc) in
     let lane' : stands.in_queues.in_queue.lane ≡ made.3.lane = (let some : ◌≡◌ {A = Option (List Entry)} (Some stands.in_queues.in_queue.lane) (Some made.3.lane) = sym stands.in_queues.in_queue.lane_there ∙ rw queue' f.is.is.in_queue in cc) in
     let number = found-number made.3.lane n made.3.place made.3.entry f.is.is.numbered f.is.is.in_lane in
-    let earlier : has_earlier_write made.3.lane made.3.entry.number ≡ true =
-    write-earlier made.3.lane has.place has.entry made.3.entry.number (subst (λ (l : List Entry). slice_get l has.place ≡ Some has.entry) lane' has.there) has.writes
+    let earlier : has_earlier K made.3.lane made.3.entry.number ≡ true =
+    entry-earlier K made.3.lane has.place has.entry made.3.entry.number (subst (λ (l : List Entry). slice_get l has.place ≡ Some has.entry) lane' has.there) has.kind
     (rw (has.numbered, number) less) in
-    notify-waits made.3.lane made.3.entry (rw entry kind) f.is.permitted earlier
+    waits made.3.lane made.3.entry (rw entry kind) f.is.permitted earlier
 
-pub order : (w : World) (earlier later rest : List Event) (origin queue target m n : ℕ) → is_legal w (earlier ++ later ++ Put origin queue target n Applied ∷ rest) ≡ true
-    → IsWriteStanding w earlier origin queue target m → IsNotificationStanding w (earlier ++ later) origin queue target n → m < n
+order-of : (K N : Kind → Bool) → Waits K N → (w : World) (earlier later rest : List Event) (origin queue target m n : ℕ) → is_legal w (earlier ++ later ++ Put origin queue target n Applied ∷ rest) ≡ true
+    → IsStanding (λ e. K e.kind) w earlier origin queue target m → IsStanding (λ e. N e.kind) w (earlier ++ later) origin queue target n → m < n
+    → list_any (is_purge_of origin queue) later ≡ false
     → (place : ℕ) × (slice_get later place ≡ Some (Put origin queue target m Applied))
-order w earlier later rest origin queue target m n legal write note less =
+order-of K N waits w earlier later rest origin queue target m n legal first note less unpurged =
     let end = leads (reached w (earlier ++ later ++ Put origin queue target n Applied ∷ rest)) legal in
     let whole = after-both (opening w) end.0 (earlier ++ later) (Put origin queue target n Applied ∷ rest) end.1 in
     let part = after-both (opening w) whole.0 earlier later whole.1 in
     let third = after-first whole.0 end.0 (Put origin queue target n Applied) rest whole.2 in
-    let before : write.state ≡ part.0 = (let ok : ◌≡◌ {A = Result State Why} (Ok write.state) (Ok part.0) = sym write.leads ∙ part.1 in cc) in
+    let before : first.state ≡ part.0 = (let ok : ◌≡◌ {A = Result State Why} (Ok first.state) (Ok part.0) = sym first.leads ∙ part.1 in cc) in
     let middle : note.state ≡ whole.0 = (let ok : ◌≡◌ {A = Result State Why} (Ok note.state) (Ok whole.0) = sym note.leads ∙ whole.1 in cc) in
-    let stood = write-stands write.state origin queue target m write.entry write.stands write.writes in
-    go part.0 whole.0 third.0 (after-keeps part.0 whole.0 later origin queue target m part.2 (subst (λ (x : State). Stands x origin queue target m) before stood))
+    let stood = entry-stands K first.state origin queue target m first.entry first.stands first.kind in
+    go part.0 whole.0 third.0 (after-keeps part.0 whole.0 later origin queue target m unpurged part.2 (subst (λ (x : State). Stands K x origin queue target m) before stood))
     (subst (λ (x : State). standing x origin queue target n ≡ Some note.entry) middle note.stands) third.1
   where
-    go : (s t u : State) → ((k : ℕ) × (slice_get later k ≡ Some (Put origin queue target m Applied))) ⊎ Stands t origin queue target m
+    go : (s t u : State) → ((k : ℕ) × (slice_get later k ≡ Some (Put origin queue target m Applied))) ⊎ Stands K t origin queue target m
         → standing t origin queue target n ≡ Some note.entry → step t (Put origin queue target n Applied) ≡ Ok u
         → (place : ℕ) × (slice_get later place ≡ Some (Put origin queue target m Applied))
     go s t u (inl found) stands put = found
-    go s t u (inr still) stands put = absurd (no-put t u origin queue target m n note.entry still stands note.notifies less put)
+    go s t u (inr still) stands put = absurd (no-put K N waits t u origin queue target m n note.entry still stands note.kind less put)
+
+pub order : (w : World) (earlier later rest : List Event) (origin queue target m n : ℕ) → is_legal w (earlier ++ later ++ Put origin queue target n Applied ∷ rest) ≡ true
+    → IsWriteStanding w earlier origin queue target m → IsNotificationStanding w (earlier ++ later) origin queue target n → m < n
+    → list_any (is_purge_of origin queue) later ≡ false
+    → (place : ℕ) × (slice_get later place ≡ Some (Put origin queue target m Applied))
+order w earlier later rest origin queue target m n legal write note less unpurged = order-of is_write_kind is_notify_kind notify-waits w earlier later rest origin queue target m n legal write note less unpurged
+
+pub read-order : (w : World) (earlier later rest : List Event) (origin queue target m n : ℕ) → is_legal w (earlier ++ later ++ Put origin queue target n Applied ∷ rest) ≡ true
+    → IsReadStanding w earlier origin queue target m → IsReadNoteStanding w (earlier ++ later) origin queue target n → m < n
+    → list_any (is_purge_of origin queue) later ≡ false
+    → (place : ℕ) × (slice_get later place ≡ Some (Put origin queue target m Applied))
+read-order w earlier later rest origin queue target m n legal read note less unpurged = order-of is_read_kind is_read_note_kind read-note-waits w earlier later rest origin queue target m n legal read note less unpurged

@@ -1,25 +1,22 @@
 -- The entries of a post that is done stand in its lane.
-use Rattle.std.proofs.Common.{◌≡◌, ℕ, ◌+◌, ◌<◌, true, not, ◌==◌, nat_lt, List, [], ◌∷◌, ◌++◌, length, Option, None, Some, Result, Ok, refl, sym, ap, ◌∙◌, subst, arith}
+use Rattle.std.proofs.Common.{◌≡◌, ℕ, ◌+◌, ◌<◌, true, List, [], ◌∷◌, ◌++◌, length, Option, None, Some, Result, Ok, refl, sym, ap, ◌∙◌, subst, arith}
 use Rattle.std.specs.List.{slice_get, slice_set}
 use Rattle.std.proofs.lemmas.Bool.{ltb-true}
 use Rattle.gaspi_types.specs.Lanes.{posted_entries}
-use Rattle.gaspi_types.specs.Posts.{write_kinds, notify_kinds, write_notify_kinds}
-use Rattle.gaspi_types.specs.SegmentTables.{extent_in, known_extent}
-use Rattle.gaspi_types.specs.SegmentBytes.{is_transfer_size, is_within}
+use Rattle.gaspi_types.specs.Posts.{slot_in, write_kinds, read_kinds, notify_kinds, write_notify_kinds, read_notify_kinds}
 use Rattle.gaspi_types.specs.World.{World, IsWorld}
-use Rattle.gaspi_types.specs.declared.entries.ByteRange.{ByteRange}
-use Rattle.gaspi_types.specs.declared.entries.NoteSlot.{NoteSlot}
 use Rattle.gaspi_types.specs.declared.entries.Entry.{Entry}
-use Rattle.gaspi_types.specs.declared.segments.SegmentTable.{SegmentTable}
 use Rattle.gaspi_types.specs.declared.entries.Kind.{Kind}
-use Rattle.gaspi_types.specs.declared.entries.Kind.TheVariants.{Write, Notify}
+use Rattle.gaspi_types.specs.declared.entries.Kind.TheVariants.{Write, Read, Notify, ReadNote}
 use Rattle.gaspi_types.specs.declared.entries.Phase.TheVariants as phases
 use Rattle.gaspi_types.specs.declared.shapes.CallerId.{CallerId}
 use Rattle.gaspi_types.specs.declared.calls.Call.{Call}
 use Rattle.gaspi_types.specs.declared.calls.Call.TheVariants as calls
 use Rattle.gaspi_types.specs.declared.calls.posts.Write as write
+use Rattle.gaspi_types.specs.declared.calls.posts.Read as read
 use Rattle.gaspi_types.specs.declared.calls.posts.Notify as notify
 use Rattle.gaspi_types.specs.declared.calls.posts.WriteNotify as write_notify
+use Rattle.gaspi_types.specs.declared.calls.posts.ReadNotify as read_notify
 use Rattle.gaspi_types.specs.declared.shapes.Limits.{Limits}
 use Rattle.gaspi_types.specs.declared.replies.Refusal.{Refusal}
 use Rattle.gaspi_types.specs.declared.replies.Reply.TheVariants as replies
@@ -34,14 +31,14 @@ use Rattle.gaspi_model.specs.Transfers.{Worked, find_entry}
 use Rattle.gaspi_model.specs.Step.{step, reached, is_legal}
 use Rattle.gaspi_model.specs.Shards.{standing}
 use Rattle.gaspi_model.specs.Sound.{IsSound}
-use Rattle.gaspi_model.specs.Order.{IsWriteStanding, IsNotificationStanding}
+use Rattle.gaspi_model.specs.Order.{IsWriteStanding, IsReadStanding, IsNotificationStanding, IsReadNoteStanding}
 use Rattle.gaspi_types.specs.declared.entries.Queue.{Queue}
 use Rattle.gaspi_model.specs.declared.states.Posts.{Posts}
 use Rattle.gaspi_model.specs.declared.states.Memory.{Memory}
 use Rattle.gaspi_model.specs.declared.states.State.{State}
 use Rattle.gaspi_model.specs.declared.states.Why.{Why}
 use Rattle.gaspi_model.specs.declared.states.Why.TheVariants as whys
-use Rattle.gaspi_types.proofs.Chains.{check_then, found_then, same_Ok}
+use Rattle.gaspi_model.proofs.Asked.{write-ok, read-ok, notify-ok, write_notify-ok, read_notify-ok}
 use Rattle.gaspi_model.proofs.Made.{step-called}
 use Rattle.gaspi_model.proofs.Same.{same_reply-same}
 use Rattle.gaspi_types.proofs.Items.{slice_get-set_same, past-none, behind-of-joined}
@@ -51,65 +48,6 @@ use Rattle.gaspi_model.proofs.FoundReplies.{found-reply}
 use Rattle.gaspi_model.proofs.Sound.Told.{told-mine}
 use Rattle.gaspi_model.proofs.Histories.{reached-sound, after-both, after-first, leads}
 use Rattle.gaspi_model.proofs.Sound.Steps.{steps}
-
--- what posts ask for
-
-record IsOneWrite (kinds : List Kind) : Type 0 where
-  own : ByteRange
-  target : ByteRange
-  is : kinds ≡ Write own target ∷ []
-
-write-is : (me : ℕ) (table : SegmentTable) (call : write.Write) (kinds : List Kind)
-    → write_kinds me table call ≡ Ok kinds → IsOneWrite kinds
-write-is me table call kinds h =
-    found_then (extent_in table.own call.seg) _ _ kinds h (λ mine hm h1.
-    found_then (known_extent me table call.rank call.rseg) _ _ kinds h1 (λ theirs ht h2.
-    check_then (is_transfer_size call.size) _ _ kinds h2 (λ sized h3.
-    check_then (is_within call.offset call.size mine.size) _ _ kinds h3 (λ from h4.
-    check_then (is_within call.roffset call.size theirs.size) _ _ kinds h4 (λ to h5.
-    record {
-      own = record { segment = call.seg; generation = mine.generation; offset = call.offset; size = call.size };
-      target = record { segment = call.rseg; generation = theirs.generation; offset = call.roffset; size = call.size };
-      is = sym (same_Ok _ _ h5);
-    })))))
-
-record IsOneNotification (kinds : List Kind) : Type 0 where
-  slot : NoteSlot
-  value : ℕ
-  is : kinds ≡ Notify slot value ∷ []
-
-notify-is : (notes me : ℕ) (table : SegmentTable) (call : notify.Notify) (kinds : List Kind)
-    → notify_kinds notes me table call ≡ Ok kinds → IsOneNotification kinds
-notify-is notes me table call kinds h =
-    found_then (known_extent me table call.rank call.rseg) _ _ kinds h (λ theirs ht h1.
-    check_then (nat_lt call.note notes) _ _ kinds h1 (λ noted h2.
-    check_then (not (call.value == 0)) _ _ kinds h2 (λ valued h3.
-    record { slot = record { segment = call.rseg; generation = theirs.generation; note = call.note }; value = call.value; is = sym (same_Ok _ _ h3) })))
-
-record IsWriteWithNotification (kinds : List Kind) : Type 0 where
-  own : ByteRange
-  target : ByteRange
-  slot : NoteSlot
-  value : ℕ
-  is : kinds ≡ Write own target ∷ Notify slot value ∷ []
-
-kinds-are : (notes me : ℕ) (table : SegmentTable) (call : write_notify.WriteNotify) (kinds : List Kind)
-    → write_notify_kinds notes me table call ≡ Ok kinds → IsWriteWithNotification kinds
-kinds-are notes me table call kinds h =
-    found_then (extent_in table.own call.seg) _ _ kinds h (λ mine hm h1.
-    found_then (known_extent me table call.rank call.rseg) _ _ kinds h1 (λ theirs ht h2.
-    check_then (is_transfer_size call.size) _ _ kinds h2 (λ sized h3.
-    check_then (is_within call.offset call.size mine.size) _ _ kinds h3 (λ from h4.
-    check_then (is_within call.roffset call.size theirs.size) _ _ kinds h4 (λ to h5.
-    check_then (nat_lt call.note notes) _ _ kinds h5 (λ noted h6.
-    check_then (not (call.value == 0)) _ _ kinds h6 (λ valued h7.
-    record {
-      own = record { segment = call.seg; generation = mine.generation; offset = call.offset; size = call.size };
-      target = record { segment = call.rseg; generation = theirs.generation; offset = call.roffset; size = call.size };
-      slot = record { segment = call.rseg; generation = theirs.generation; note = call.note };
-      value = call.value;
-      is = sym (same_Ok _ _ h7);
-    })))))))
 
 -- an entry of a lane stands under its number
 entry-stands : (t : State) (posts : Posts) (q : Queue) (lane : List Entry) (origin queue target place : ℕ) (e : Entry) → slice_get t.posts origin ≡ Some posts → slice_get posts.queues queue ≡ Some q
@@ -200,29 +138,50 @@ pub posted-write : (w : World) (history : List Event) (c : CallerId) (call : wri
     → IsWriteStanding w (history ++ Called c (calls.Write call) replies.Done ∷ []) c.rank call.queue call.rank posts.next
 posted-write w history c call s posts world h hp legal =
     let a = after-post w history c (calls.Write call) call.rank call.queue s posts (write_kinds c.rank posts.segments call) world h hp (record { finds = λ memory. refl; leaves = refl }) legal in
-    let k = write-is c.rank posts.segments call a.leaves.kinds a.leaves.asks in
-    let posted : Entry = record { number = posts.next; kind = Write k.own k.target; phase = phases.Posted } in
-    record { state = a.state; entry = posted; leads = a.leads_to; stands = a.leaves.stand 0 posted (ap (λ (ks : List Kind). slice_get (posted_entries posts.next ks) 0) k.is); writes = refl }
+    let k = write-ok c.rank posts.segments call a.leaves.kinds a.leaves.asks in
+    let first : Entry = record { number = posts.next; kind = Write k.ends.own k.ends.target; phase = phases.Posted } in
+    record { state = a.state; entry = first; leads = a.leads_to; stands = a.leaves.stand 0 first (ap (λ (ks : List Kind). slice_get (posted_entries posts.next ks) 0) k.is); kind = refl }
+
+pub posted-read : (w : World) (history : List Event) (c : CallerId) (call : read.Read) (s : State) (posts : Posts) → IsWorld w → reached w history ≡ Ok s
+    → slice_get s.posts c.rank ≡ Some posts → is_legal w (history ++ Called c (calls.Read call) replies.Done ∷ []) ≡ true
+    → IsReadStanding w (history ++ Called c (calls.Read call) replies.Done ∷ []) c.rank call.queue call.rank posts.next
+posted-read w history c call s posts world h hp legal =
+    let a = after-post w history c (calls.Read call) call.rank call.queue s posts (read_kinds c.rank posts.segments call) world h hp (record { finds = λ memory. refl; leaves = refl }) legal in
+    let k = read-ok c.rank posts.segments call a.leaves.kinds a.leaves.asks in
+    let first : Entry = record { number = posts.next; kind = Read k.ends.own k.ends.target; phase = phases.Posted } in
+    record { state = a.state; entry = first; leads = a.leads_to; stands = a.leaves.stand 0 first (ap (λ (ks : List Kind). slice_get (posted_entries posts.next ks) 0) k.is); kind = refl }
 
 pub posted-notify : (w : World) (history : List Event) (c : CallerId) (call : notify.Notify) (s : State) (posts : Posts) → IsWorld w → reached w history ≡ Ok s
     → slice_get s.posts c.rank ≡ Some posts → is_legal w (history ++ Called c (calls.Notify call) replies.Done ∷ []) ≡ true
     → IsNotificationStanding w (history ++ Called c (calls.Notify call) replies.Done ∷ []) c.rank call.queue call.rank posts.next
 posted-notify w history c call s posts world h hp legal =
     let a = after-post w history c (calls.Notify call) call.rank call.queue s posts (notify_kinds s.limits.notes c.rank posts.segments call) world h hp (record { finds = λ memory. refl; leaves = refl }) legal in
-    let k = notify-is s.limits.notes c.rank posts.segments call a.leaves.kinds a.leaves.asks in
-    let notification : Entry = record { number = posts.next; kind = Notify k.slot k.value; phase = phases.Posted } in
-    record { state = a.state; entry = notification; leads = a.leads_to; stands = a.leaves.stand 0 notification (ap (λ (ks : List Kind). slice_get (posted_entries posts.next ks) 0) k.is); notifies = refl }
+    let k = notify-ok s.limits.notes c.rank posts.segments call a.leaves.kinds a.leaves.asks in
+    let first : Entry = record { number = posts.next; kind = Notify (slot_in k.theirs call.rseg call.note) call.value; phase = phases.Posted } in
+    record { state = a.state; entry = first; leads = a.leads_to; stands = a.leaves.stand 0 first (ap (λ (ks : List Kind). slice_get (posted_entries posts.next ks) 0) k.is); kind = refl }
 
 pub posted-write_notify : (w : World) (history : List Event) (c : CallerId) (call : write_notify.WriteNotify) (s : State) (posts : Posts) → IsWorld w → reached w history ≡ Ok s
     → slice_get s.posts c.rank ≡ Some posts → is_legal w (history ++ Called c (calls.WriteNotify call) replies.Done ∷ []) ≡ true
     → IsWriteStanding w (history ++ Called c (calls.WriteNotify call) replies.Done ∷ []) c.rank call.queue call.rank posts.next
     × IsNotificationStanding w (history ++ Called c (calls.WriteNotify call) replies.Done ∷ []) c.rank call.queue call.rank (posts.next + 1)
 posted-write_notify w history c call s posts world h hp legal =
-    let a = after-post w history c (calls.WriteNotify call) call.rank call.queue s posts (write_notify_kinds s.limits.notes c.rank posts.segments call) world h hp
-    (record { finds = λ memory. refl; leaves = refl }) legal in
-    let k = kinds-are s.limits.notes c.rank posts.segments call a.leaves.kinds a.leaves.asks in
-    let posted : Entry = record { number = posts.next; kind = Write k.own k.target; phase = phases.Posted } in
-    let notification : Entry = record { number = posts.next + 1; kind = Notify k.slot k.value; phase = phases.Posted } in (
-      record { state = a.state; entry = posted; leads = a.leads_to; stands = a.leaves.stand 0 posted (ap (λ (ks : List Kind). slice_get (posted_entries posts.next ks) 0) k.is); writes = refl },
-      record { state = a.state; entry = notification; leads = a.leads_to; stands = a.leaves.stand 1 notification (ap (λ (ks : List Kind). slice_get (posted_entries posts.next ks) 1) k.is); notifies = refl },
+    let a = after-post w history c (calls.WriteNotify call) call.rank call.queue s posts (write_notify_kinds s.limits.notes c.rank posts.segments call) world h hp (record { finds = λ memory. refl; leaves = refl }) legal in
+    let k = write_notify-ok s.limits.notes c.rank posts.segments call a.leaves.kinds a.leaves.asks in
+    let first : Entry = record { number = posts.next; kind = Write k.ends.own k.ends.target; phase = phases.Posted } in
+    let second : Entry = record { number = posts.next + 1; kind = Notify (slot_in k.ends.theirs call.rseg call.note) call.value; phase = phases.Posted } in (
+      record { state = a.state; entry = first; leads = a.leads_to; stands = a.leaves.stand 0 first (ap (λ (ks : List Kind). slice_get (posted_entries posts.next ks) 0) k.is); kind = refl },
+      record { state = a.state; entry = second; leads = a.leads_to; stands = a.leaves.stand 1 second (ap (λ (ks : List Kind). slice_get (posted_entries posts.next ks) 1) k.is); kind = refl },
+    )
+
+pub posted-read_notify : (w : World) (history : List Event) (c : CallerId) (call : read_notify.ReadNotify) (s : State) (posts : Posts) → IsWorld w → reached w history ≡ Ok s
+    → slice_get s.posts c.rank ≡ Some posts → is_legal w (history ++ Called c (calls.ReadNotify call) replies.Done ∷ []) ≡ true
+    → IsReadStanding w (history ++ Called c (calls.ReadNotify call) replies.Done ∷ []) c.rank call.queue call.rank posts.next
+    × IsReadNoteStanding w (history ++ Called c (calls.ReadNotify call) replies.Done ∷ []) c.rank call.queue call.rank (posts.next + 1)
+posted-read_notify w history c call s posts world h hp legal =
+    let a = after-post w history c (calls.ReadNotify call) call.rank call.queue s posts (read_notify_kinds s.limits.notes c.rank posts.segments call) world h hp (record { finds = λ memory. refl; leaves = refl }) legal in
+    let k = read_notify-ok s.limits.notes c.rank posts.segments call a.leaves.kinds a.leaves.asks in
+    let first : Entry = record { number = posts.next; kind = Read k.ends.own k.ends.target; phase = phases.Posted } in
+    let second : Entry = record { number = posts.next + 1; kind = ReadNote (slot_in k.ends.mine call.seg call.note); phase = phases.Posted } in (
+      record { state = a.state; entry = first; leads = a.leads_to; stands = a.leaves.stand 0 first (ap (λ (ks : List Kind). slice_get (posted_entries posts.next ks) 0) k.is); kind = refl },
+      record { state = a.state; entry = second; leads = a.leads_to; stands = a.leaves.stand 1 second (ap (λ (ks : List Kind). slice_get (posted_entries posts.next ks) 1) k.is); kind = refl },
     )

@@ -1,12 +1,12 @@
 -- Where no transfer may come next, every lane of a queue that is not broken is empty.
 use Rattle.std.proofs.Common.{◌≡◌, ℕ, zero, suc, ◌+◌, ◌≤◌, Bool, true, false, ◌&&◌, nat_lt, nat_le, is_none, List, [], ◌∷◌, ◌++◌, length, Option, None, Some, refl, sym, ap, ◌∙◌, arith, cond}
-use Rattle.std.specs.List.{slice_get, sum_by, flat_map, enumerate_from}
+use Rattle.std.specs.List.{slice_get, sum_by, flat_map, enumerate_from, list_any}
 use Rattle.std.proofs.lemmas.Bool.{lt-ltb, ltb-true, le-leb}
 use Rattle.std.proofs.lemmas.List.Sums.{sum_by-cons, count_by-le-length}
-use Rattle.gaspi_types.specs.Lanes.{is_posted, is_carried, is_failed, is_write, carried_count, has_earlier_write, may_take, may_put, may_put_kind}
+use Rattle.gaspi_types.specs.Lanes.{is_posted, is_carried, is_failed, is_write, is_read, carried_count, may_take, may_put, may_put_kind}
 use Rattle.gaspi_types.specs.declared.entries.Entry.{Entry}
 use Rattle.gaspi_types.specs.declared.entries.Kind.{Kind}
-use Rattle.gaspi_types.specs.declared.entries.Kind.TheVariants.{Write, Notify}
+use Rattle.gaspi_types.specs.declared.entries.Kind.TheVariants.{Write, Read, Notify, ReadNote}
 use Rattle.gaspi_types.specs.declared.entries.Phase.{Phase}
 use Rattle.gaspi_types.specs.declared.entries.Phase.TheVariants as phases
 use Rattle.gaspi_types.specs.declared.shapes.Limits.{Limits}
@@ -76,12 +76,12 @@ and-false : (a : Bool) → (a && false) ≡ false
 and-false true = refl
 and-false false = refl
 
-none-earlier : (n : ℕ) (lane : List Entry) → AreAbove n lane → has_earlier_write lane n ≡ false
-none-earlier n [] above = refl
-none-earlier n (e ∷ lane) above =
-    let rest = none-earlier n lane above.1 in
+none-earlier : (is_kind : Entry → Bool) (n : ℕ) (lane : List Entry) → AreAbove n lane → list_any (λ e. is_kind e && nat_lt e.number n) lane ≡ false
+none-earlier is_kind n [] above = refl
+none-earlier is_kind n (e ∷ lane) above =
+    let rest = none-earlier is_kind n lane above.1 in
     let here = not-less e.number n (let less = above.0 in omega arith) in
-    rw (here, and-false (is_write e)) rest
+    rw (here, and-false (is_kind e)) rest
 
 -- the first entry of a lane may be put once it has taken its bytes
 first-may_put : (next : ℕ) (e : Entry) (lane : List Entry) → AreRising next (e ∷ lane) → is_carried e ≡ true → may_put (e ∷ lane) e ≡ true
@@ -89,10 +89,15 @@ first-may_put next e lane rising carried = rw carried (by-kind e.kind)
   where
     by-kind : (k : Kind) → may_put_kind (e ∷ lane) e.number k ≡ true
     by-kind (Write own target) = refl
+    by-kind (Read own target) = refl
     by-kind (Notify target value) =
         let self = not-less e.number e.number (omega arith) in
-        let rest = none-earlier e.number lane rising.1 in
+        let rest = none-earlier is_write e.number lane rising.1 in
         rw (self, and-false (is_write e), rest) refl
+    by-kind (ReadNote own) =
+        let self = not-less e.number e.number (omega arith) in
+        let rest = none-earlier is_read e.number lane rising.1 in
+        rw (self, and-false (is_read e), rest) refl
 
 -- an entry is posted, carried or failed
 by-phase : {P : Type 0} (e : Entry) → (is_posted e ≡ true → is_carried e ≡ false → P) → (is_carried e ≡ true → P) → (is_failed e ≡ true → P) → P

@@ -1,5 +1,5 @@
 -- What a step does to the room that a rank has taken.
-use Rattle.std.proofs.Common.{◌≡◌, ℕ, ◌+◌, ◌*◌, ◌≤◌, true, false, List, [], ◌∷◌, length, Option, None, Some, Result, Ok, refl, sym, ap, ◌∙◌, subst, arith, not, nat_lt, nat_le, ◌==◌}
+use Rattle.std.proofs.Common.{◌≡◌, ℕ, ◌+◌, ◌*◌, ◌≤◌, true, false, List, [], ◌∷◌, length, Option, None, Some, Result, Ok, refl, sym, ap, ◌∙◌, subst, arith, nat_lt, nat_le}
 use Rattle.std.specs.List.{slice_get, slice_set, sum_by, remove}
 use Rattle.std.proofs.lemmas.List.Sums.{sum_by-remove, sum_by-cons}
 use Rattle.std.proofs.lemmas.Option.{slice_get_within, get_or_from_slice_get}
@@ -11,10 +11,7 @@ use Rattle.gaspi_types.specs.declared.entries.Phase.TheVariants as phases
 use Rattle.gaspi_types.specs.CallRows.{row_of, is_end, entries_of}
 use Rattle.gaspi_types.specs.declared.call_rows.Posting.{Posting}
 use Rattle.gaspi_types.specs.declared.calls.Call.{Call}
-use Rattle.gaspi_types.specs.declared.calls.Call.TheVariants.{Write, Notify, WriteNotify, End}
-use Rattle.gaspi_types.specs.declared.calls.posts.Write as write
-use Rattle.gaspi_types.specs.declared.calls.posts.Notify as notify
-use Rattle.gaspi_types.specs.declared.calls.posts.WriteNotify as write_notify
+use Rattle.gaspi_types.specs.declared.calls.Call.TheVariants.{Write, Read, Notify, WriteNotify, ReadNotify, End}
 use Rattle.gaspi_types.specs.declared.shapes.Limits.{Limits}
 use Rattle.gaspi_model.specs.Calls.{call_asks}
 use Rattle.gaspi_types.specs.declared.events.Outcome.{Outcome}
@@ -28,18 +25,15 @@ use Rattle.gaspi_model.specs.Transfers.{Found, taken_bytes, Worked}
 use Rattle.gaspi_types.specs.declared.entries.Queue.{Queue}
 use Rattle.gaspi_model.specs.declared.states.Posts.{Posts}
 use Rattle.gaspi_model.specs.declared.states.Memory.{Memory}
-use Rattle.gaspi_types.specs.Posts.{write_kinds, notify_kinds, write_notify_kinds}
-use Rattle.gaspi_types.specs.SegmentTables.{extent_in, known_extent}
-use Rattle.gaspi_types.specs.SegmentBytes.{is_transfer_size, is_within}
-use Rattle.gaspi_types.specs.declared.segments.SegmentTable.{SegmentTable}
 use Rattle.gaspi_types.specs.declared.replies.Reply.{Reply}
 use Rattle.gaspi_types.specs.declared.replies.Reply.TheVariants as replies
 use Rattle.gaspi_types.specs.declared.replies.Refusal.{Refusal}
 use Rattle.gaspi_types.specs.declared.replies.Refusal.TheVariants.{BadRank, BadQueue, QueueBroken}
 use Rattle.gaspi_types.proofs.Chains.{both, bind_then, check_then, found_then, absent_then, same_Ok}
+use Rattle.gaspi_model.proofs.Asked.{write-ok, read-ok, notify-ok, write_notify-ok, read_notify-ok}
 use Rattle.gaspi_model.proofs.Made.{IsTake, IsPut}
 use Rattle.gaspi_types.proofs.Items.{sum_by-changed, changed_at-found}
-use Rattle.gaspi_model.proofs.FoundEntries.{IsFound, with_lane, with_phase}
+use Rattle.gaspi_model.proofs.FoundEntries.{IsFound, with_lane, with_phase, queue_with_failed, failed_with}
 
 -- a queue of a rank changed
 pub entries_owed-queue : (queues : List Queue) (queue : ℕ) (q : Queue) (change : Queue → Queue) → slice_get queues queue ≡ Some q
@@ -90,13 +84,32 @@ with_lane-owed posts queue target number at lane is less =
     let b = queue_owed-lane at.queue.lanes target at.lane lane is.in_queue in
     omega arith
 
+-- an event more, and an entry that failed, which owes nothing
+failed-owed : (posts : Posts) (queue target number : ℕ) (at : Found) → IsFound posts queue target number at
+    → (counted (failed_with posts queue target at)).events + owed (counted (failed_with posts queue target at)) + entry_owed at.entry ≡ posts.events + owed posts + 1
+failed-owed posts queue target number at is =
+    let lane = lane_owed-phase at.lane at.place at.entry phases.Failed is.in_lane in
+    let lanes = queue_owed-lane at.queue.lanes target at.lane (with_phase at.lane at.place at.entry phases.Failed) is.in_queue in
+    let queues = entries_owed-queue posts.queues queue at.queue (queue_with_failed target at) is.in_posts in
+    omega arith
+
+-- a take that failed leaves one less
+abbrev pub take_spares : Outcome → ℕ
+take_spares Applied = 0
+take_spares Failed = 1
+
 pub take-owed : (limits : Limits) (posts : Posts) (memory : Memory) (queue target number : ℕ) (outcome : Outcome) (after : Posts) (at : Found)
-    → IsTake limits posts memory queue target number outcome after at → after.events + owed after ≡ posts.events + owed posts
-take-owed limits posts memory queue target number outcome after at h =
+    → IsTake limits posts memory queue target number outcome after at → after.events + owed after + take_spares outcome ≡ posts.events + owed posts
+take-owed limits posts memory queue target number Failed after at h =
+    let two = posted_owes at.entry.phase (both (is_posted at.entry) _ h.permitted).0 in
+    let failed = failed-owed posts queue target number at h.is in
+    rw h.leaves (omega arith)
+take-owed limits posts memory queue target number Applied after at h =
     let phase = phases.Carried (taken_bytes memory at.entry.kind) in
     let two = posted_owes at.entry.phase (both (is_posted at.entry) _ h.permitted).0 in
     let lane = lane_owed-phase at.lane at.place at.entry phase h.is.in_lane in
-    rw h.leaves (with_lane-owed posts queue target number at _ h.is (omega arith))
+    let owes = with_lane-owed posts queue target number at (with_phase at.lane at.place at.entry phase) h.is (omega arith) in
+    rw h.leaves (omega arith)
 
 pub put-owed : (posts : Posts) (memory : Memory) (queue target number : ℕ) (outcome : Outcome) (after : Worked) (at : Found)
     → IsPut posts memory queue target number outcome after at → after.posts.events + owed after.posts ≡ posts.events + owed posts
@@ -106,53 +119,24 @@ put-owed posts memory queue target number Applied after at h =
     rw h.leaves (with_lane-owed posts queue target number at _ h.is (omega arith))
 put-owed posts memory queue target number Failed after at h =
     let one = carried_owes at.entry.phase (both (is_carried at.entry) _ h.permitted).0 in
-    let lane = lane_owed-phase at.lane at.place at.entry phases.Failed h.is.in_lane in
-    let lanes = queue_owed-lane at.queue.lanes target at.lane (with_phase at.lane at.place at.entry phases.Failed) h.is.in_queue in
-    let queues = entries_owed-queue posts.queues queue at.queue (λ (q : Queue). record q { broken = Some target; lanes = slice_set q.lanes target (with_phase at.lane at.place at.entry phases.Failed) }) h.is.in_posts in
+    let failed = failed-owed posts queue target number at h.is in
     rw h.leaves (omega arith)
 
 -- A call that is recorded: the room that is taken grows by its charge.
-
--- a write asks for one entry, and so does a notification
-kinds-write : (me : ℕ) (table : SegmentTable) (call : write.Write) (kinds : List Kind) → write_kinds me table call ≡ Ok kinds → length kinds ≡ 1
-kinds-write me table call kinds h =
-    found_then (extent_in table.own call.seg) _ _ kinds h (λ mine hm h1.
-    found_then (known_extent me table call.rank call.rseg) _ _ kinds h1 (λ theirs ht h2.
-    check_then (is_transfer_size call.size) _ _ kinds h2 (λ sized h3.
-    check_then (is_within call.offset call.size mine.size) _ _ kinds h3 (λ from h4.
-    check_then (is_within call.roffset call.size theirs.size) _ _ kinds h4 (λ to h5.
-    sym (ap length (same_Ok _ _ h5)))))))
-
-kinds-notify : (notes me : ℕ) (table : SegmentTable) (call : notify.Notify) (kinds : List Kind)
-    → notify_kinds notes me table call ≡ Ok kinds → length kinds ≡ 1
-kinds-notify notes me table call kinds h =
-    found_then (known_extent me table call.rank call.rseg) _ _ kinds h (λ theirs ht h1.
-    check_then (nat_lt call.note notes) _ _ kinds h1 (λ noted h2.
-    check_then (not (call.value == 0)) _ _ kinds h2 (λ valued h3.
-    sym (ap length (same_Ok _ _ h3)))))
-
--- a write with its notification asks for two
-kinds-two : (notes me : ℕ) (table : SegmentTable) (call : write_notify.WriteNotify) (kinds : List Kind)
-    → write_notify_kinds notes me table call ≡ Ok kinds → length kinds ≡ 2
-kinds-two notes me table call kinds h =
-    found_then (extent_in table.own call.seg) _ _ kinds h (λ mine hm h1.
-    found_then (known_extent me table call.rank call.rseg) _ _ kinds h1 (λ theirs ht h2.
-    check_then (is_transfer_size call.size) _ _ kinds h2 (λ sized h3.
-    check_then (is_within call.offset call.size mine.size) _ _ kinds h3 (λ from h4.
-    check_then (is_within call.roffset call.size theirs.size) _ _ kinds h4 (λ to h5.
-    check_then (nat_lt call.note notes) _ _ kinds h5 (λ noted h6.
-    check_then (not (call.value == 0)) _ _ kinds h6 (λ valued h7.
-    sym (ap length (same_Ok _ _ h7)))))))))
 
 -- a call that posts asks for as many entries as its row says
 pub asks-counted : (limits : Limits) (me : ℕ) (posts : Posts) (call : Call) (to : Posting) (kinds : List Kind) → (row_of call).posting ≡ Some to
     → call_asks limits me posts call ≡ Ok kinds → length kinds ≡ to.entries
 asks-counted limits me posts (Write call) to kinds is h =
-    kinds-write me posts.segments call kinds h ∙ (let same : ◌≡◌ {A = Posting} (record { entries = 1; rank = call.rank; queue = call.queue }) to = cc in ap (λ (p : Posting). p.entries) same)
+    ap length (write-ok me posts.segments call kinds h).is ∙ (let same : ◌≡◌ {A = Posting} (record { entries = 1; rank = call.rank; queue = call.queue }) to = cc in ap (λ (p : Posting). p.entries) same)
+asks-counted limits me posts (Read call) to kinds is h =
+    ap length (read-ok me posts.segments call kinds h).is ∙ (let same : ◌≡◌ {A = Posting} (record { entries = 1; rank = call.rank; queue = call.queue }) to = cc in ap (λ (p : Posting). p.entries) same)
 asks-counted limits me posts (Notify call) to kinds is h =
-    kinds-notify limits.notes me posts.segments call kinds h ∙ (let same : ◌≡◌ {A = Posting} (record { entries = 1; rank = call.rank; queue = call.queue }) to = cc in ap (λ (p : Posting). p.entries) same)
+    ap length (notify-ok limits.notes me posts.segments call kinds h).is ∙ (let same : ◌≡◌ {A = Posting} (record { entries = 1; rank = call.rank; queue = call.queue }) to = cc in ap (λ (p : Posting). p.entries) same)
 asks-counted limits me posts (WriteNotify call) to kinds is h =
-    kinds-two limits.notes me posts.segments call kinds h ∙ (let same : ◌≡◌ {A = Posting} (record { entries = 2; rank = call.rank; queue = call.queue }) to = cc in ap (λ (p : Posting). p.entries) same)
+    ap length (write_notify-ok limits.notes me posts.segments call kinds h).is ∙ (let same : ◌≡◌ {A = Posting} (record { entries = 2; rank = call.rank; queue = call.queue }) to = cc in ap (λ (p : Posting). p.entries) same)
+asks-counted limits me posts (ReadNotify call) to kinds is h =
+    ap length (read_notify-ok limits.notes me posts.segments call kinds h).is ∙ (let same : ◌≡◌ {A = Posting} (record { entries = 2; rank = call.rank; queue = call.queue }) to = cc in ap (λ (p : Posting). p.entries) same)
 asks-counted limits me posts other to kinds is h = absurd (let no : ⊥ = cc in no)
 
 -- and is no end
@@ -163,8 +147,10 @@ posting-goes_on other to is = refl
 -- it appends at most two
 pub few-posted : (call : Call) → entries_of call ≤ 2
 few-posted (Write call) = omega arith
+few-posted (Read call) = omega arith
 few-posted (Notify call) = omega arith
 few-posted (WriteNotify call) = omega arith
+few-posted (ReadNotify call) = omega arith
 few-posted other = omega arith
 
 -- a post that was taken

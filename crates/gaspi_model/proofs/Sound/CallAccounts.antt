@@ -1,5 +1,5 @@
--- A call that is recorded: the room that is taken grows by its charge.
-use Rattle.std.proofs.Common.{◌≡◌, ℕ, ◌+◌, ◌*◌, ◌<◌, Bool, true, false, List, [], ◌++◌, length, Option, None, Some, Result, Ok, Err, refl, sym, subst, arith, cond, get_or, ap, ◌∙◌, ◌&&◌, if◌then◌else◌}
+-- A call that is recorded: the room that is taken grows by at most its charge, by less where a purge frees some.
+use Rattle.std.proofs.Common.{◌≡◌, ℕ, ◌+◌, ◌*◌, ◌<◌, ◌≤◌, Bool, true, false, List, [], ◌++◌, length, Option, None, Some, Result, Ok, Err, refl, sym, subst, arith, cond, get_or, ◌&&◌, if◌then◌else◌}
 use Rattle.std.specs.List.{slice_get, slice_set}
 use Rattle.std.proofs.lemmas.Bool.{ltb-true}
 use Rattle.std.proofs.lemmas.List.Sums.{sum_by-append}
@@ -10,7 +10,7 @@ use Rattle.gaspi_types.specs.declared.entries.Entry.{Entry}
 use Rattle.gaspi_types.specs.declared.entries.Kind.{Kind}
 use Rattle.gaspi_types.specs.declared.shapes.Limits.{Limits}
 use Rattle.gaspi_types.specs.declared.calls.Call.{Call}
-use Rattle.gaspi_types.specs.declared.calls.Call.TheVariants.{Alloc, Delete, Wait, End}
+use Rattle.gaspi_types.specs.declared.calls.Call.TheVariants.{Alloc, Delete, Wait, Purge, End}
 use Rattle.gaspi_types.specs.CallRows.{row_of, entries_of, is_end}
 use Rattle.gaspi_types.specs.declared.call_rows.Posting.{Posting}
 use Rattle.gaspi_types.specs.declared.replies.Reply.{Reply}
@@ -21,6 +21,7 @@ use Rattle.gaspi_model.specs.State.{owed, is_running, thread_at}
 use Rattle.gaspi_types.specs.Queues.{queue_owed, with_entries}
 use Rattle.gaspi_model.specs.Posting.{with_post, counted}
 use Rattle.gaspi_types.specs.Tables.{changed_at}
+use Rattle.gaspi_model.specs.QueueCalls.{emptied, purged}
 use Rattle.gaspi_model.specs.SegmentCalls.{with_own, without_own}
 use Rattle.gaspi_model.specs.PostCalls.{asked_finds}
 use Rattle.gaspi_model.specs.Calls.{posts_after, charge, answer, call_finds, ready_of, recorded_reply, plain_finds, plain_done, call_asks}
@@ -30,6 +31,7 @@ use Rattle.gaspi_model.specs.declared.states.ThreadState.TheVariants as threads
 use Rattle.gaspi_model.specs.declared.states.Posts.{Posts}
 use Rattle.gaspi_model.specs.declared.states.Memory.{Memory}
 use Rattle.gaspi_types.proofs.Items.{sum_by-changed, changed_at-found}
+use Rattle.gaspi_model.proofs.Sound.OpenCounts.{sum-emptied}
 use Rattle.gaspi_model.proofs.Sound.Accounts.{entries_owed-queue, queue_owed-lane, lane_owed-posted, asks-counted, posting-goes_on, IsPosted, post-ok}
 
 -- each queue has that many lanes
@@ -79,11 +81,22 @@ waited-owed posts queue = go (slice_get posts.queues queue) refl
         let sum = entries_owed-queue posts.queues queue q (λ (x : Queue). record x { open_count = 0 }) at in
         omega arith
 
--- The room that is taken grows by the charge of the call.
+-- what a purge leaves owes no more
+purged-owed : (posts : Posts) (queue : ℕ) → owed (purged posts queue) ≤ owed posts
+purged-owed posts queue = go (slice_get posts.queues queue) refl
+  where
+    go : (o : Option Queue) → slice_get posts.queues queue ≡ o → owed (purged posts queue) ≤ owed posts
+    go None at = rw at (omega arith)
+    go (Some q) at =
+        let sum = entries_owed-queue posts.queues queue q emptied at in
+        let none : queue_owed (emptied q) ≡ 0 = sum-emptied lane_owed q.lanes refl in
+        omega arith
+
+-- The room that is taken grows by at most the charge of the call.
 abbrev Grows : Limits → ℕ → Posts → ℕ → Call → Reply → Type 0
 Grows limits me posts thread call reply =
     (posts_after limits me posts thread call reply).events + owed (posts_after limits me posts thread call reply)
-    ≡ posts.events + owed posts + charge (thread_at posts thread) call reply
+    ≤ posts.events + owed posts + charge (thread_at posts thread) call reply
 
 either-same : (b : Bool) (x : Posts) → (if b then x else x) ≡ x
 either-same true x = refl
@@ -125,6 +138,10 @@ waited-grows : (b : Bool) (posts : Posts) (queue : ℕ) → (counted (if b then 
 waited-grows true posts queue = omega arith
 waited-grows false posts queue = let same = waited-owed posts queue in omega arith
 
+purged-grows : (b : Bool) (posts : Posts) (queue : ℕ) → (counted (if b then posts else purged posts queue)).events + owed (counted (if b then posts else purged posts queue)) ≤ posts.events + owed posts + 1
+purged-grows true posts queue = omega arith
+purged-grows false posts queue = let less = purged-owed posts queue in omega arith
+
 -- a call that posts nothing charges for itself alone
 plain-charge : (call : Call) (reply : Reply) → (row_of call).posting ≡ None → (if is_done reply then 1 + 2 * entries_of call else 1) ≡ 1
 plain-charge call reply none = rw none (go (is_done reply))
@@ -133,18 +150,26 @@ plain-charge call reply none = rw none (go (is_done reply))
     go true = refl
     go false = refl
 
+-- what is as much is at most as much, also of a charge that is said otherwise
+at-most : (a b : ℕ) → a ≡ b → a ≤ b
+at-most a b same = omega arith
+
+at-most-charged : (a b m n : ℕ) → a ≤ b + m → n ≡ m → a ≤ b + n
+at-most-charged a b m n less same = omega arith
+
 -- of a running thread, by what the call finds that posts nothing
 plain-grows : (limits : Limits) (me : ℕ) (posts : Posts) (memory : Memory) (thread : ℕ) (call : Call) (finds : Result (Option Reply) Refusal)
     → is_running (thread_at posts thread) ≡ true → plain_finds limits me posts memory call ≡ finds
     → (counted (if is_idle (recorded_reply (ready_of finds)) then posts else plain_done posts thread call)).events
-    + owed (counted (if is_idle (recorded_reply (ready_of finds)) then posts else plain_done posts thread call)) ≡ posts.events + owed posts + (if is_end call then 0 else 1)
-plain-grows limits me posts memory thread (Alloc call) finds running is = posts-grow (is_idle (recorded_reply (ready_of finds))) posts (with_own posts call.seg call.size) refl refl
-plain-grows limits me posts memory thread (Delete call) finds running is = posts-grow (is_idle (recorded_reply (ready_of finds))) posts (without_own posts call.seg) refl refl
-plain-grows limits me posts memory thread (Wait call) finds running is = waited-grows (is_idle (recorded_reply (ready_of finds))) posts call.queue
+    + owed (counted (if is_idle (recorded_reply (ready_of finds)) then posts else plain_done posts thread call)) ≤ posts.events + owed posts + (if is_end call then 0 else 1)
+plain-grows limits me posts memory thread (Alloc call) finds running is = at-most _ _ (posts-grow (is_idle (recorded_reply (ready_of finds))) posts (with_own posts call.seg call.size) refl refl)
+plain-grows limits me posts memory thread (Delete call) finds running is = at-most _ _ (posts-grow (is_idle (recorded_reply (ready_of finds))) posts (without_own posts call.seg) refl refl)
+plain-grows limits me posts memory thread (Wait call) finds running is = at-most _ _ (waited-grows (is_idle (recorded_reply (ready_of finds))) posts call.queue)
+plain-grows limits me posts memory thread (Purge call) finds running is = purged-grows (is_idle (recorded_reply (ready_of finds))) posts call.queue
 plain-grows limits me posts memory thread End finds running is =
     let ends = ended-owed posts thread running in
     rw (← is) (omega arith)
-plain-grows limits me posts memory thread other finds running is = idle-grows (is_idle (recorded_reply (ready_of finds))) posts
+plain-grows limits me posts memory thread other finds running is = at-most _ _ (idle-grows (is_idle (recorded_reply (ready_of finds))) posts)
 
 -- of a running thread, by what the call finds
 running-grows : (limits : Limits) (me : ℕ) (posts : Posts) (memory : Memory) (thread : ℕ) (call : Call) (finds : Result (Option Reply) Refusal)
@@ -161,10 +186,10 @@ running-grows limits me posts memory thread call finds lanes running is = by-pos
     by-posting None none =
         let grows = plain-grows limits me posts memory thread call finds running (rw none at is) in
         let charge_is = charged (is_end call) refl none in
-        rw (none, running) (grows ∙ ap (λ (n : ℕ). posts.events + owed posts + n) (sym (rw none at charge_is)))
+        rw (none, running) (at-most-charged _ _ _ _ grows (rw none at charge_is))
     by-posting (Some to) post =
         let grows = posted-grows limits posts to.rank to.queue to.entries (call_asks limits me posts call) finds lanes (λ kinds asks. asks-counted limits me posts call to kinds post asks) (rw post at is) in
-        rw (post, posting-goes_on call to post) grows
+        rw (post, posting-goes_on call to post) (at-most _ _ grows)
 
 -- of a thread that has ended, or has no section
 ended-grows : (limits : Limits) (me : ℕ) (posts : Posts) (thread : ℕ) (call : Call) → is_running (thread_at posts thread) ≡ false
@@ -175,7 +200,7 @@ ended-grows limits me posts thread call ended = go (is_end call) refl
     go true is = rw (is, ended) (omega arith)
     go false is = rw is (omega arith)
 
--- the room that is taken grows by the charge of a call that is recorded with the reply that it has
+-- the room that is taken grows by at most the charge of a call that is recorded with the reply that it has
 pub call-grows : (limits : Limits) (me : ℕ) (posts : Posts) (memory : Memory) (thread : ℕ) (call : Call) (reply : Reply) → HasLanes limits.ranks posts
     → reply ≡ recorded_reply (answer limits me posts memory thread call) → Grows limits me posts thread call reply
 call-grows limits me posts memory thread call reply lanes is = go (is_running (thread_at posts thread)) refl

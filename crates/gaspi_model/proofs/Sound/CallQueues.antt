@@ -2,13 +2,13 @@
 use Rattle.std.proofs.Common.{◌≡◌, ℕ, ◌+◌, ◌≤◌, Bool, true, false, List, length, Option, None, Some, Result, Ok, refl, sym, ◌∙◌, ◌⊎◌, inl, inr, if◌then◌else◌}
 use Rattle.std.specs.List.{slice_get, list_any}
 use Rattle.std.proofs.lemmas.Bool.{leb-true}
-use Rattle.gaspi_types.specs.Lanes.{has_posted, posted_entries}
+use Rattle.gaspi_types.specs.Lanes.{has_awaited, posted_entries}
 use Rattle.gaspi_types.specs.Replies.{is_idle}
 use Rattle.gaspi_types.specs.declared.entries.Entry.{Entry}
 use Rattle.gaspi_types.specs.declared.entries.Kind.{Kind}
 use Rattle.gaspi_types.specs.declared.shapes.Limits.{Limits}
 use Rattle.gaspi_types.specs.declared.calls.Call.{Call}
-use Rattle.gaspi_types.specs.declared.calls.Call.TheVariants.{Wait}
+use Rattle.gaspi_types.specs.declared.calls.Call.TheVariants.{Wait, Purge}
 use Rattle.gaspi_types.specs.declared.calls.queues.Wait as wait
 use Rattle.gaspi_types.specs.CallRows.{row_of}
 use Rattle.gaspi_types.specs.declared.call_rows.Posting.{Posting}
@@ -20,7 +20,7 @@ use Rattle.gaspi_model.specs.Posting.{with_post}
 use Rattle.gaspi_types.specs.Tables.{changed_at}
 use Rattle.gaspi_types.specs.Queues.{with_entries}
 use Rattle.gaspi_model.specs.PostCalls.{asked_finds}
-use Rattle.gaspi_model.specs.QueueCalls.{wait_finds}
+use Rattle.gaspi_model.specs.QueueCalls.{wait_finds, emptied}
 use Rattle.gaspi_model.specs.Calls.{posts_done, plain_done, posts_after, answer, call_finds, plain_finds, call_asks, recorded_reply}
 use Rattle.gaspi_model.specs.Sound.{AreRising, IsSoundQueue}
 use Rattle.gaspi_types.specs.declared.entries.Queue.{Queue}
@@ -30,7 +30,7 @@ use Rattle.gaspi_types.proofs.Chains.{found_then, absent_then}
 use Rattle.gaspi_model.proofs.FoundReplies.{found-reply}
 use Rattle.gaspi_types.proofs.Items.{slice_get-set}
 use Rattle.gaspi_model.proofs.Sound.Accounts.{post-ok}
-use Rattle.gaspi_model.proofs.Sound.OpenCounts.{queue-posted, queue-waited}
+use Rattle.gaspi_model.proofs.Sound.OpenCounts.{queue-posted, queue-waited, queue-purged}
 
 -- all queues are sound
 abbrev pub AllSound : ℕ → List Queue → Type 0
@@ -49,15 +49,15 @@ queues-changed depth queues changed change all one queue q h = go (slice_get que
     go (Some x) at = parts x at (slice_get-set queues changed queue (change x) q (rw at at h))
 
 -- what a wait that is done found
-wait-done : (posts : Posts) (call : wait.Wait) (reply : Reply) (q : Queue) → wait_finds posts call ≡ Ok (Some reply) → slice_get posts.queues call.queue ≡ Some q → list_any has_posted q.lanes ≡ false
+wait-done : (posts : Posts) (call : wait.Wait) (reply : Reply) (q : Queue) → wait_finds posts call ≡ Ok (Some reply) → slice_get posts.queues call.queue ≡ Some q → list_any has_awaited q.lanes ≡ false
 wait-done posts call reply q h at =
     found_then (slice_get posts.queues call.queue) BadQueue _ (Some reply) h (λ x hx h1.
     absent_then x.broken QueueBroken _ (Some reply) h1 (λ whole h2.
     let same : x ≡ q = (let some : ◌≡◌ {A = Option Queue} (Some x) (Some q) = sym hx ∙ at in cc) in
-    rw (sym same) (go x (list_any has_posted x.lanes) refl h2)))
+    rw (sym same) (go x (list_any has_awaited x.lanes) refl h2)))
   where
-    go : (x : Queue) (b : Bool) → list_any has_posted x.lanes ≡ b → ◌≡◌ {A = Result (Option Reply) Refusal} (Ok (if list_any has_posted x.lanes then None else Some replies.Done)) (Ok (Some reply))
-        → list_any has_posted x.lanes ≡ false
+    go : (x : Queue) (b : Bool) → list_any has_awaited x.lanes ≡ b → ◌≡◌ {A = Result (Option Reply) Refusal} (Ok (if list_any has_awaited x.lanes then None else Some replies.Done)) (Ok (Some reply))
+        → list_any has_awaited x.lanes ≡ false
     go x false is h = is
     go x true is h = absurd (let none : ◌≡◌ {A = Result (Option Reply) Refusal} (Ok None) (Ok (Some reply)) = rw is at h in let no : ⊥ = cc in no)
 
@@ -81,6 +81,8 @@ plain-queues : (limits : Limits) (me : ℕ) (posts : Posts) (memory : Memory) (t
 plain-queues limits me posts memory thread (Wait call) reply h all =
     queues-changed limits.depth posts.queues call.queue (λ (q : Queue). record q { open_count = 0 }) all
     (λ q at. queue-waited limits.depth q (all call.queue q at) (wait-done posts call reply q h at))
+plain-queues limits me posts memory thread (Purge call) reply h all =
+    queues-changed limits.depth posts.queues call.queue emptied all (λ q at. queue-purged limits.depth q)
 plain-queues limits me posts memory thread other reply h all = all
 
 done-queues : (limits : Limits) (me : ℕ) (posts : Posts) (memory : Memory) (thread : ℕ) (call : Call) (reply : Reply) → call_finds limits me posts memory call ≡ Ok (Some reply)

@@ -2,21 +2,19 @@
 use Rattle.std.proofs.Common.{◌≡◌, ℕ, ◌+◌, ◌%◌, ◌^◌, ◌<◌, ◌≤◌, not, Bool, true, false, ◌==◌, nat_lt, List, [], ◌∷◌, length, Option, None, Some, Result, Ok, Err, refl, sym, ap, ◌∙◌, arith, ◌⊎◌, inl, inr, if◌then◌else◌, position, zero, suc}
 use Rattle.std.specs.List.{slice_get, slice_set, list_any, prefix_len}
 use Rattle.std.specs.Option.{option_map}
-use Rattle.std.proofs.lemmas.Bool.{ltb-true, ltb-false, eq-eqb, eqb-true}
+use Rattle.std.proofs.lemmas.Bool.{ltb-true, ltb-false, eqb-true}
 use Rattle.std.proofs.lemmas.List.{length-replicate, map-set}
 use Rattle.byteorder.specs.Endian.{little_bytes}
-use Rattle.gaspi_types.specs.Lanes.{is_posted, has_user, is_user}
+use Rattle.gaspi_types.specs.Lanes.{has_user, is_user, uses}
 use Rattle.gaspi_types.specs.Replies.{is_idle}
 use Rattle.gaspi_types.specs.SegmentTables.{extent_in, alloc_checks, next_generation}
 use Rattle.gaspi_types.specs.SegmentWords.{word_at, with_sum, with_swap}
 use Rattle.gaspi_types.specs.declared.entries.Entry.{Entry}
 use Rattle.gaspi_types.specs.declared.segments.Extent.{Extent}
-use Rattle.gaspi_types.specs.declared.entries.ByteRange.{ByteRange}
 use Rattle.gaspi_types.specs.declared.entries.Kind.{Kind}
-use Rattle.gaspi_types.specs.declared.entries.Kind.TheVariants as kinds_of
 use Rattle.gaspi_types.specs.declared.shapes.Limits.{Limits}
 use Rattle.gaspi_types.specs.declared.calls.Call.{Call}
-use Rattle.gaspi_types.specs.declared.calls.Call.TheVariants.{Alloc, Delete, Store, Wait, Reset, FetchAdd, CompareSwap, End}
+use Rattle.gaspi_types.specs.declared.calls.Call.TheVariants.{Alloc, Delete, Store, Wait, Purge, Reset, FetchAdd, CompareSwap, End}
 use Rattle.gaspi_types.specs.declared.calls.segments.Alloc as alloc
 use Rattle.gaspi_types.specs.declared.calls.segments.Delete as delete
 use Rattle.gaspi_types.specs.CallRows.{row_of}
@@ -30,6 +28,7 @@ use Rattle.gaspi_model.specs.Memories.{bytes_of}
 use Rattle.gaspi_model.specs.Posting.{with_post, counted}
 use Rattle.gaspi_model.specs.SegmentCalls.{alloc_finds, delete_finds, with_known}
 use Rattle.gaspi_types.specs.Queues.{user_of}
+use Rattle.gaspi_model.specs.QueueCalls.{emptied}
 use Rattle.gaspi_model.specs.Calls.{posts_done, plain_done, posts_after, memory_done, memory_after, call_finds, plain_finds, call_asks, answer, recorded_reply}
 use Rattle.gaspi_model.specs.Coherence.{counts_of, HasSlots, Tables, tables_of, AreMade, AllFit, Knows}
 use Rattle.gaspi_types.specs.declared.entries.Queue.{Queue}
@@ -41,9 +40,9 @@ use Rattle.gaspi_model.proofs.Sound.Layouts.{HaveSameLayout, same-layout, bytes-
 use Rattle.gaspi_types.proofs.Written.{with_range-length, with_swap-length, set-extents}
 use Rattle.gaspi_model.proofs.Sound.Told.{changed_at-get, told, told-cases}
 use Rattle.gaspi_model.proofs.Worked.{memory_rank}
-use Rattle.gaspi_model.proofs.Sound.Successors.{lies-other, Succeeds, succeeds-itself, SourcesStay, alloc-succeeds, delete-succeeds}
+use Rattle.gaspi_model.proofs.Sound.Successors.{Succeeds, succeeds-itself, OwnsStay, own-other, free-unused, alloc-succeeds, delete-succeeds}
 use Rattle.gaspi_types.proofs.Extents.{extent-set}
-use Rattle.gaspi_model.proofs.Sound.FittingEntries.{MayPost, KindsFit, fits-post, fits-queue, asks-fit}
+use Rattle.gaspi_model.proofs.Sound.FittingEntries.{MayPost, KindsFit, fits-post, fits-queue, fits-emptied, asks-fit}
 use Rattle.gaspi_model.proofs.FoundReplies.{found-reply}
 
 -- What a call finds where it makes a segment or deletes one.
@@ -90,31 +89,28 @@ delete-found posts call reply h =
     found_then (extent_in posts.segments.own call.seg) _ _ (Some reply) h (λ mine hm h1.
     absent_then (user_of posts.queues call.seg) _ _ (Some reply) h1 (λ unused h2. unused))
 
--- where no entry uses a segment, the source of each posted write is another
-unused-apart : (queues : List Queue) (seg : ℕ) → user_of queues seg ≡ None → (queue : ℕ) (q : Queue) → slice_get queues queue ≡ Some q → (target : ℕ) (lane : List Entry) → slice_get q.lanes target ≡ Some lane
-    → (place : ℕ) (e : Entry) → slice_get lane place ≡ Some e → (own range : ByteRange) → e.kind ≡ kinds_of.Write own range → is_posted e ≡ true → seg ≡ own.segment → ⊥
-unused-apart queues seg none queue q hq target lane hl place e he own range is posted same =
+-- where no entry uses a segment, each does not
+unused-entry : (queues : List Queue) (seg : ℕ) → user_of queues seg ≡ None → (queue : ℕ) (q : Queue) → slice_get queues queue ≡ Some q → (target : ℕ) (lane : List Entry) → slice_get q.lanes target ≡ Some lane
+    → (place : ℕ) (e : Entry) → slice_get lane place ≡ Some e → uses seg e.phase e.kind ≡ false
+unused-entry queues seg none queue q hq target lane hl place e he =
     let in_queue = no-position (λ (x : Queue). list_any (has_user seg) x.lanes) queues queue q none hq in
     let in_lane = not-any (has_user seg) q.lanes target lane in_queue hl in
-    let unused : is_user seg e ≡ false = not-any (is_user seg) lane place e in_lane he in
-    let used : is_user seg e ≡ true = rw (posted, is) (eq-eqb own.segment seg (sym same)) in
-    let never : true ≡ false = sym used ∙ unused in
-    let no : ⊥ = cc in no
+    not-any (is_user seg) lane place e in_lane he
 
 -- What a call that is done keeps of the posts of its rank: the tables come after the old ones, what is known is true, the
--- entries fit in the old tables, and the sources of posted writes stay.
+-- entries fit in the old tables, and what they have to do with their own segments stays.
 pub record KeepsFit (notes : ℕ) (tables : List Tables) (me : ℕ) (before after : Posts) : Type 0 where
   pub succeeds : Succeeds (tables_of before) (tables_of after)
   pub known : Knows tables after.segments.known
   pub entries : AllFit notes tables me after.queues
-  pub sources : SourcesStay before.segments.own after.segments.own after.queues
+  pub owns : OwnsStay before.segments.own after.segments.own after.queues
 
 pub fits-itself : (notes : ℕ) (tables : List Tables) (me : ℕ) (posts : Posts) → Knows tables posts.segments.known → AllFit notes tables me posts.queues → KeepsFit notes tables me posts posts
 fits-itself notes tables me posts knows all = record {
   succeeds = succeeds-itself (tables_of posts);
   known = knows;
   entries = all;
-  sources = λ queue q hq target lane hl place e he own range is posted lies. lies;
+  owns = λ queue q hq target lane hl place e he owns. owns;
 }
 
 -- posts whose queues are other ones
@@ -123,7 +119,7 @@ fits-requeued notes tables me posts queues knows all = record {
   succeeds = succeeds-itself (tables_of posts);
   known = knows;
   entries = all;
-  sources = λ queue q hq target lane hl place e he own range is posted lies. lies;
+  owns = λ queue q hq target lane hl place e he owns. owns;
 }
 
 post-fits : (notes : ℕ) (tables : List Tables) (me : ℕ) (posts : Posts) (queue rank : ℕ) (asked : Result (List Kind) Refusal) → MayPost tables me (tables_of posts) posts.segments.known
@@ -134,7 +130,7 @@ post-fits notes tables me posts queue rank (Ok kinds) may fit all = record {
   succeeds = succeeds-itself (tables_of posts);
   known = may.knows;
   entries = fits-post notes tables me posts queue rank (tables_of posts) (Ok kinds) may.here fit all;
-  sources = λ queue q hq target lane hl place e he own range is posted lies. lies;
+  owns = λ queue q hq target lane hl place e he owns. owns;
 }
 
 plain-fits : (limits : Limits) (tables : List Tables) (me : ℕ) (posts : Posts) (memory : Memory) (thread : ℕ) (call : Call) (reply : Reply) → MayPost tables me (tables_of posts) posts.segments.known
@@ -146,12 +142,9 @@ plain-fits limits tables me posts memory thread (Alloc call) reply may many all 
       succeeds = alloc-succeeds posts.segments.own posts.segments.next_generations call.seg call.size found.free (let less = ltb-true call.seg 32 found.numbered in omega arith);
       known = may.knows;
       entries = all;
-      sources = λ queue q hq target lane hl place e he own range is posted lies.
-          lies-other posts.segments.own call.seg (Some (record { generation = next_generation posts.segments.next_generations call.seg; size = call.size })) own
-          (λ same.
-          let there : extent_in posts.segments.own call.seg ≡ Some lies.extent = rw same lies.there in
-          let never : ◌≡◌ {A = Option Extent} None (Some lies.extent) = sym found.free ∙ there in
-          let no : ⊥ = cc in no) lies;
+      owns = λ queue q hq target lane hl place e he owns.
+          own-other posts.segments.own call.seg (Some (record { generation = next_generation posts.segments.next_generations call.seg; size = call.size })) e.kind e.phase
+          (free-unused posts.segments.own call.seg e.kind e.phase found.free owns) owns;
     }
 plain-fits limits tables me posts memory thread (Delete call) reply may many all finds =
     let unused = delete-found posts call reply finds in
@@ -159,17 +152,19 @@ plain-fits limits tables me posts memory thread (Delete call) reply may many all
       succeeds = delete-succeeds posts.segments.own posts.segments.next_generations call.seg;
       known = may.knows;
       entries = all;
-      sources = λ queue q hq target lane hl place e he own range is posted lies.
-          lies-other posts.segments.own call.seg None own (unused-apart posts.queues call.seg unused queue q hq target lane hl place e he own range is posted) lies;
+      owns = λ queue q hq target lane hl place e he owns.
+          own-other posts.segments.own call.seg None e.kind e.phase (unused-entry posts.queues call.seg unused queue q hq target lane hl place e he) owns;
     }
 plain-fits limits tables me posts memory thread (Wait call) reply may many all finds =
     fits-requeued limits.notes tables me posts (changed_at posts.queues call.queue (λ (q : Queue). record q { open_count = 0 })) may.knows
     (fits-queue limits.notes tables me posts.queues call.queue (λ (q : Queue). record q { open_count = 0 }) (λ q. refl) all)
+plain-fits limits tables me posts memory thread (Purge call) reply may many all finds =
+    fits-requeued limits.notes tables me posts (changed_at posts.queues call.queue emptied) may.knows (fits-emptied limits.notes tables me posts.queues call.queue all)
 plain-fits limits tables me posts memory thread End reply may many all finds = record {
   succeeds = succeeds-itself (tables_of posts);
   known = may.knows;
   entries = all;
-  sources = λ queue q hq target lane hl place e he own range is posted lies. lies;
+  owns = λ queue q hq target lane hl place e he owns. owns;
 }
 plain-fits limits tables me posts memory thread other reply may many all finds = fits-itself limits.notes tables me posts may.knows all
 
@@ -185,7 +180,7 @@ done-fits limits tables me posts memory thread call reply may many all finds = g
         (λ kinds theirs asks ht. asks-fit limits me posts tables (tables_of posts) call to kinds theirs refl may post ht asks) all)
 
 pub counted-fits : (notes : ℕ) (tables : List Tables) (me : ℕ) (before after : Posts) → KeepsFit notes tables me before after → KeepsFit notes tables me before (counted after)
-counted-fits notes tables me before after keeps = record { succeeds = keeps.succeeds; known = keeps.known; entries = keeps.entries; sources = keeps.sources }
+counted-fits notes tables me before after keeps = record { succeeds = keeps.succeeds; known = keeps.known; entries = keeps.entries; owns = keeps.owns }
 
 pub called-fits : (limits : Limits) (tables : List Tables) (me : ℕ) (posts : Posts) (memory : Memory) (thread : ℕ) (call : Call) (reply : Reply) → MayPost tables me (tables_of posts) posts.segments.known
     → length posts.segments.next_generations ≡ 32 → AllFit limits.notes tables me posts.queues → reply ≡ recorded_reply (answer limits me posts memory thread call)

@@ -1,22 +1,29 @@
 -- Every step keeps a state coherent.
-use Rattle.std.proofs.Common.{◌≡◌, ℕ, List, remove, Option, Some, Ok, refl, sym, ap, ◌∙◌, subst, ◌⊎◌, inl, inr}
+use Rattle.std.proofs.Common.{◌≡◌, ℕ, Bool, true, false, List, remove, Option, Some, Ok, refl, sym, ap, ◌∙◌, subst, ◌⊎◌, inl, inr}
 use Rattle.std.specs.List.{slice_get, slice_set}
 use Rattle.std.specs.Option.{option_map}
 use Rattle.std.proofs.lemmas.Option.{slice_get-map}
-use Rattle.gaspi_types.specs.Lanes.{is_posted}
+use Rattle.gaspi_types.specs.Lanes.{is_posted, is_posted_phase}
+use Rattle.gaspi_types.specs.declared.entries.Kind.{Kind}
+use Rattle.gaspi_types.specs.declared.entries.Kind.TheVariants.{Write, Read, Notify, ReadNote}
+use Rattle.gaspi_types.specs.declared.entries.Phase.{Phase}
 use Rattle.gaspi_types.specs.declared.segments.Extent.{Extent}
 use Rattle.gaspi_types.specs.declared.entries.Phase.TheVariants as phases
 use Rattle.gaspi_types.specs.declared.calls.Call.{Call}
+use Rattle.gaspi_types.specs.declared.shapes.Limits.{Limits}
 use Rattle.gaspi_types.specs.declared.replies.Reply.{Reply}
 use Rattle.gaspi_types.specs.declared.events.Outcome.{Outcome}
 use Rattle.gaspi_types.specs.declared.events.Outcome.TheVariants.{Applied, Failed}
 use Rattle.gaspi_types.specs.declared.events.Event.{Event}
 use Rattle.gaspi_types.specs.declared.events.Event.TheVariants.{Called, Take, Put}
 use Rattle.gaspi_types.specs.Tables.{changed_at}
-use Rattle.gaspi_model.specs.Transfers.{Found, Worked, taken_bytes}
+use Rattle.gaspi_model.specs.State.{segment_at}
+use Rattle.gaspi_model.specs.Posting.{counted}
+use Rattle.gaspi_model.specs.Changes.{take_rank, put_rank}
+use Rattle.gaspi_model.specs.Transfers.{Found, Worked, taken_bytes, outcome_at, take_outcome, same_outcome}
 use Rattle.gaspi_model.specs.Step.{step}
-use Rattle.gaspi_model.specs.Coherence.{counts_of, HasSlots, Tables, tables_of, all_tables, HasSource, AreMade, AllFit, Knows, IsCoherent}
-use Rattle.gaspi_types.specs.Segments.{extents_of}
+use Rattle.gaspi_model.specs.Coherence.{counts_of, HasSlots, Tables, tables_of, all_tables, LiesIn, LiesInIfThere, HasOwn, FitsTarget, AreMade, AllFit, Knows, IsCoherent}
+use Rattle.gaspi_types.specs.Segments.{extents_of, is_generation}
 use Rattle.gaspi_model.specs.Sound.{IsSound}
 use Rattle.gaspi_types.specs.declared.entries.Queue.{Queue}
 use Rattle.gaspi_model.specs.declared.states.Posts.{Posts}
@@ -24,15 +31,15 @@ use Rattle.gaspi_model.specs.declared.states.Memory.{Memory}
 use Rattle.gaspi_model.specs.declared.states.State.{State}
 use Rattle.gaspi_types.proofs.Chains.{both}
 use Rattle.gaspi_model.proofs.Same.{same_reply-same}
-use Rattle.gaspi_model.proofs.Made.{IsPut}
+use Rattle.gaspi_model.proofs.Made.{IsTake, IsPut}
 use Rattle.gaspi_model.proofs.Worked.{memory_rank, sound-called, sound-take, sound-put}
 use Rattle.gaspi_types.proofs.Items.{slice_get-set, slice_get-set_same, slice_get-set_other, map-at, same-or-not}
 use Rattle.gaspi_model.proofs.Sound.Told.{told, told-from}
 use Rattle.gaspi_model.proofs.Sound.Layouts.{HaveSameLayout, same-layout, put-layout}
 use Rattle.gaspi_model.proofs.Sound.Successors.{Succeeds, Follow, made-stays, knows-follows, all-fit-follows}
-use Rattle.gaspi_model.proofs.Sound.FittingEntries.{MayPost, fits-lane, lane-phase, lane-remove, taken-source}
+use Rattle.gaspi_model.proofs.Sound.FittingEntries.{MayPost, fits-lane, lane-phase, lane-remove, taken-whole, lies-there, failed-own}
 use Rattle.gaspi_model.proofs.Sound.CallTables.{KeepsFit, KeepsTables, fits-itself, fits-requeued, counted-fits, called-fits, called-tables, told-knows}
-use Rattle.gaspi_model.proofs.FoundEntries.{with_phase}
+use Rattle.gaspi_model.proofs.FoundEntries.{IsFound, with_phase, queue_with_failed, failed_with}
 
 -- what a state has of each rank was there before it, with tables that come after the old ones
 record ComesFrom (s t : State) : Type 0 where
@@ -69,7 +76,7 @@ keeps-coherent s t coherent from =
       entries = λ origin posts hp.
           let p = from.posts origin posts hp in
           rw from.limits (all-fit-follows s.limits.notes (all_tables s.posts) (all_tables t.posts) origin posts.queues follow
-          (λ mine mine' hm hm'. rw (same-tables s.posts origin p.0 mine p.1 hm, same-tables t.posts origin posts mine' hp hm') p.2.sources) p.2.entries);
+          (λ mine mine' hm hm'. rw (same-tables s.posts origin p.0 mine p.1 hm, same-tables t.posts origin posts mine' hp hm') p.2.owns) p.2.entries);
     }
 
 -- the posts of a rank replaced
@@ -98,7 +105,7 @@ told-posts-from ranks notes table place old new call reply at made keeps all ran
   where
     told-fits : (before x : Posts) (known : List (List (Option Extent))) → after ≡ record x { segments = record x.segments { known = known } } → KeepsFit notes (all_tables table) rank before x → Knows (all_tables table) after.segments.known
         → KeepsFit notes (all_tables table) rank before after
-    told-fits before x known is fits knows = record { succeeds = rw is fits.succeeds; known = knows; entries = rw is fits.entries; sources = rw is fits.sources }
+    told-fits before x known is fits knows = record { succeeds = rw is fits.succeeds; known = knows; entries = rw is fits.entries; owns = rw is fits.owns }
 
 keeps-itself : (s : State) → IsCoherent s → (rank : ℕ) (p : Posts) → slice_get s.posts rank ≡ Some p → KeepsFit s.limits.notes (all_tables s.posts) rank p p
 keeps-itself s coherent rank p at = fits-itself s.limits.notes (all_tables s.posts) rank p (coherent.known rank p at) (coherent.entries rank p at)
@@ -161,7 +168,18 @@ tables-slots : (notes me worked : ℕ) (posts posts' : Posts) (memory memory' : 
 tables-slots notes me worked posts posts' memory memory' (inl kept) all = layout-slots notes memory memory' kept.1 all
 tables-slots notes me worked posts posts' memory memory' (inr both_change) all = both_change.2 all
 
--- Puts.
+-- Transfers.
+
+-- one that failed
+failed-keeps : (notes : ℕ) (tables : List Tables) (posts : Posts) (origin queue target number : ℕ) (at : Found) → IsFound posts queue target number at
+    → Knows tables posts.segments.known → AllFit notes tables origin posts.queues → KeepsFit notes tables origin posts (counted (failed_with posts queue target at))
+failed-keeps notes tables posts origin queue target number at is knows all =
+    let lane = with_phase at.lane at.place at.entry phases.Failed in
+    let change = queue_with_failed target at in
+    let fits = fits-lane notes tables origin posts.queues queue change at.queue target at.lane lane is.in_posts is.in_queue refl
+    (λ mine theirs hm ht old. lane-phase notes mine theirs at.lane at.place at.entry phases.Failed is.in_lane (λ owns. failed-own mine.own at.entry.kind) old) all in
+    let keeps = fits-requeued notes tables origin posts (changed_at posts.queues queue change) knows fits in
+    record { succeeds = keeps.succeeds; known = keeps.known; entries = keeps.entries; owns = keeps.owns }
 
 put-keeps : (notes : ℕ) (tables : List Tables) (posts : Posts) (memory : Memory) (origin queue target number : ℕ) (outcome : Outcome) (after : Worked) (at : Found)
     → IsPut posts memory queue target number outcome after at → Knows tables posts.segments.known → AllFit notes tables origin posts.queues → KeepsFit notes tables origin posts after.posts
@@ -172,18 +190,66 @@ put-keeps notes tables posts memory origin queue target number Applied after at 
     (λ mine theirs hm ht old. lane-remove notes mine theirs at.lane at.place old) all in
     let keeps = fits-requeued notes tables origin posts (changed_at posts.queues queue change) knows fits in
     rw h.leaves (counted-fits notes tables origin posts _ keeps)
-put-keeps notes tables posts memory origin queue target number Failed after at h knows all =
-    let lane = with_phase at.lane at.place at.entry phases.Failed in
-    let change = λ (q : Queue). record q { broken = Some target; lanes = slice_set q.lanes target lane } in
-    let fits = fits-lane notes tables origin posts.queues queue change at.queue target at.lane lane h.is.in_posts h.is.in_queue refl
-    (λ mine theirs hm ht old. lane-phase notes mine theirs at.lane at.place at.entry phases.Failed h.is.in_lane (λ own range is source. tt) old) all in
-    let keeps = fits-requeued notes tables origin posts (changed_at posts.queues queue change) knows fits in
-    rw h.leaves (record { succeeds = keeps.succeeds; known = keeps.known; entries = keeps.entries; sources = keeps.sources })
+put-keeps notes tables posts memory origin queue target number Failed after at h knows all = rw h.leaves (failed-keeps notes tables posts origin queue target number at h.is knows all)
 
-put-tables : (notes origin target queue number : ℕ) (posts : Posts) (memory : Memory) (outcome : Outcome) (after : Worked) (at : Found)
-    → IsPut posts memory queue target number outcome after at → KeepsTables notes origin target posts after.posts memory after.memory
-put-tables notes origin target queue number posts memory Applied after at h = rw h.leaves (inl (refl, put-layout memory at.entry))
-put-tables notes origin target queue number posts memory Failed after at h = rw h.leaves (inl (refl, same-layout memory))
+put-tables : (notes origin target queue number worked : ℕ) (posts : Posts) (memory : Memory) (outcome : Outcome) (after : Worked) (at : Found)
+    → IsPut posts memory queue target number outcome after at → KeepsTables notes origin worked posts after.posts memory after.memory
+put-tables notes origin target queue number worked posts memory Applied after at h = rw h.leaves (inl (refl, put-layout memory at.entry))
+put-tables notes origin target queue number worked posts memory Failed after at h = rw h.leaves (inl (refl, same-layout memory))
+
+-- what was posted and has taken its bytes has to do with its own segment what it had
+pub applied-there : (memory : Memory) (segment generation : ℕ) → same_outcome Applied (outcome_at memory segment generation) ≡ true → is_generation generation (segment_at memory segment) ≡ true
+applied-there memory segment generation h = go (is_generation generation (segment_at memory segment)) refl
+  where
+    go : (b : Bool) → is_generation generation (segment_at memory segment) ≡ b → is_generation generation (segment_at memory segment) ≡ true
+    go true is = is
+    go false is = absurd (let none = rw is at h in let no : ⊥ = cc in no)
+
+taken-own : (s : State) (origin target : ℕ) (posts theirs : Posts) (memory : Memory) (kind : Kind) → IsCoherent s → slice_get s.posts origin ≡ Some posts → slice_get s.posts target ≡ Some theirs
+    → slice_get s.memories (take_rank origin target kind) ≡ Some memory → same_outcome Applied (take_outcome memory kind) ≡ true → FitsTarget s.limits.notes (tables_of theirs) kind
+    → HasOwn posts.segments.own kind phases.Posted → HasOwn posts.segments.own kind (phases.Carried (taken_bytes memory kind))
+taken-own s origin target posts theirs memory (Write own to) coherent hp ht hm applied fits lies =
+    taken-whole memory own (subst (λ (table : List (Option Extent)). LiesIn table own) (coherent.own origin posts memory hp hm) lies)
+taken-own s origin target posts theirs memory (Read own to) coherent hp ht hm applied fits lies =
+    let there = applied-there memory to.segment to.generation applied in
+    let theirs_lie = subst (λ (table : List (Option Extent)). LiesInIfThere table to) (coherent.own target theirs memory ht hm) fits.3 in
+    (lies, taken-whole memory to (lies-there memory to there fits.1 theirs_lie) ∙ sym fits.0)
+taken-own s origin target posts theirs memory (Notify to value) coherent hp ht hm applied fits none = tt
+taken-own s origin target posts theirs memory (ReadNote own) coherent hp ht hm applied fits is = is
+
+pub posted-is : (phase : Phase) → is_posted_phase phase ≡ true → phase ≡ phases.Posted
+posted-is phases.Posted h = refl
+posted-is (phases.Carried bytes) h = absurd (let no : ⊥ = cc in no)
+posted-is phases.Failed h = absurd (let no : ⊥ = cc in no)
+
+-- a take
+take-keeps : (s : State) (origin queue target number : ℕ) (outcome : Outcome) (posts after : Posts) (memory : Memory) (at : Found) → IsCoherent s → slice_get s.posts origin ≡ Some posts
+    → slice_get s.memories (take_rank origin target at.entry.kind) ≡ Some memory → IsTake s.limits posts memory queue target number outcome after at
+    → KeepsFit s.limits.notes (all_tables s.posts) origin posts after
+take-keeps s origin queue target number Applied posts after memory at coherent hp hm h =
+    let tables = all_tables s.posts in
+    let phase = phases.Carried (taken_bytes memory at.entry.kind) in
+    let lane = with_phase at.lane at.place at.entry phase in
+    let change = λ (q : Queue). record q { lanes = slice_set q.lanes target lane } in
+    let entries = coherent.entries origin posts hp in
+    let fits = fits-lane s.limits.notes tables origin posts.queues queue change at.queue target at.lane lane h.is.in_posts h.is.in_queue refl
+    (λ mine theirs hmine htheirs old.
+    let same = same-tables s.posts origin posts mine hp hmine in
+    let far = map-at tables_of s.posts target theirs htheirs in
+    let fit = entries queue at.queue h.is.in_posts target at.lane h.is.in_queue at.place at.entry h.is.in_lane mine theirs hmine htheirs in
+    let posted = posted-is at.entry.phase (both (is_posted at.entry) _ h.permitted).0 in
+    lane-phase s.limits.notes mine theirs at.lane at.place at.entry phase h.is.in_lane
+    (λ owns. subst (λ (t : Tables). HasOwn t.own at.entry.kind phase) (sym same)
+    (taken-own s origin target posts far.0 memory at.entry.kind coherent hp far.1 hm h.fits (subst (λ (t : Tables). FitsTarget s.limits.notes t at.entry.kind) far.2 fit.0)
+    (subst (λ (p : Phase). HasOwn posts.segments.own at.entry.kind p) posted (subst (λ (t : Tables). HasOwn t.own at.entry.kind at.entry.phase) same owns)))) old) entries in
+    rw h.leaves (counted-fits s.limits.notes tables origin posts _ (fits-requeued s.limits.notes tables origin posts (changed_at posts.queues queue change) (coherent.known origin posts hp) fits))
+take-keeps s origin queue target number Failed posts after memory at coherent hp hm h =
+    rw h.leaves (failed-keeps s.limits.notes (all_tables s.posts) posts origin queue target number at h.is (coherent.known origin posts hp) (coherent.entries origin posts hp))
+
+take-own-kept : (limits : Limits) (posts after : Posts) (memory : Memory) (queue target number : ℕ) (outcome : Outcome) (at : Found) → IsTake limits posts memory queue target number outcome after at
+    → after.segments.own ≡ posts.segments.own
+take-own-kept limits posts after memory queue target number Applied at h = rw h.leaves refl
+take-own-kept limits posts after memory queue target number Failed at h = rw h.leaves refl
 
 pub steps-coherent : (s t : State) (e : Event) → IsSound s → step s e ≡ Ok t → IsCoherent t
 steps-coherent s t (Called c call reply) sound h =
@@ -213,25 +279,12 @@ steps-coherent s t (Take origin queue target number outcome) sound h =
     let coherent = sound.coherent in
     let made = sound-take s t origin queue target number outcome sound h in
     let m = made.4 in
-    let at = made.3 in
-    let tables = all_tables s.posts in
-    let phase = phases.Carried (taken_bytes made.1 at.entry.kind) in
-    let lane = with_phase at.lane at.place at.entry phase in
-    let change = λ (q : Queue). record q { lanes = slice_set q.lanes target lane } in
-    let entries = coherent.entries origin made.0 m.posts_there in
-    let own = coherent.own origin made.0 made.1 m.posts_there m.memory_there in
-    let fits = fits-lane s.limits.notes tables origin made.0.queues queue change at.queue target at.lane lane m.is.is.in_posts m.is.is.in_queue refl
-    (λ mine theirs hm ht old.
-    let same : mine.own ≡ extents_of made.1.segments = ap (λ (x : Tables). x.own) (same-tables s.posts origin made.0 mine m.posts_there hm) ∙ own in
-    lane-phase s.limits.notes mine theirs at.lane at.place at.entry phase m.is.is.in_lane
-    (λ own range is source. taken-source made.1 at.entry own range (both (is_posted at.entry) _ m.is.permitted).0 is (subst (λ (table : List (Option Extent)). HasSource table own at.entry.phase) same source)) old) entries in
-    let keeps : KeepsFit s.limits.notes tables origin made.0 made.2 =
-    rw m.is.leaves (counted-fits s.limits.notes tables origin made.0 _ (fits-requeued s.limits.notes tables origin made.0 (changed_at made.0.queues queue change) (coherent.known origin made.0 m.posts_there) fits)) in
+    let keeps = take-keeps s origin queue target number outcome made.0 made.2 made.1 made.3 coherent m.posts_there m.memory_there m.is in
     rw m.leaves (keeps-coherent s (record s { posts = slice_set s.posts origin made.2 }) coherent (record {
       limits = refl;
       posts = posts-from s.limits.notes s.posts origin made.0 made.2 m.posts_there keeps (keeps-itself s coherent);
       own = λ rank posts memory hp hm.
-          let before = own-from s.posts origin made.0 made.2 m.posts_there (rw m.is.leaves refl) rank posts hp in
+          let before = own-from s.posts origin made.0 made.2 m.posts_there (take-own-kept s.limits made.0 made.2 made.1 queue target number outcome made.3 m.is) rank posts hp in
           before.2 ∙ coherent.own rank before.0 memory before.1 hm;
       slots = coherent.slots;
     }))
@@ -240,12 +293,13 @@ steps-coherent s t (Put origin queue target number outcome) sound h =
     let made = sound-put s t origin queue target number outcome sound h in
     let m = made.4 in
     let tables = all_tables s.posts in
+    let worked = put_rank origin target made.3.entry.kind in
     let keeps = put-keeps s.limits.notes tables made.0 made.1 origin queue target number outcome made.2 made.3 m.is (coherent.known origin made.0 m.posts_there) (coherent.entries origin made.0 m.posts_there) in
-    let kept = put-tables s.limits.notes origin target queue number made.0 made.1 outcome made.2 made.3 m.is in
-    rw m.leaves (keeps-coherent s (record s { posts = slice_set s.posts origin made.2.posts; memories = slice_set s.memories target made.2.memory }) coherent (record {
+    let kept = put-tables s.limits.notes origin target queue number worked made.0 made.1 outcome made.2 made.3 m.is in
+    rw m.leaves (keeps-coherent s (record s { posts = slice_set s.posts origin made.2.posts; memories = slice_set s.memories worked made.2.memory }) coherent (record {
       limits = refl;
       posts = posts-from s.limits.notes s.posts origin made.0 made.2.posts m.posts_there keeps (keeps-itself s coherent);
-      own = changed-own s.posts s.memories s.limits.notes origin target made.0 made.2.posts made.1 made.2.memory coherent.own m.posts_there m.memory_there kept;
-      slots = changed-slots s.memories s.limits.notes target made.2.memory coherent.slots
-          (tables-slots s.limits.notes origin target made.0 made.2.posts made.1 made.2.memory kept (coherent.slots target made.1 m.memory_there));
+      own = changed-own s.posts s.memories s.limits.notes origin worked made.0 made.2.posts made.1 made.2.memory coherent.own m.posts_there m.memory_there kept;
+      slots = changed-slots s.memories s.limits.notes worked made.2.memory coherent.slots
+          (tables-slots s.limits.notes origin worked made.0 made.2.posts made.1 made.2.memory kept (coherent.slots worked made.1 m.memory_there));
     }))

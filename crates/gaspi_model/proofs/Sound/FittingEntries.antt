@@ -2,10 +2,10 @@
 use Rattle.std.proofs.Common.{◌≡◌, ℕ, zero, suc, ◌+◌, Bool, true, false, not, ◌==◌, nat_lt, List, [], ◌∷◌, ◌++◌, length, remove, Option, None, Some, Result, Ok, Err, refl, sym, ap, ◌∙◌, subst, arith, ◌⊎◌, inl, inr}
 use Rattle.std.specs.List.{slice_get, slice_set}
 use Rattle.std.proofs.lemmas.Bool.{leb-true, ltb-true, eqb-true}
-use Rattle.gaspi_types.specs.Lanes.{is_posted, is_posted_phase, posted_entries}
-use Rattle.gaspi_types.specs.Posts.{write_kinds, notify_kinds, write_notify_kinds}
+use Rattle.gaspi_types.specs.Lanes.{posted_entries}
+use Rattle.gaspi_types.specs.Posts.{slot_in, write_item, read_item, write_notify_item, read_notify_item, write_kinds, read_kinds, notify_kinds, write_notify_kinds, read_notify_kinds}
 use Rattle.gaspi_types.specs.SegmentTables.{extent_in, known_extent}
-use Rattle.gaspi_types.specs.SegmentBytes.{is_transfer_size, is_within}
+use Rattle.gaspi_types.specs.SegmentBytes.{is_within}
 use Rattle.gaspi_types.specs.declared.entries.Entry.{Entry}
 use Rattle.gaspi_types.specs.declared.segments.Extent.{Extent}
 use Rattle.gaspi_types.specs.declared.segments.SegmentTable.{SegmentTable}
@@ -17,27 +17,34 @@ use Rattle.gaspi_types.specs.declared.entries.Phase.TheVariants as phases
 use Rattle.gaspi_types.specs.CallRows.{row_of}
 use Rattle.gaspi_types.specs.declared.call_rows.Posting.{Posting}
 use Rattle.gaspi_types.specs.declared.calls.Call.{Call}
-use Rattle.gaspi_types.specs.declared.calls.Call.TheVariants.{Write, Notify, WriteNotify}
+use Rattle.gaspi_types.specs.declared.calls.Call.TheVariants.{Write, Read, Notify, WriteNotify, ReadNotify}
+use Rattle.gaspi_types.specs.declared.calls.posts.Item.{Item}
 use Rattle.gaspi_types.specs.declared.calls.posts.Write as write
+use Rattle.gaspi_types.specs.declared.calls.posts.Read as read
 use Rattle.gaspi_types.specs.declared.calls.posts.Notify as notify
 use Rattle.gaspi_types.specs.declared.calls.posts.WriteNotify as write_notify
+use Rattle.gaspi_types.specs.declared.calls.posts.ReadNotify as read_notify
+use Rattle.gaspi_types.specs.declared.entries.Ends.{Ends}
 use Rattle.gaspi_types.specs.declared.shapes.Limits.{Limits}
 use Rattle.gaspi_types.specs.declared.replies.Refusal.{Refusal}
 use Rattle.gaspi_model.specs.Calls.{call_asks}
 use Rattle.gaspi_model.specs.Memories.{bytes_of}
-use Rattle.gaspi_types.specs.Segments.{bytes_in, extents_of}
+use Rattle.gaspi_types.specs.Segments.{bytes_in, extents_of, extent_of, is_generation}
+use Rattle.gaspi_model.specs.State.{segment_at}
 use Rattle.gaspi_model.specs.Posting.{with_post}
 use Rattle.gaspi_types.specs.Tables.{changed_at}
 use Rattle.gaspi_types.specs.Queues.{with_entries}
-use Rattle.gaspi_model.specs.Transfers.{taken_bytes}
-use Rattle.gaspi_model.specs.Coherence.{Tables, WasMade, AreMade, LiesInIfThere, HasSource, Fits, AllFit, Knows}
+use Rattle.gaspi_model.specs.QueueCalls.{emptied}
+use Rattle.gaspi_model.specs.Transfers.{bytes_from}
+use Rattle.gaspi_model.specs.Coherence.{Tables, WasMade, AreMade, LiesIn, LiesInIfThere, HasOwn, HasTarget, Fits, AllFit, Knows}
 use Rattle.gaspi_types.specs.declared.entries.Queue.{Queue}
+use Rattle.gaspi_model.proofs.Sound.OpenCounts.{emptied-lane}
 use Rattle.gaspi_model.specs.declared.states.Posts.{Posts}
 use Rattle.gaspi_model.specs.declared.states.Memory.{Memory}
-use Rattle.gaspi_types.proofs.Chains.{check_then, found_then, same_Ok}
+use Rattle.gaspi_model.proofs.Asked.{AreEnds, write-ok, read-ok, notify-ok, write_notify-ok, read_notify-ok}
 use Rattle.gaspi_types.proofs.Items.{slice_get-set, append-parts, remove-part}
 use Rattle.gaspi_types.proofs.Extents.{extent-at}
-use Rattle.gaspi_types.proofs.Written.{range_of-length, segment-behind}
+use Rattle.gaspi_types.proofs.Written.{range_of-length, segment-behind, extent-there, there-in-generation}
 use Rattle.gaspi_model.proofs.FoundEntries.{with_phase}
 
 -- the entries of one lane fit
@@ -46,22 +53,18 @@ LaneFits notes mine theirs lane = (place : ℕ) (e : Entry) → slice_get lane p
 
 -- A lane that is changed.
 
--- an entry in another phase, which has its source still
-phase-fits : (notes : ℕ) (mine theirs : Tables) (e : Entry) (phase : Phase) → ((own target : ByteRange) → e.kind ≡ kinds_of.Write own target → HasSource mine.own own e.phase → HasSource mine.own own phase)
+-- an entry in another phase, which has to do with its own segment still
+phase-fits : (notes : ℕ) (mine theirs : Tables) (e : Entry) (phase : Phase) → (HasOwn mine.own e.kind e.phase → HasOwn mine.own e.kind phase)
     → Fits notes mine theirs e → Fits notes mine theirs (record e { phase = phase })
-phase-fits notes mine theirs e phase source fits = go e.kind refl fits
-  where
-    go : (k : Kind) → e.kind ≡ k → Fits notes mine theirs (record { number = e.number; kind = k; phase = e.phase }) → Fits notes mine theirs (record e { phase = phase })
-    go (kinds_of.Write own target) is h = rw is (h.0, h.1, h.2, h.3, source own target is h.4)
-    go (kinds_of.Notify target value) is h = rw is h
+phase-fits notes mine theirs e phase owns fits = (fits.0, owns fits.1)
 
 pub lane-phase : (notes : ℕ) (mine theirs : Tables) (lane : List Entry) (place : ℕ) (e : Entry) (phase : Phase) → slice_get lane place ≡ Some e
-    → ((own target : ByteRange) → e.kind ≡ kinds_of.Write own target → HasSource mine.own own e.phase → HasSource mine.own own phase)
+    → (HasOwn mine.own e.kind e.phase → HasOwn mine.own e.kind phase)
     → LaneFits notes mine theirs lane → LaneFits notes mine theirs (with_phase lane place e phase)
-lane-phase notes mine theirs lane place e phase at source all k x here = go (slice_get-set lane place k (record e { phase = phase }) x here)
+lane-phase notes mine theirs lane place e phase at owns all k x here = go (slice_get-set lane place k (record e { phase = phase }) x here)
   where
     go : ((k ≡ place) × (x ≡ record e { phase = phase })) ⊎ (slice_get lane k ≡ Some x) → Fits notes mine theirs x
-    go (inl is) = rw is.1 (phase-fits notes mine theirs e phase source (all place e at))
+    go (inl is) = rw is.1 (phase-fits notes mine theirs e phase owns (all place e at))
     go (inr there) = all k x there
 
 pub lane-remove : (notes : ℕ) (mine theirs : Tables) (lane : List Entry) (place : ℕ) → LaneFits notes mine theirs lane → LaneFits notes mine theirs (remove lane place)
@@ -100,6 +103,21 @@ fits-queue notes tables origin queues changed change lanes all queue q h target 
     go : (o : Option Queue) → slice_get queues changed ≡ o → Fits notes mine theirs e
     go None at = all queue q (rw at at h) target l here place e there mine theirs hm ht
     go (Some x) at = parts x at (slice_get-set queues changed queue (change x) q (rw at at h))
+
+-- a queue with no entry left
+pub fits-emptied : (notes : ℕ) (tables : List Tables) (origin : ℕ) (queues : List Queue) (changed : ℕ) → AllFit notes tables origin queues
+    → AllFit notes tables origin (changed_at queues changed emptied)
+fits-emptied notes tables origin queues changed all queue q h target l here place e there mine theirs hm ht = go (slice_get queues changed) refl
+  where
+    parts : (x : Queue) → ((queue ≡ changed) × (q ≡ emptied x)) ⊎ (slice_get queues queue ≡ Some q) → Fits notes mine theirs e
+    parts x (inl is) =
+        let none : l ≡ [] = emptied-lane x.lanes target l (subst (λ (y : Queue). slice_get y.lanes target ≡ Some l) is.1 here) in
+        absurd (let never : ◌≡◌ {A = Option Entry} None (Some e) = subst (λ (y : List Entry). slice_get y place ≡ Some e) none there in let no : ⊥ = cc in no)
+    parts x (inr was) = all queue q was target l here place e there mine theirs hm ht
+
+    go : (o : Option Queue) → slice_get queues changed ≡ o → Fits notes mine theirs e
+    go None at = all queue q (rw at at h) target l here place e there mine theirs hm ht
+    go (Some x) at = parts x (slice_get-set queues changed queue (emptied x) q (rw at at h))
 
 -- the queue at a place changed, but not its lanes
 pub fits-alike : (notes : ℕ) (tables : List Tables) (origin : ℕ) (queues : List Queue) (changed : ℕ) (change : Queue → Queue) (q0 : Queue) → slice_get queues changed ≡ Some q0
@@ -160,6 +178,18 @@ known-lies me mine known tables rank segment offset size x theirs may h within h
     let size_is = (may.knows rank table theirs at ht segment x is).1 y there generation in
     rw size_is within)
 
+-- so it has what an entry has to do with its target's segment
+known-target : (me : ℕ) (mine : Tables) (known : List (List (Option Extent))) (tables : List Tables) (rank segment offset size : ℕ) (x : Extent) (theirs : Tables)
+    → MayPost tables me mine known → known_extent me (table_with mine known) rank segment ≡ Some x → is_within offset size x.size ≡ true → slice_get tables rank ≡ Some theirs
+    → (size ≡ size) × (nat_lt segment 32 ≡ true) × WasMade theirs segment x.generation
+    × LiesInIfThere theirs.own (record { segment = segment; generation = x.generation; offset = offset; size = size })
+known-target me mine known tables rank segment offset size x theirs may h within ht = (
+  refl,
+  known-cases me (table_with mine known) rank segment x h (λ same at. (extent-at mine.own segment x at).0) (λ table at inside. (extent-at table segment x inside).0),
+  known-made me mine known tables rank segment x theirs may h ht,
+  known-lies me mine known tables rank segment offset size x theirs may h within ht,
+)
+
 -- the kinds of a post fit, as they are posted
 abbrev pub KindsFit : ℕ → Tables → Tables → List Kind → Type 0
 KindsFit notes mine theirs [] = Unit {0}
@@ -174,81 +204,82 @@ posted-fit notes mine theirs (kind ∷ kinds) number zero e fit at =
     rw (sym same) (fit.0 number)
 posted-fit notes mine theirs (kind ∷ kinds) number (suc place) e fit at = posted-fit notes mine theirs kinds (number + 1) place e fit.1 at
 
+-- the ends of a transfer, as they were checked
+ends-fit : (me : ℕ) (own : Tables) (known : List (List (Option Extent))) (tables : List Tables) (rank : ℕ) (item : Item) (ends : Ends) (theirs : Tables)
+    → MayPost tables me own known → slice_get tables rank ≡ Some theirs → AreEnds me (table_with own known) rank item ends → HasTarget theirs ends.own ends.target × LiesIn own.own ends.own
+ends-fit me own known tables rank item ends theirs may ht h = rw h.are (
+  known-target me own known tables rank item.rseg item.roffset item.size h.theirs theirs may h.theirs_there h.to ht,
+  record { extent = h.mine; there = h.mine_there; generation = refl; within = h.from },
+)
+
+-- a slot of a segment that its rank knows
+slot-fits : (notes me : ℕ) (own : Tables) (known : List (List (Option Extent))) (tables : List Tables) (rank segment note value : ℕ) (far : Extent) (theirs : Tables)
+    → MayPost tables me own known → slice_get tables rank ≡ Some theirs → known_extent me (table_with own known) rank segment ≡ Some far → nat_lt note notes ≡ true
+    → (n : ℕ) → Fits notes own theirs (record { number = n; kind = kinds_of.Notify (slot_in far segment note) value; phase = phases.Posted })
+slot-fits notes me own known tables rank segment note value far theirs may ht hfar noted n = ((ltb-true note notes noted, known-made me own known tables rank segment far theirs may hfar ht), tt)
+
 write-fits : (notes me : ℕ) (own : Tables) (known : List (List (Option Extent))) (tables : List Tables) (call : write.Write) (kinds : List Kind) (theirs : Tables)
     → MayPost tables me own known → slice_get tables call.rank ≡ Some theirs
     → write_kinds me (table_with own known) call ≡ Ok kinds → KindsFit notes own theirs kinds
 write-fits notes me own known tables call kinds theirs may ht h =
-    found_then (extent_in own.own call.seg) _ _ kinds h (λ mine hmine h1.
-    found_then (known_extent me (table_with own known) call.rank call.rseg) _ _ kinds h1 (λ far hfar h2.
-    check_then (is_transfer_size call.size) _ _ kinds h2 (λ sized h3.
-    check_then (is_within call.offset call.size mine.size) _ _ kinds h3 (λ from h4.
-    check_then (is_within call.roffset call.size far.size) _ _ kinds h4 (λ to h5.
-    let is = same_Ok _ _ h5 in
-    rw (sym is) (
-      (λ n. (
-        refl,
-        known-cases me (table_with own known) call.rank call.rseg far hfar (λ same at. (extent-at own.own call.rseg far at).0) (λ table at inside. (extent-at table call.rseg far inside).0),
-        known-made me own known tables call.rank call.rseg far theirs may hfar ht,
-        known-lies me own known tables call.rank call.rseg call.roffset call.size far theirs may hfar to ht,
-        record { extent = mine; there = hmine; generation = refl; within = from },
-      )),
-      tt,
-    ))))))
+    let w = write-ok me (table_with own known) call kinds h in
+    let ends = ends-fit me own known tables call.rank (write_item call) w.ends theirs may ht w.are in
+    rw w.is ((λ n. ends), tt)
+
+read-fits : (notes me : ℕ) (own : Tables) (known : List (List (Option Extent))) (tables : List Tables) (call : read.Read) (kinds : List Kind) (theirs : Tables)
+    → MayPost tables me own known → slice_get tables call.rank ≡ Some theirs
+    → read_kinds me (table_with own known) call ≡ Ok kinds → KindsFit notes own theirs kinds
+read-fits notes me own known tables call kinds theirs may ht h =
+    let w = read-ok me (table_with own known) call kinds h in
+    let ends = ends-fit me own known tables call.rank (read_item call) w.ends theirs may ht w.are in
+    rw w.is ((λ n. ends), tt)
 
 notify-fits : (notes me : ℕ) (own : Tables) (known : List (List (Option Extent))) (tables : List Tables) (call : notify.Notify) (kinds : List Kind) (theirs : Tables)
     → MayPost tables me own known → slice_get tables call.rank ≡ Some theirs
     → notify_kinds notes me (table_with own known) call ≡ Ok kinds → KindsFit notes own theirs kinds
 notify-fits notes me own known tables call kinds theirs may ht h =
-    found_then (known_extent me (table_with own known) call.rank call.rseg) _ _ kinds h (λ far hfar h1.
-    check_then (nat_lt call.note notes) _ _ kinds h1 (λ noted h2.
-    check_then (not (call.value == 0)) _ _ kinds h2 (λ valued h3.
-    let is = same_Ok _ _ h3 in
-    rw (sym is) ((λ n. (ltb-true call.note notes noted, known-made me own known tables call.rank call.rseg far theirs may hfar ht)), tt))))
+    let w = notify-ok notes me (table_with own known) call kinds h in
+    rw w.is (slot-fits notes me own known tables call.rank call.rseg call.note call.value w.theirs theirs may ht w.theirs_there w.noted, tt)
 
 write_notify-fits : (notes me : ℕ) (own : Tables) (known : List (List (Option Extent))) (tables : List Tables) (call : write_notify.WriteNotify) (kinds : List Kind) (theirs : Tables)
     → MayPost tables me own known → slice_get tables call.rank ≡ Some theirs
     → write_notify_kinds notes me (table_with own known) call ≡ Ok kinds → KindsFit notes own theirs kinds
 write_notify-fits notes me own known tables call kinds theirs may ht h =
-    found_then (extent_in own.own call.seg) _ _ kinds h (λ mine hmine h1.
-    found_then (known_extent me (table_with own known) call.rank call.rseg) _ _ kinds h1 (λ far hfar h2.
-    check_then (is_transfer_size call.size) _ _ kinds h2 (λ sized h3.
-    check_then (is_within call.offset call.size mine.size) _ _ kinds h3 (λ from h4.
-    check_then (is_within call.roffset call.size far.size) _ _ kinds h4 (λ to h5.
-    check_then (nat_lt call.note notes) _ _ kinds h5 (λ noted h6.
-    check_then (not (call.value == 0)) _ _ kinds h6 (λ valued h7.
-    let is = same_Ok _ _ h7 in
-    rw (sym is) (
-      (λ n. (
-        refl,
-        known-cases me (table_with own known) call.rank call.rseg far hfar (λ same at. (extent-at own.own call.rseg far at).0) (λ table at inside. (extent-at table call.rseg far inside).0),
-        known-made me own known tables call.rank call.rseg far theirs may hfar ht,
-        known-lies me own known tables call.rank call.rseg call.roffset call.size far theirs may hfar to ht,
-        record { extent = mine; there = hmine; generation = refl; within = from },
-      )),
-      ((λ n. (ltb-true call.note notes noted, known-made me own known tables call.rank call.rseg far theirs may hfar ht)), tt),
-    ))))))))
+    let w = write_notify-ok notes me (table_with own known) call kinds h in
+    let ends = ends-fit me own known tables call.rank (write_notify_item call) w.ends theirs may ht w.are in
+    let far : known_extent me (table_with own known) call.rank call.rseg ≡ Some w.ends.theirs = w.are.theirs_there ∙ ap (λ (e : Ends). Some e.theirs) (sym w.are.are) in
+    rw w.is ((λ n. ends), (slot-fits notes me own known tables call.rank call.rseg call.note call.value w.ends.theirs theirs may ht far w.noted, tt))
+
+read_notify-fits : (notes me : ℕ) (own : Tables) (known : List (List (Option Extent))) (tables : List Tables) (call : read_notify.ReadNotify) (kinds : List Kind) (theirs : Tables)
+    → MayPost tables me own known → slice_get tables call.rank ≡ Some theirs
+    → read_notify_kinds notes me (table_with own known) call ≡ Ok kinds → KindsFit notes own theirs kinds
+read_notify-fits notes me own known tables call kinds theirs may ht h =
+    let w = read_notify-ok notes me (table_with own known) call kinds h in
+    let ends = ends-fit me own known tables call.rank (read_notify_item call) w.ends theirs may ht w.are in
+    let near : extent_in own.own call.seg ≡ Some w.ends.mine = w.are.mine_there ∙ ap (λ (e : Ends). Some e.mine) (sym w.are.are) in
+    rw w.is ((λ n. ends), ((λ n. (ltb-true call.note notes w.noted, record { extent = w.ends.mine; there = near; same = refl })), tt))
 
 -- so do those that a call asks for
+target-of : (tables : List Tables) (p to : Posting) (theirs : Tables) → ◌≡◌ {A = Option Posting} (Some p) (Some to) → slice_get tables to.rank ≡ Some theirs → slice_get tables p.rank ≡ Some theirs
+target-of tables p to theirs some ht = let one : p ≡ to = cc in rw one ht
+
 pub asks-fit : (limits : Limits) (me : ℕ) (posts : Posts) (tables : List Tables) (own : Tables) (call : Call) (to : Posting) (kinds : List Kind) (theirs : Tables) → own.own ≡ posts.segments.own
     → MayPost tables me own posts.segments.known → (row_of call).posting ≡ Some to → slice_get tables to.rank ≡ Some theirs → call_asks limits me posts call ≡ Ok kinds → KindsFit limits.notes own theirs kinds
 asks-fit limits me posts tables own (Write call) to kinds theirs same may is ht h =
-    let here : slice_get tables call.rank ≡ Some theirs = at-rank (record { entries = 1; rank = call.rank; queue = call.queue }) is in
-    write-fits limits.notes me own posts.segments.known tables call kinds theirs may here (subst (λ (o : List (Option Extent)). write_kinds me (record { own = o; next_generations = own.next; known = posts.segments.known }) call ≡ Ok kinds) (sym same) h)
-  where
-    at-rank : (p : Posting) → ◌≡◌ {A = Option Posting} (Some p) (Some to) → slice_get tables p.rank ≡ Some theirs
-    at-rank p some = let one : p ≡ to = cc in rw one ht
+    write-fits limits.notes me own posts.segments.known tables call kinds theirs may (target-of tables (record { entries = 1; rank = call.rank; queue = call.queue }) to theirs is ht)
+    (subst (λ (o : List (Option Extent)). write_kinds me (record { own = o; next_generations = own.next; known = posts.segments.known }) call ≡ Ok kinds) (sym same) h)
+asks-fit limits me posts tables own (Read call) to kinds theirs same may is ht h =
+    read-fits limits.notes me own posts.segments.known tables call kinds theirs may (target-of tables (record { entries = 1; rank = call.rank; queue = call.queue }) to theirs is ht)
+    (subst (λ (o : List (Option Extent)). read_kinds me (record { own = o; next_generations = own.next; known = posts.segments.known }) call ≡ Ok kinds) (sym same) h)
 asks-fit limits me posts tables own (Notify call) to kinds theirs same may is ht h =
-    let here : slice_get tables call.rank ≡ Some theirs = at-rank (record { entries = 1; rank = call.rank; queue = call.queue }) is in
-    notify-fits limits.notes me own posts.segments.known tables call kinds theirs may here (subst (λ (o : List (Option Extent)). notify_kinds limits.notes me (record { own = o; next_generations = own.next; known = posts.segments.known }) call ≡ Ok kinds) (sym same) h)
-  where
-    at-rank : (p : Posting) → ◌≡◌ {A = Option Posting} (Some p) (Some to) → slice_get tables p.rank ≡ Some theirs
-    at-rank p some = let one : p ≡ to = cc in rw one ht
+    notify-fits limits.notes me own posts.segments.known tables call kinds theirs may (target-of tables (record { entries = 1; rank = call.rank; queue = call.queue }) to theirs is ht)
+    (subst (λ (o : List (Option Extent)). notify_kinds limits.notes me (record { own = o; next_generations = own.next; known = posts.segments.known }) call ≡ Ok kinds) (sym same) h)
 asks-fit limits me posts tables own (WriteNotify call) to kinds theirs same may is ht h =
-    let here : slice_get tables call.rank ≡ Some theirs = at-rank (record { entries = 2; rank = call.rank; queue = call.queue }) is in
-    write_notify-fits limits.notes me own posts.segments.known tables call kinds theirs may here (subst (λ (o : List (Option Extent)). write_notify_kinds limits.notes me (record { own = o; next_generations = own.next; known = posts.segments.known }) call ≡ Ok kinds) (sym same) h)
-  where
-    at-rank : (p : Posting) → ◌≡◌ {A = Option Posting} (Some p) (Some to) → slice_get tables p.rank ≡ Some theirs
-    at-rank p some = let one : p ≡ to = cc in rw one ht
+    write_notify-fits limits.notes me own posts.segments.known tables call kinds theirs may (target-of tables (record { entries = 2; rank = call.rank; queue = call.queue }) to theirs is ht)
+    (subst (λ (o : List (Option Extent)). write_notify_kinds limits.notes me (record { own = o; next_generations = own.next; known = posts.segments.known }) call ≡ Ok kinds) (sym same) h)
+asks-fit limits me posts tables own (ReadNotify call) to kinds theirs same may is ht h =
+    read_notify-fits limits.notes me own posts.segments.known tables call kinds theirs may (target-of tables (record { entries = 2; rank = call.rank; queue = call.queue }) to theirs is ht)
+    (subst (λ (o : List (Option Extent)). read_notify_kinds limits.notes me (record { own = o; next_generations = own.next; known = posts.segments.known }) call ≡ Ok kinds) (sym same) h)
 asks-fit limits me posts tables own other to kinds theirs same may is ht h = absurd (let no : ⊥ = cc in no)
 
 -- a lane with the entries of a post added
@@ -276,18 +307,26 @@ fits-post notes tables me posts queue rank own (Ok kinds) hm fit all = with-queu
     with-queue None none = rw none all
     with-queue (Some q) at = with-lane q at (slice_get q.lanes rank) refl
 
--- A write that takes its bytes takes as many as its range has.
+-- What is taken from a range that lies in its segment has as many bytes as the range.
+pub taken-whole : (memory : Memory) (range : ByteRange) → LiesIn (extents_of memory.segments) range → length (bytes_from memory (Some range)) ≡ range.size
+taken-whole memory range lies =
+    let behind = segment-behind memory.segments range.segment lies.extent lies.there in
+    let size : lies.extent.size ≡ length behind.0.bytes = ap (λ (x : Extent). x.size) (sym behind.2) in
+    let bytes : bytes_of memory range.segment ≡ behind.0.bytes = ap bytes_in behind.1 in
+    let within = leb-true (range.offset + range.size) lies.extent.size lies.within in
+    range_of-length (bytes_of memory range.segment) range.offset range.size (let same = ap length bytes in omega arith)
 
-pub taken-source : (memory : Memory) (e : Entry) (own target : ByteRange) → is_posted e ≡ true → e.kind ≡ kinds_of.Write own target → HasSource (extents_of memory.segments) own e.phase
-    → HasSource (extents_of memory.segments) own (phases.Carried (taken_bytes memory e.kind))
-taken-source memory e own target posted is source = by-phase e.phase posted source
-  where
-    by-phase : (phase : Phase) → is_posted_phase phase ≡ true → HasSource (extents_of memory.segments) own phase → length (taken_bytes memory e.kind) ≡ own.size
-    by-phase phases.Posted h lies =
-        let behind = segment-behind memory.segments own.segment lies.extent lies.there in
-        let size : lies.extent.size ≡ length behind.0.bytes = ap (λ (x : Extent). x.size) (sym behind.2) in
-        let bytes : bytes_of memory own.segment ≡ behind.0.bytes = ap bytes_in behind.1 in
-        let within = leb-true (own.offset + own.size) lies.extent.size lies.within in
-        rw is (range_of-length (bytes_of memory own.segment) own.offset own.size (let same = ap length bytes in omega arith))
-    by-phase (phases.Carried bytes) h lies = absurd (let no : ⊥ = cc in no)
-    by-phase phases.Failed h lies = absurd (let no : ⊥ = cc in no)
+-- a range of a segment that is there in its generation lies in it
+pub lies-there : (memory : Memory) (range : ByteRange) → is_generation range.generation (segment_at memory range.segment) ≡ true → nat_lt range.segment 32 ≡ true
+    → LiesInIfThere (extents_of memory.segments) range → LiesIn (extents_of memory.segments) range
+lies-there memory range there less lies =
+    let old = there-in-generation memory.segments range.segment range.generation there in
+    let entry = extent-there memory.segments range.segment old.0 less old.1 in
+    record { extent = extent_of old.0; there = entry; generation = old.2; within = lies (extent_of old.0) entry old.2 }
+
+-- an entry that has failed has nothing to do with its own segment
+pub failed-own : (table : List (Option Extent)) (kind : Kind) → HasOwn table kind phases.Failed
+failed-own table (kinds_of.Write own target) = tt
+failed-own table (kinds_of.Read own target) = tt
+failed-own table (kinds_of.Notify target value) = tt
+failed-own table (kinds_of.ReadNote own) = tt

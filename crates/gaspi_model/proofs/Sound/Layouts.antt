@@ -6,11 +6,12 @@ use Rattle.std.proofs.lemmas.List.{length-set}
 use Rattle.gaspi_types.specs.SegmentBytes.{with_range}
 use Rattle.gaspi_types.specs.Segments.{extents_of}
 use Rattle.gaspi_types.specs.declared.entries.Entry.{Entry}
-use Rattle.gaspi_types.specs.declared.entries.Kind.{Kind}
-use Rattle.gaspi_types.specs.declared.entries.Kind.TheVariants.{Write, Notify}
+use Rattle.gaspi_types.specs.Kinds.{destination_of}
+use Rattle.gaspi_types.specs.declared.entries.Destination.{Destination}
+use Rattle.gaspi_types.specs.declared.entries.Destination.TheVariants.{Range, Slot}
 use Rattle.gaspi_types.proofs.Written.{with_range-length, extents_of-with_bytes, counts-with_slots}
 use Rattle.gaspi_model.specs.Memories.{bytes_of, slots_of, with_bytes, with_slots}
-use Rattle.gaspi_model.specs.Transfers.{memory_put, carried_bytes}
+use Rattle.gaspi_model.specs.Transfers.{memory_put, memory_with_put, carried_bytes}
 use Rattle.gaspi_model.specs.Coherence.{slot_counts}
 use Rattle.gaspi_model.specs.declared.states.Memory.{Memory}
 
@@ -36,8 +37,8 @@ slots-layout m segment note value = record {
 }
 
 pub put-layout : (m : Memory) (e : Entry) → HaveSameLayout m (memory_put m e)
-put-layout m e = go e.kind refl
+put-layout m e = go (destination_of e.kind)
   where
-    go : (k : Kind) → e.kind ≡ k → HaveSameLayout m (memory_put m e)
-    go (Write own target) is = rw is (bytes-layout m target.segment target.offset (carried_bytes e.phase))
-    go (Notify target value) is = rw is (slots-layout m target.segment target.note value)
+    go : (d : Destination) → HaveSameLayout m (memory_with_put m d (carried_bytes e.phase))
+    go (Range range) = bytes-layout m range.segment range.offset (carried_bytes e.phase)
+    go (Slot slot value) = slots-layout m slot.segment slot.note value

@@ -1,18 +1,19 @@
 -- What is carried, and what is open: each event keeps the queues of a rank sound.
-use Rattle.std.proofs.Common.{◌≡◌, ℕ, zero, suc, ◌+◌, ◌<◌, ◌≤◌, Bool, true, false, ◌||◌, nat_lt, nat_le, List, [], ◌∷◌, ◌++◌, length, remove, Option, None, Some, refl, sym, ap, ◌∙◌, subst, arith, cond, ◌⊎◌, inl, inr}
+use Rattle.std.proofs.Common.{◌≡◌, map, ℕ, zero, suc, ◌+◌, ◌<◌, ◌≤◌, Bool, true, false, ◌||◌, nat_lt, nat_le, List, [], ◌∷◌, ◌++◌, length, remove, Option, None, Some, refl, sym, ap, ◌∙◌, subst, arith, cond, ◌⊎◌, inl, inr}
 use Rattle.std.specs.List.{slice_get, slice_set, sum_by, count_by, list_any}
 use Rattle.std.proofs.lemmas.Bool.{ltb-true, leb-true}
 use Rattle.std.proofs.lemmas.List.Sums.{sum_by-cons, sum_by-append, sum_by-remove, count_by-le-length}
 use Rattle.std.proofs.lemmas.Option.{slice_get_within, get_or_from_slice_get}
-use Rattle.gaspi_types.specs.Lanes.{is_posted, is_posted_phase, is_carried, is_carried_phase, is_failed, is_failed_phase, carried_count, has_posted, posted_entries}
+use Rattle.gaspi_types.specs.Lanes.{is_posted, is_posted_phase, is_carried, is_carried_phase, is_failed, is_failed_phase, carried_count, is_awaited, has_awaited, posted_entries}
 use Rattle.gaspi_types.specs.declared.entries.Entry.{Entry}
 use Rattle.gaspi_types.specs.declared.entries.Kind.{Kind}
 use Rattle.gaspi_types.specs.declared.entries.Phase.{Phase}
 use Rattle.gaspi_types.specs.declared.entries.Phase.TheVariants as phases
 use Rattle.gaspi_types.specs.Queues.{with_entries}
+use Rattle.gaspi_model.specs.QueueCalls.{emptied, without_entries}
 use Rattle.gaspi_model.specs.Sound.{AreRising, lane_from, queue_from, lane_failed, queue_failed, failures, IsSoundQueue}
 use Rattle.gaspi_types.specs.declared.entries.Queue.{Queue}
-use Rattle.gaspi_types.proofs.Items.{slice_get-set, sum_by-changed, remove-part, append-parts}
+use Rattle.gaspi_types.proofs.Items.{slice_get-set, sum_by-changed, map-at, remove-part, append-parts}
 use Rattle.gaspi_model.proofs.FoundEntries.{with_phase}
 
 -- Counts over a list after a change.
@@ -186,8 +187,8 @@ queue-remove depth q q' target lane place e sound at here lanes count marks whol
     let same = ap failures marks in
     omega arith)
 
--- a wait that was done: no entry of the queue is posted
-pub queue-waited : (depth : ℕ) (q : Queue) → IsSoundQueue depth q → list_any has_posted q.lanes ≡ false → IsSoundQueue depth (record q { open_count = 0 })
+-- a wait that was done: no entry of the queue is posted, among others
+pub queue-waited : (depth : ℕ) (q : Queue) → IsSoundQueue depth q → list_any has_awaited q.lanes ≡ false → IsSoundQueue depth (record q { open_count = 0 })
 queue-waited depth q sound none = record {
   carried = sound.carried;
   from_posted = λ t l here place e there posted. absurd (any-lane q.lanes t l place e here there posted none);
@@ -195,30 +196,48 @@ queue-waited depth q sound none = record {
   failed = sound.failed;
 }
   where
-    any-entry : (lane : List Entry) (place : ℕ) (e : Entry) → slice_get lane place ≡ Some e → is_posted e ≡ true → has_posted lane ≡ false → ⊥
+    any-entry : (lane : List Entry) (place : ℕ) (e : Entry) → slice_get lane place ≡ Some e → is_posted e ≡ true → has_awaited lane ≡ false → ⊥
     any-entry [] place e at posted none = cc
-    any-entry (x ∷ lane) zero e at posted none = let same : x ≡ e = cc in let yes : is_posted x ≡ true = rw same posted in let out = rw yes at none in cc
-    any-entry (x ∷ lane) (suc place) e at posted none = any-entry lane place e at posted (second (is_posted x) (list_any is_posted lane) none)
+    any-entry (x ∷ lane) zero e at posted none = let same : x ≡ e = cc in let yes : is_awaited x ≡ true = rw (same, posted) refl in let out = rw yes at none in cc
+    any-entry (x ∷ lane) (suc place) e at posted none = any-entry lane place e at posted (second (is_awaited x) (list_any is_awaited lane) none)
       where
         second : (a b : Bool) → (a || b) ≡ false → b ≡ false
         second true b h = absurd (let no : ⊥ = cc in no)
         second false b h = h
 
     any-lane : (lanes : List (List Entry)) (t : ℕ) (l : List Entry) (place : ℕ) (e : Entry) → slice_get lanes t ≡ Some l → slice_get l place ≡ Some e → is_posted e ≡ true
-        → list_any has_posted lanes ≡ false → ⊥
+        → list_any has_awaited lanes ≡ false → ⊥
     any-lane [] t l place e here there posted none = cc
     any-lane (x ∷ lanes) zero l place e here there posted none =
         let same : x ≡ l = cc in
-        any-entry l place e there posted (rw (sym same) (first (has_posted x) (list_any has_posted lanes) none))
+        any-entry l place e there posted (rw (sym same) (first (has_awaited x) (list_any has_awaited lanes) none))
       where
         first : (a b : Bool) → (a || b) ≡ false → a ≡ false
         first true b h = absurd (let no : ⊥ = cc in no)
         first false b h = refl
-    any-lane (x ∷ lanes) (suc t) l place e here there posted none = any-lane lanes t l place e here there posted (second (has_posted x) (list_any has_posted lanes) none)
+    any-lane (x ∷ lanes) (suc t) l place e here there posted none = any-lane lanes t l place e here there posted (second (has_awaited x) (list_any has_awaited lanes) none)
       where
         second : (a b : Bool) → (a || b) ≡ false → b ≡ false
         second true b h = absurd (let no : ⊥ = cc in no)
         second false b h = h
+
+-- no lane of an emptied queue has an entry
+pub emptied-lane : (lanes : List (List Entry)) (target : ℕ) (lane : List Entry) → slice_get (map without_entries lanes) target ≡ Some lane → lane ≡ []
+emptied-lane lanes target lane there = (map-at without_entries lanes target lane there).2
+
+-- so nothing is summed up over its entries
+pub sum-emptied : (f : List Entry → ℕ) (lanes : List (List Entry)) → f [] ≡ 0 → sum_by f (map without_entries lanes) ≡ 0
+sum-emptied f lanes nothing = sum-none f (map without_entries lanes) (λ k x at. ap f (emptied-lane lanes k x at) ∙ nothing)
+
+-- a purge that was done: no entry is left
+pub queue-purged : (depth : ℕ) (q : Queue) → IsSoundQueue depth (emptied q)
+queue-purged depth q = record {
+  carried = λ t l here. (let none = ap carried_count (emptied-lane q.lanes t l here) in omega arith);
+  from_posted = λ t l here place e there posted.
+      absurd (let none : ◌≡◌ {A = Option Entry} None (Some e) = subst (λ (x : List Entry). slice_get x place ≡ Some e) (emptied-lane q.lanes t l here) there in let no : ⊥ = cc in no);
+  opened = omega arith;
+  failed = sum-emptied lane_failed q.lanes refl;
+}
 
 -- a post: its entries are the newest, and open as many more
 pub queue-posted : (depth next : ℕ) (q : Queue) (target : ℕ) (kinds : List Kind) → IsSoundQueue depth q

@@ -2,15 +2,15 @@
 use Rattle.std.proofs.Common.{◌-◌, subst, ◌≡◌, ℕ, ◌+◌, ◌≤◌, Bool, true, false, List, ◌++◌, length, Option, None, Some, Result, Ok, Err, refl, sym, ap, ◌∙◌, arith, if◌then◌else◌, ◌⊎◌, inl, inr, remove, is_none}
 use Rattle.std.specs.List.{sum_by, slice_get, slice_set}
 use Rattle.std.proofs.lemmas.Bool.{leb-true}
-use Rattle.std.proofs.lemmas.List.{length-set}
-use Rattle.gaspi_types.specs.Lanes.{posted_entries, is_posted, is_carried}
+use Rattle.std.proofs.lemmas.List.{length-set, length-map}
+use Rattle.gaspi_types.specs.Lanes.{posted_entries, is_posted, is_carried, is_failed}
 use Rattle.gaspi_types.specs.Replies.{is_idle}
 use Rattle.gaspi_types.specs.declared.entries.Entry.{Entry}
 use Rattle.gaspi_types.specs.declared.entries.Kind.{Kind}
 use Rattle.gaspi_types.specs.declared.entries.Phase.TheVariants as phases
 use Rattle.gaspi_types.specs.declared.shapes.Limits.{Limits}
 use Rattle.gaspi_types.specs.declared.calls.Call.{Call}
-use Rattle.gaspi_types.specs.declared.calls.Call.TheVariants.{Alloc, Delete, Wait, End}
+use Rattle.gaspi_types.specs.declared.calls.Call.TheVariants.{Alloc, Delete, Wait, Purge, End}
 use Rattle.gaspi_types.specs.CallRows.{row_of, entries_of}
 use Rattle.gaspi_types.specs.declared.call_rows.Posting.{Posting}
 use Rattle.gaspi_types.specs.declared.replies.Reply.{Reply}
@@ -25,6 +25,7 @@ use Rattle.gaspi_types.specs.declared.segments.Extent.{Extent}
 use Rattle.gaspi_model.specs.Posting.{with_post, counted}
 use Rattle.gaspi_types.specs.Tables.{changed_at}
 use Rattle.gaspi_types.specs.Queues.{with_entries}
+use Rattle.gaspi_model.specs.QueueCalls.{emptied, without_entries}
 use Rattle.gaspi_model.specs.Calls.{posts_done, plain_done, call_asks}
 use Rattle.gaspi_model.specs.Transfers.{Found, taken_bytes, Worked}
 use Rattle.gaspi_model.specs.Step.{step}
@@ -45,10 +46,11 @@ use Rattle.gaspi_model.proofs.Made.{IsTake, IsPut, IsCalled, step-called, step-t
 use Rattle.gaspi_model.proofs.Sound.Accounts.{take-owed, put-owed, asks-counted, few-posted}
 use Rattle.gaspi_model.proofs.Sound.CallAccounts.{HasLanes, with_post-events, call-grows}
 use Rattle.gaspi_types.proofs.Chains.{both}
-use Rattle.gaspi_model.proofs.Sound.OpenCounts.{posted-unfailed, carried-unfailed, queue-phase, queue-remove, carried-more, carried-failed}
+use Rattle.gaspi_model.proofs.Sound.OpenCounts.{emptied-lane, posted-unfailed, carried-unfailed, queue-phase, queue-remove, carried-more, carried-failed}
 use Rattle.gaspi_model.proofs.Sound.CoherentSteps.{steps-coherent}
 use Rattle.gaspi_model.proofs.Sound.CallQueues.{queues-changed, called-queues}
-use Rattle.gaspi_model.proofs.FoundEntries.{IsFound, with_lane, with_phase, put_with}
+use Rattle.gaspi_model.specs.Changes.{put_rank}
+use Rattle.gaspi_model.proofs.FoundEntries.{IsFound, with_lane, with_phase, queue_with_failed, failed_with}
 
 -- queues keep their lanes when one is changed and keeps its own
 pub lanes-changed : (ranks : ℕ) (queues : List Queue) (queue : ℕ) (change : Queue → Queue) → ((q : Queue) → length (change q).lanes ≡ length q.lanes)
@@ -191,6 +193,15 @@ plain-keeps ranks posts thread (Wait call) all rise few = record {
   generations = generations-more posts few;
   rising = rise-changed posts.next posts.queues call.queue (λ (q : Queue). record q { open_count = 0 }) (λ q at. rise call.queue q at) rise;
 }
+plain-keeps ranks posts thread (Purge call) all rise few = record {
+  lanes = lanes-changed ranks posts.queues call.queue emptied (λ q. length-map q.lanes without_entries) all;
+  events = refl;
+  numbers = omega arith;
+  numbered = refl;
+  generations = generations-more posts few;
+  rising = rise-changed posts.next posts.queues call.queue emptied
+      (λ q at target lane is. subst (λ (l : List Entry). AreRising posts.next l) (sym (emptied-lane q.lanes target lane is)) tt) rise;
+}
 plain-keeps ranks posts thread End all rise few = record { lanes = all; events = refl; numbers = omega arith; numbered = refl; generations = generations-more posts few; rising = rise }
 plain-keeps ranks posts thread other all rise few = same-keeps ranks posts all rise few
 
@@ -242,16 +253,47 @@ rise-with_lane posts queue target number at lane is rising all =
     rise-changed posts.next posts.queues queue (λ (q : Queue). record q { lanes = slice_set q.lanes target lane })
     (λ q here. rise-lane posts.next q.lanes target lane rising (all queue q here)) all
 
+whole-unmarked : (broken : Option ℕ) → is_none broken ≡ true → failures broken ≡ 0
+whole-unmarked None h = refl
+whole-unmarked (Some target) h = absurd (let no : ⊥ = cc in no)
+
+-- the posts of an origin after a transfer that failed
+failed-sound : (limits : Limits) (posts : Posts) (queue target number : ℕ) (at : Found) → IsSoundPosts limits posts → IsFound posts queue target number at → is_none at.queue.broken ≡ true
+    → is_failed at.entry ≡ false → HasTables limits (counted (failed_with posts queue target at))
+    → (counted (failed_with posts queue target at)).events + owed (counted (failed_with posts queue target at)) ≤ limits.events → IsSoundPosts limits (counted (failed_with posts queue target at))
+failed-sound limits posts queue target number at sound is whole stood tables room =
+    let numbers = sound.numbers in
+    let rises = sound.rising queue at.queue is.in_posts target at.lane is.in_queue in
+    let lane = with_phase at.lane at.place at.entry phases.Failed in
+    let change = queue_with_failed target at in
+    record {
+      tables = tables;
+      lanes = lanes-changed limits.ranks posts.queues queue change (λ q. length-set q.lanes target lane) sound.lanes;
+      room = room;
+      numbers = omega arith;
+      numbered = sound.numbered;
+      generations = λ segment n at. (let few = sound.generations segment n at in omega arith);
+      rising = rise-changed posts.next posts.queues queue change
+          (λ q here. rise-lane posts.next q.lanes target lane (AreRising-phase posts.next at.lane at.place at.entry phases.Failed is.in_lane rises) (sound.rising queue q here)) sound.rising;
+      queues = queues-changed limits.depth posts.queues queue change sound.queues
+          (λ q here.
+          let same : at.queue ≡ q = (let some : ◌≡◌ {A = Option Queue} (Some at.queue) (Some q) = sym is.in_posts ∙ here in cc) in
+          let s0 = sound.queues queue at.queue is.in_posts in
+          rw (sym same) (queue-phase limits.depth at.queue (change at.queue) target at.lane at.place at.entry phases.Failed s0 is.in_queue is.in_lane refl refl refl
+          (carried-failed limits.depth at.lane at.place at.entry is.in_lane (s0.carried target at.lane is.in_queue))
+          (rw (stood, whole-unmarked at.queue.broken whole) refl)));
+    }
+
 take-sound : (limits : Limits) (posts : Posts) (memory : Memory) (queue target number : ℕ) (outcome : Outcome) (after : Posts) (at : Found)
     → IsSoundPosts limits posts → IsTake limits posts memory queue target number outcome after at → IsSoundPosts limits after
-take-sound limits posts memory queue target number outcome after at sound h =
-    let owes = take-owed limits posts memory queue target number outcome after at h in
+take-sound limits posts memory queue target number Applied after at sound h =
+    let owes = take-owed limits posts memory queue target number Applied after at h in
     let room = sound.room in
     let numbers = sound.numbers in
     let rises = sound.rising queue at.queue h.is.in_posts target at.lane h.is.in_queue in
     let lane = with_phase at.lane at.place at.entry (phases.Carried (taken_bytes memory at.entry.kind)) in
     let made : IsSoundPosts limits (counted (with_lane posts queue target lane)) = record {
-      tables = subst (HasTables limits) h.leaves (take-tables limits posts memory queue target number outcome after at h sound.tables);
+      tables = subst (HasTables limits) h.leaves (take-tables limits posts memory queue target number Applied after at h sound.tables);
       lanes = lanes-with_lane limits.ranks posts queue target lane sound.lanes;
       room = (let same = ap (λ (p : Posts). p.events + owed p) h.leaves in omega arith);
       numbers = omega arith;
@@ -267,10 +309,13 @@ take-sound limits posts memory queue target number outcome after at sound h =
           (rw (posted-unfailed at.entry.phase (both (is_posted at.entry) _ h.permitted).0) refl)));
     } in
     rw h.leaves made
-
-whole-unmarked : (broken : Option ℕ) → is_none broken ≡ true → failures broken ≡ 0
-whole-unmarked None h = refl
-whole-unmarked (Some target) h = absurd (let no : ⊥ = cc in no)
+take-sound limits posts memory queue target number Failed after at sound h =
+    let owes = take-owed limits posts memory queue target number Failed after at h in
+    let room = sound.room in
+    let tables = subst (HasTables limits) h.leaves (take-tables limits posts memory queue target number Failed after at h sound.tables) in
+    let spared : (counted (failed_with posts queue target at)).events + owed (counted (failed_with posts queue target at)) ≤ limits.events =
+    (let same = ap (λ (p : Posts). p.events + owed p) h.leaves in omega arith) in
+    rw h.leaves (failed-sound limits posts queue target number at sound h.is h.whole (posted-unfailed at.entry.phase (both (is_posted at.entry) _ h.permitted).0) tables spared)
 
 put-sound : (limits : Limits) (posts : Posts) (memory : Memory) (queue target number : ℕ) (outcome : Outcome) (after : Worked) (at : Found)
     → IsSoundPosts limits posts → IsPut posts memory queue target number outcome after at → IsSoundPosts limits after.posts
@@ -298,28 +343,10 @@ put-sound limits posts memory queue target number Applied after at sound h =
 put-sound limits posts memory queue target number Failed after at sound h =
     let owes = put-owed posts memory queue target number Failed after at h in
     let room = sound.room in
-    let numbers = sound.numbers in
-    let rises = sound.rising queue at.queue h.is.in_posts target at.lane h.is.in_queue in
-    let lane = with_phase at.lane at.place at.entry phases.Failed in
-    let change = λ (q : Queue). record q { broken = Some target; lanes = slice_set q.lanes target lane } in
-    let made : IsSoundPosts limits (put_with posts queue target at Failed) = record {
-      tables = subst (λ (w : Worked). HasTables limits w.posts) h.leaves (put-tables limits posts memory queue target number Failed after at h sound.tables);
-      lanes = lanes-changed limits.ranks posts.queues queue change (λ q. length-set q.lanes target lane) sound.lanes;
-      room = (let same = ap (λ (p : Worked). p.posts.events + owed p.posts) h.leaves in omega arith);
-      numbers = omega arith;
-      numbered = sound.numbered;
-      generations = λ segment n at. (let few = sound.generations segment n at in omega arith);
-      rising = rise-changed posts.next posts.queues queue change
-          (λ q here. rise-lane posts.next q.lanes target lane (AreRising-phase posts.next at.lane at.place at.entry phases.Failed h.is.in_lane rises) (sound.rising queue q here)) sound.rising;
-      queues = queues-changed limits.depth posts.queues queue change sound.queues
-          (λ q here.
-          let same : at.queue ≡ q = (let some : ◌≡◌ {A = Option Queue} (Some at.queue) (Some q) = sym h.is.in_posts ∙ here in cc) in
-          let s0 = sound.queues queue at.queue h.is.in_posts in
-          rw (sym same) (queue-phase limits.depth at.queue (change at.queue) target at.lane at.place at.entry phases.Failed s0 h.is.in_queue h.is.in_lane refl refl refl
-          (carried-failed limits.depth at.lane at.place at.entry h.is.in_lane (s0.carried target at.lane h.is.in_queue))
-          (rw (carried-unfailed at.entry.phase (both (is_carried at.entry) _ h.permitted).0, whole-unmarked at.queue.broken h.whole) refl)));
-    } in
-    rw h.leaves made
+    let tables = subst (λ (w : Worked). HasTables limits w.posts) h.leaves (put-tables limits posts memory queue target number Failed after at h sound.tables) in
+    let spared : (counted (failed_with posts queue target at)).events + owed (counted (failed_with posts queue target at)) ≤ limits.events =
+    (let same = ap (λ (p : Worked). p.posts.events + owed p.posts) h.leaves in omega arith) in
+    rw h.leaves (failed-sound limits posts queue target number at sound h.is h.whole (carried-unfailed at.entry.phase (both (is_carried at.entry) _ h.permitted).0) tables spared)
 
 -- the posts of all ranks, one of them replaced
 posts-sound : (limits : Limits) (table : List Posts) (rank : ℕ) (after : Posts) → IsSoundPosts limits after
@@ -384,7 +411,7 @@ steps s t (Put origin queue target number outcome) sound h =
     rw m.leaves (record {
       limits = sound.limits;
       ranks = length-set s.posts origin made.2.posts ∙ sound.ranks;
-      memories = length-set s.memories target made.2.memory ∙ sound.memories;
+      memories = length-set s.memories (put_rank origin target made.3.entry.kind) made.2.memory ∙ sound.memories;
       posts = posts-sound s.limits s.posts origin made.2.posts after sound.posts;
       coherent = subst IsCoherent m.leaves coherent;
     })
@@ -397,6 +424,11 @@ called-events limits me posts memory thread call reply after sound h =
     let keeps = after-keeps limits.ranks (is_idle reply) posts (posts_done limits me posts thread call) sound.lanes sound.rising sound.generations
     (done-keeps limits.ranks limits me posts thread call sound.lanes sound.rising sound.generations) in
     rw h.leaves (ap (λ (n : ℕ). n + 1) keeps.events)
+
+take-events : (limits : Limits) (posts : Posts) (memory : Memory) (queue target number : ℕ) (outcome : Outcome) (after : Posts) (at : Found)
+    → IsTake limits posts memory queue target number outcome after at → after.events ≡ posts.events + 1
+take-events limits posts memory queue target number Applied after at h = rw h.leaves refl
+take-events limits posts memory queue target number Failed after at h = rw h.leaves refl
 
 put-events : (posts : Posts) (memory : Memory) (queue target number : ℕ) (outcome : Outcome) (after : Worked) (at : Found)
     → IsPut posts memory queue target number outcome after at → after.posts.events ≡ posts.events + 1
@@ -424,7 +456,7 @@ counts s t (Take origin queue target number outcome) sound h =
     let m = made.4 in
     let before = sound.posts origin made.0 m.posts_there in
     let after = take-sound s.limits made.0 made.1 queue target number outcome made.2 made.3 before m.is in
-    let more : made.2.events ≡ made.0.events + 1 = rw m.is.leaves refl in
+    let more = take-events s.limits made.0 made.1 queue target number outcome made.2 made.3 m.is in
     rw m.leaves (left-set s.limits s.posts origin made.0 made.2 m.posts_there more (let room = after.room in omega arith))
 counts s t (Put origin queue target number outcome) sound h =
     let made = sound-put s t origin queue target number outcome sound h in

@@ -1,18 +1,19 @@
 -- How the tables of segments of a rank change: a number that is free gets a segment of its next generation, or a segment
 -- goes. What was known of the segments of the rank stays so, and the entries that go to it fit as before.
-use Rattle.std.proofs.Common.{◌≡◌, ℕ, ◌+◌, ◌<◌, ◌≤◌, true, List, length, Option, None, Some, refl, ap, ◌∙◌, arith, ◌⊎◌, inl, inr}
+use Rattle.std.proofs.Common.{◌≡◌, ℕ, ◌+◌, ◌<◌, ◌≤◌, Bool, true, false, ◌==◌, List, length, Option, None, Some, refl, sym, ap, ◌∙◌, subst, arith, ◌⊎◌, inl, inr}
 use Rattle.std.specs.List.{slice_get, slice_set}
-use Rattle.gaspi_types.specs.Lanes.{is_posted, is_posted_phase}
+use Rattle.std.proofs.lemmas.Bool.{eq-eqb, eqb-true}
+use Rattle.gaspi_types.specs.Lanes.{uses}
 use Rattle.gaspi_types.specs.SegmentBytes.{is_within}
 use Rattle.gaspi_types.specs.SegmentTables.{extent_in, next_generation, with_generation}
 use Rattle.gaspi_types.specs.declared.entries.Entry.{Entry}
 use Rattle.gaspi_types.specs.declared.segments.Extent.{Extent}
 use Rattle.gaspi_types.specs.declared.entries.ByteRange.{ByteRange}
 use Rattle.gaspi_types.specs.declared.entries.Kind.{Kind}
-use Rattle.gaspi_types.specs.declared.entries.Kind.TheVariants.{Write, Notify}
+use Rattle.gaspi_types.specs.declared.entries.Kind.TheVariants.{Write, Read, Notify, ReadNote}
 use Rattle.gaspi_types.specs.declared.entries.Phase.{Phase}
 use Rattle.gaspi_types.specs.declared.entries.Phase.TheVariants.{Posted, Carried, Failed}
-use Rattle.gaspi_model.specs.Coherence.{Tables, WasMade, AreMade, LiesIn, LiesInIfThere, HasSource, Fits, AllFit, Knows}
+use Rattle.gaspi_model.specs.Coherence.{Tables, WasMade, AreMade, LiesIn, LiesInIfThere, IsIn, HasOwn, HasTarget, FitsTarget, AllFit, Knows}
 use Rattle.gaspi_types.specs.declared.entries.Queue.{Queue}
 use Rattle.gaspi_types.proofs.Items.{slice_get-set_other}
 use Rattle.gaspi_types.proofs.Extents.{generation-grows, generation-set, extent-set}
@@ -68,41 +69,86 @@ lies-stays old new range h made lies x there same = go (h.own range.segment x th
     go (inl was) = lies x was same
     go (inr is) = absurd (let later = is.0 in let no : ⊥ = omega arith in no)
 
-source-stays : (old new : List (Option Extent)) (own : ByteRange) (phase : Phase) → (is_posted_phase phase ≡ true → LiesIn old own → LiesIn new own) → HasSource old own phase → HasSource new own phase
-source-stays old new own Posted stays source = stays refl source
-source-stays old new own (Carried bytes) stays source = source
-source-stays old new own Failed stays source = tt
+-- what an entry has to do with its target's segment stays
+target-stays : (old new : Tables) (own target : ByteRange) → Succeeds old new → HasTarget old own target → HasTarget new own target
+target-stays old new own target h f =
+    let more = h.next target.segment in
+    let made : WasMade new target.segment target.generation = (let was = f.2 in omega arith) in
+    (f.0, f.1, made, lies-stays old new target h f.2 f.3)
 
--- an entry fits still, where its source stays
-fits-stays : (notes : ℕ) (mine mine' theirs theirs' : Tables) (e : Entry) → Succeeds theirs theirs' → ((own range : ByteRange) → e.kind ≡ Write own range → is_posted e ≡ true → LiesIn mine.own own → LiesIn mine'.own own)
-    → Fits notes mine theirs e → Fits notes mine' theirs' e
-fits-stays notes mine mine' theirs theirs' e h source fits = go e.kind refl fits
-  where
-    go : (k : Kind) → e.kind ≡ k → Fits notes mine theirs (record { number = e.number; kind = k; phase = e.phase }) → Fits notes mine' theirs' e
-    go (Write own target) is f =
-        let more = h.next target.segment in
-        let made : WasMade theirs' target.segment target.generation = (let was = f.2 in omega arith) in
-        rw is (f.0, f.1, made, lies-stays theirs theirs' target h f.2 f.3, source-stays mine.own mine'.own own e.phase (source own target is) f.4)
-    go (Notify target value) is f =
-        let more = h.next target.segment in
-        let made : WasMade theirs' target.segment target.generation = (let was = f.1 in omega arith) in
-        rw is (f.0, made)
+fits-target-stays : (notes : ℕ) (old new : Tables) (kind : Kind) → Succeeds old new → FitsTarget notes old kind → FitsTarget notes new kind
+fits-target-stays notes old new (Write own target) h f = target-stays old new own target h f
+fits-target-stays notes old new (Read own target) h f = target-stays old new own target h f
+fits-target-stays notes old new (Notify target value) h f =
+    let more = h.next target.segment in
+    let made : WasMade new target.segment target.generation = (let was = f.1 in omega arith) in
+    (f.0, made)
+fits-target-stays notes old new (ReadNote own) h f = f
 
--- the sources of the posted writes of queues stay in a table
-abbrev pub SourcesStay : List (Option Extent) → List (Option Extent) → List Queue → Type 0
-SourcesStay old new queues =
+-- what the entries of queues have to do with their own segments stays in a table
+abbrev pub OwnsStay : List (Option Extent) → List (Option Extent) → List Queue → Type 0
+OwnsStay old new queues =
     (queue : ℕ) (q : Queue) → slice_get queues queue ≡ Some q → (target : ℕ) (lane : List Entry) → slice_get q.lanes target ≡ Some lane
-    → (place : ℕ) (e : Entry) → slice_get lane place ≡ Some e → (own range : ByteRange) → e.kind ≡ Write own range → is_posted e ≡ true → LiesIn old own → LiesIn new own
+    → (place : ℕ) (e : Entry) → slice_get lane place ≡ Some e → HasOwn old e.kind e.phase → HasOwn new e.kind e.phase
+
+-- An entry that does not use a segment has nothing to do with it.
+
+other-segment : (segment own : ℕ) → (own == segment) ≡ false → segment ≡ own → ⊥
+other-segment segment own apart same = let is = eq-eqb own segment (sym same) in let no : ⊥ = cc in no
+
+in-other : (table : List (Option Extent)) (segment : ℕ) (o : Option Extent) (own generation : ℕ) → (own == segment) ≡ false → IsIn table own generation → IsIn (slice_set table segment o) own generation
+in-other table segment o own generation apart is = record {
+  extent = is.extent;
+  there = extent-other table segment o own (other-segment segment own apart) ∙ is.there;
+  same = is.same;
+}
+
+pub own-other : (table : List (Option Extent)) (segment : ℕ) (o : Option Extent) (kind : Kind) (phase : Phase) → uses segment phase kind ≡ false
+    → HasOwn table kind phase → HasOwn (slice_set table segment o) kind phase
+own-other table segment o (Write own target) Posted unused lies = lies-other table segment o own (other-segment segment own.segment unused) lies
+own-other table segment o (Write own target) (Carried bytes) unused size = size
+own-other table segment o (Write own target) Failed unused none = tt
+own-other table segment o (Read own target) Posted unused lies = lies-other table segment o own (other-segment segment own.segment unused) lies
+own-other table segment o (Read own target) (Carried bytes) unused has = (lies-other table segment o own (other-segment segment own.segment unused) has.0, has.1)
+own-other table segment o (Read own target) Failed unused none = tt
+own-other table segment o (Notify target value) phase unused none = tt
+own-other table segment o (ReadNote own) Posted unused is = in-other table segment o own.segment own.generation unused is
+own-other table segment o (ReadNote own) (Carried bytes) unused is = in-other table segment o own.segment own.generation unused is
+own-other table segment o (ReadNote own) Failed unused none = tt
+
+-- no entry uses a segment that is not there
+is-there-used : (table : List (Option Extent)) (segment own : ℕ) (x : Extent) → extent_in table segment ≡ None → extent_in table own ≡ Some x → (own == segment) ≡ false
+is-there-used table segment own x free there = go (own == segment) refl
+  where
+    go : (b : Bool) → (own == segment) ≡ b → (own == segment) ≡ false
+    go false is = is
+    go true is =
+        absurd (let same = eqb-true own segment is in
+        let here : extent_in table segment ≡ Some x = subst (λ (k : ℕ). extent_in table k ≡ Some x) same there in
+        let never : ◌≡◌ {A = Option Extent} None (Some x) = sym free ∙ here in
+        let no : ⊥ = cc in no)
+
+pub free-unused : (table : List (Option Extent)) (segment : ℕ) (kind : Kind) (phase : Phase) → extent_in table segment ≡ None → HasOwn table kind phase → uses segment phase kind ≡ false
+free-unused table segment (Write own target) Posted free lies = is-there-used table segment own.segment lies.extent free lies.there
+free-unused table segment (Write own target) (Carried bytes) free size = refl
+free-unused table segment (Write own target) Failed free none = refl
+free-unused table segment (Read own target) Posted free lies = is-there-used table segment own.segment lies.extent free lies.there
+free-unused table segment (Read own target) (Carried bytes) free has = (let lies = has.0 in is-there-used table segment own.segment lies.extent free lies.there)
+free-unused table segment (Read own target) Failed free none = refl
+free-unused table segment (Notify target value) phase free none = refl
+free-unused table segment (ReadNote own) Posted free is = is-there-used table segment own.segment is.extent free is.there
+free-unused table segment (ReadNote own) (Carried bytes) free is = is-there-used table segment own.segment is.extent free is.there
+free-unused table segment (ReadNote own) Failed free none = refl
 
 -- all entries of an origin fit still
 pub all-fit-follows : (notes : ℕ) (old new : List Tables) (origin : ℕ) (queues : List Queue) → Follow old new
-    → ((mine mine' : Tables) → slice_get old origin ≡ Some mine → slice_get new origin ≡ Some mine' → SourcesStay mine.own mine'.own queues)
+    → ((mine mine' : Tables) → slice_get old origin ≡ Some mine → slice_get new origin ≡ Some mine' → OwnsStay mine.own mine'.own queues)
     → AllFit notes old origin queues → AllFit notes new origin queues
-all-fit-follows notes old new origin queues follow sources all queue q hq target lane hl place e he mine' theirs' hm ht =
+all-fit-follows notes old new origin queues follow owns all queue q hq target lane hl place e he mine' theirs' hm ht =
     let m = follow origin mine' hm in
     let f = follow target theirs' ht in
-    fits-stays notes m.0 mine' f.0 theirs' e f.2 (λ own range is posted lies. sources m.0 mine' m.1 hm queue q hq target lane hl place e he own range is posted lies)
-    (all queue q hq target lane hl place e he m.0 f.0 m.1 f.1)
+    let fits = all queue q hq target lane hl place e he m.0 f.0 m.1 f.1 in
+    (fits-target-stays notes f.0 theirs' e.kind f.2 fits.0, owns m.0 mine' m.1 hm queue q hq target lane hl place e he fits.1)
 
 -- The two changes.
 

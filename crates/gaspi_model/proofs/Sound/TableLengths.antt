@@ -8,7 +8,7 @@ use Rattle.gaspi_types.specs.CallRows.{row_of}
 use Rattle.gaspi_types.specs.SegmentTables.{extent_in}
 use Rattle.gaspi_types.specs.declared.call_rows.Posting.{Posting}
 use Rattle.gaspi_types.specs.declared.calls.Call.{Call}
-use Rattle.gaspi_types.specs.declared.calls.Call.TheVariants.{Alloc, Delete, Wait, End}
+use Rattle.gaspi_types.specs.declared.calls.Call.TheVariants.{Alloc, Delete, Wait, Purge, End}
 use Rattle.gaspi_types.specs.declared.entries.Entry.{Entry}
 use Rattle.gaspi_types.specs.declared.segments.Extent.{Extent}
 use Rattle.gaspi_types.specs.declared.entries.Kind.{Kind}
@@ -30,7 +30,7 @@ use Rattle.gaspi_model.specs.declared.states.Memory.{Memory}
 use Rattle.gaspi_model.proofs.Made.{IsTake, IsPut}
 use Rattle.gaspi_types.proofs.Items.{length-changed_at, there-within}
 use Rattle.gaspi_model.proofs.Sound.Told.{changed_at-get, told, told-cases}
-use Rattle.gaspi_model.proofs.FoundEntries.{with_lane}
+use Rattle.gaspi_model.proofs.FoundEntries.{with_lane, failed_with}
 
 -- the same tables with the queues, or with the known segments, replaced
 requeued-tables : (limits : Limits) (posts : Posts) (queues : List Queue) (next : ℕ) → length queues ≡ length posts.queues → HasTables limits posts → HasTables limits (record posts { queues = queues; next = next })
@@ -65,6 +65,7 @@ plain-tables limits posts thread (Delete call) has = record {
   threads = has.threads;
 }
 plain-tables limits posts thread (Wait call) has = requeued-tables limits posts _ posts.next (length-changed_at posts.queues call.queue _) has
+plain-tables limits posts thread (Purge call) has = requeued-tables limits posts _ posts.next (length-changed_at posts.queues call.queue _) has
 plain-tables limits posts thread End has = record {
   queues = has.queues;
   corrupt = has.corrupt;
@@ -103,21 +104,25 @@ lane-tables : (limits : Limits) (posts : Posts) (queue target : ℕ) (lane : Lis
 lane-tables limits posts queue target lane has =
     counted-tables limits _ (requeued-tables limits posts _ posts.next (length-changed_at posts.queues queue (λ (q : Queue). record q { lanes = slice_set q.lanes target lane })) has)
 
-pub take-tables : (limits : Limits) (posts : Posts) (memory : Memory) (queue target number : ℕ) (outcome : Outcome) (after : Posts) (at : Found)
-    → IsTake limits posts memory queue target number outcome after at → HasTables limits posts → HasTables limits after
-take-tables limits posts memory queue target number outcome after at h has = rw h.leaves (lane-tables limits posts queue target _ has)
-
-pub put-tables : (limits : Limits) (posts : Posts) (memory : Memory) (queue target number : ℕ) (outcome : Outcome) (after : Worked) (at : Found)
-    → IsPut posts memory queue target number outcome after at → HasTables limits posts → HasTables limits after.posts
-put-tables limits posts memory queue target number Applied after at h has = rw h.leaves (lane-tables limits posts queue target (remove at.lane at.place) has)
-put-tables limits posts memory queue target number Failed after at h has = rw h.leaves (record {
+failed-tables : (limits : Limits) (posts : Posts) (queue target : ℕ) (at : Found) → HasTables limits posts → HasTables limits (counted (failed_with posts queue target at))
+failed-tables limits posts queue target at has = record {
   queues = length-changed_at posts.queues queue _ ∙ has.queues;
   corrupt = length-set posts.corrupt target true ∙ has.corrupt;
   own = has.own;
   known = has.known;
   known_segments = has.known_segments;
   threads = has.threads;
-})
+}
+
+pub take-tables : (limits : Limits) (posts : Posts) (memory : Memory) (queue target number : ℕ) (outcome : Outcome) (after : Posts) (at : Found)
+    → IsTake limits posts memory queue target number outcome after at → HasTables limits posts → HasTables limits after
+take-tables limits posts memory queue target number Applied after at h has = rw h.leaves (lane-tables limits posts queue target _ has)
+take-tables limits posts memory queue target number Failed after at h has = rw h.leaves (failed-tables limits posts queue target at has)
+
+pub put-tables : (limits : Limits) (posts : Posts) (memory : Memory) (queue target number : ℕ) (outcome : Outcome) (after : Worked) (at : Found)
+    → IsPut posts memory queue target number outcome after at → HasTables limits posts → HasTables limits after.posts
+put-tables limits posts memory queue target number Applied after at h has = rw h.leaves (lane-tables limits posts queue target (remove at.lane at.place) has)
+put-tables limits posts memory queue target number Failed after at h has = rw h.leaves (failed-tables limits posts queue target at has)
 
 -- a segment told
 known-tables : (limits : Limits) (owner seg : ℕ) (extent : Option Extent) (posts : Posts) → HasTables limits posts → HasTables limits (with_known owner seg extent posts)

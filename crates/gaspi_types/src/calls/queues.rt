@@ -5,3 +5,15 @@
 pub struct Wait {
     pub queue: u64,
 }
+
+/// Drops the entries of a queue, and mends it. (GASPI: queue_purge)
+#[derive(Clone, Copy, Debug, PartialEq, Eq)]
+pub struct Purge {
+    pub queue: u64,
+}
+
+/// How many entries were posted to a queue since it was last closed. (GASPI: queue_size)
+#[derive(Clone, Copy, Debug, PartialEq, Eq)]
+pub struct Qsize {
+    pub queue: u64,
+}

@@ -1,9 +1,10 @@
 use Rattle.gaspi_model.proofs.Histories.{only-counted}
 use Rattle.gaspi_model.proofs.Changed.Puts.{put-done}
 use Rattle.gaspi_model.proofs.Changed.Written.{store-written, sum-written, sum-answered, swap-written, swap-answered, swap-kept}
-use Rattle.gaspi_model.proofs.Changed.Transfers.{put-failed, take-done}
+use Rattle.gaspi_model.proofs.Changed.Transfers.{put-failed, take-failed, take-done}
 use Rattle.gaspi_model.proofs.Changed.Registered.{registered}
 use Rattle.gaspi_model.proofs.Changed.OwnCalls.{load-read, slot-read, slot-reset, waited, segment-made, segment-gone}
+use Rattle.gaspi_model.proofs.Changed.QueueCalls.{purge-done, sized, state-answered}
 use Rattle.gaspi_model.proofs.laws.changes.Goals as goal
 
 pub returns-clause-load : goal.returns-clause-load
@@ -39,11 +40,23 @@ returns-clause-failed c = put-failed
 pub returns-clause-taken : goal.returns-clause-taken
 returns-clause-taken c = take-done
 
+pub returns-clause-take_failed : goal.returns-clause-take_failed
+returns-clause-take_failed c = take-failed
+
 pub returns-clause-registered : goal.returns-clause-registered
 returns-clause-registered c = registered
 
 pub returns-clause-waited : goal.returns-clause-waited
 returns-clause-waited c = waited
+
+pub returns-clause-purged : goal.returns-clause-purged
+returns-clause-purged c = purge-done
+
+pub returns-clause-queue_size : goal.returns-clause-queue_size
+returns-clause-queue_size c = sized
+
+pub returns-clause-state : goal.returns-clause-state
+returns-clause-state c = state-answered
 
 pub returns-clause-made : goal.returns-clause-made
 returns-clause-made c = segment-made

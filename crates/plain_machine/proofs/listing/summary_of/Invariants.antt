@@ -1,5 +1,5 @@
 use Rattle.std.proofs.Common.{◌≡◌, ◌≤◌, ℕ, take}
-use Rattle.gaspi_types.specs.Lanes.{carried_count, has_earlier_write}
+use Rattle.gaspi_types.specs.Lanes.{carried_count, has_earlier_write, has_earlier_read}
 use Rattle.plain_machine.specs.Standing.{is_over}
 use Rattle.plain_machine.proofs.listing.summary_of.Given as goal
 
@@ -8,3 +8,4 @@ invariant-loop-entry l =
     (l.carried ≤ l.entry-index)
     × (l.carried ≡ carried_count (take l.entry-index l.entries))
     × ((n : ℕ) → has_earlier_write (take l.entry-index l.entries) n ≡ is_over l.first_write n)
+    × ((n : ℕ) → has_earlier_read (take l.entry-index l.entries) n ≡ is_over l.first_read n)

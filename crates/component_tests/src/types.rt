@@ -1,4 +1,6 @@
-use super::*;
+//! Lists, shapes and events of the types, and the texts of a shape's faults.
+
+use gaspi_types::{Event, Outcome, QueueId, RankId, Rows, Shape, ShapeFault};
 use std::alloc::Global;
 use std::test::Fail;
 

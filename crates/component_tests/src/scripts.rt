@@ -1,7 +1,10 @@
-use crate::{
+//! World texts, runs of their scripts, and where a journal begins.
+
+use crate::one_rank::caller;
+use gaspi_types::{Call, Reply, Reset, Shape, Timeout, Wait};
+use rank_script::{
     Cursor, Halted, RunOutcome, ScriptFault, Scripts, read_input, read_world, split_input,
 };
-use gaspi_types::{Call, CallerId, RankId, Reply, Reset, Shape, ThreadId, Timeout, Wait};
 use std::alloc::Global;
 use std::process::Abort;
 use std::test::Fail;
@@ -16,11 +19,7 @@ fn read(alloc: Global, text: &[u8]) -> Result<(Shape, Scripts), ScriptFault> {
 
 /// The script of the first caller, as a cursor before its first line.
 fn first_thread<'a>(rt: &impl Abort, scripts: &'a Scripts) -> Cursor<'a> {
-    let caller = CallerId {
-        rank: RankId::of(0),
-        thread: ThreadId::of(0),
-    };
-    Cursor::new(scripts.of(caller).expect(rt, "a script"))
+    Cursor::new(scripts.of(caller()).expect(rt, "a script"))
 }
 
 /// Asserts the present call of a run with its line, and goes on after a reply.

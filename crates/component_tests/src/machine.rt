@@ -1,45 +1,19 @@
-ghost use Rattle.std.specs.Prelude.{◌≡◌};
+//! The machine in memory, call by call.
 
-use crate::Machine;
-use gaspi_types::{
-    Call, CallerId, Event, Notify, Outcome, QueueId, RankId, Ready, Reply, Reset, Shape, ThreadId,
-    Transfer,
-};
+use crate::one_rank::{caller, notified, notify, put, shape, taken};
+use gaspi_types::{Call, Event, QueueId, RankId, Ready, Reply, Reset, Transfer};
+use plain_machine::Machine;
 use std::alloc::Global;
 use std::process::Abort;
 use std::test::Fail;
 
-/// The machine of one rank with a segment of 16 bytes and one thread.
-fn one_rank(alloc: Global) -> Result<Machine, Fail> {
-    let mut shape = Shape::new(alloc, 1, 1, 4, 8, 4, 1000)?;
-    shape.add_segment(0, 0, 16)?;
-    shape.add_caller(0, 0)?;
+/// The machine at its start.
+fn start(alloc: Global) -> Result<Machine, Fail> {
+    let shape = shape(alloc)?;
     Ok(Machine::start(alloc, &shape)?)
 }
 
-/// Its only caller.
-fn caller() -> CallerId
-    ensures rank { result.rank ≡ 0 }
-    ensures thread { result.thread ≡ 0 }
-{
-    CallerId {
-        rank: RankId::of(0),
-        thread: ThreadId::of(0),
-    }
-}
-
-/// A notification of the rank to itself, on slot 3.
-fn notify() -> Call {
-    Call::Notify(Notify {
-        rseg: 0,
-        rank: 0,
-        note: 3,
-        value: 7,
-        queue: 0,
-    })
-}
-
-/// Its transfer: the take, or the put.
+/// The transfer of its notification: the take, or the put.
 fn transfer(put: bool) -> Transfer {
     Transfer {
         origin: RankId::of(0),
@@ -91,17 +65,12 @@ fn is_notified(rt: &impl Abort, alloc: Global, machine: &Machine) -> Result<(), 
 #[test]
 fn a_notification_is_posted_taken_and_put_by_events(rt: HostRuntime) -> Result<(), Fail> {
     let alloc = rt.alloc();
-    let rank = RankId::of(0);
-    let queue = QueueId::of(0);
-    let mut machine = one_rank(alloc)?;
+    let mut machine = start(alloc)?;
     has_room(&rt, &machine, 999);
-    let posted = Event::Called(caller(), notify(), Reply::Done);
-    steps(&rt, alloc, &mut machine, &posted);
+    steps(&rt, alloc, &mut machine, &notified());
     has_room(&rt, &machine, 996);
-    let taken = Event::Take(rank, queue, rank, 0, Outcome::Applied);
-    steps(&rt, alloc, &mut machine, &taken);
-    let put = Event::Put(rank, queue, rank, 0, Outcome::Applied);
-    steps(&rt, alloc, &mut machine, &put);
+    steps(&rt, alloc, &mut machine, &taken());
+    steps(&rt, alloc, &mut machine, &put());
     has_room(&rt, &machine, 996);
     is_notified(&rt, alloc, &machine)
 }
@@ -109,9 +78,8 @@ fn a_notification_is_posted_taken_and_put_by_events(rt: HostRuntime) -> Result<(
 #[test]
 fn transfers_are_listed_and_made(rt: HostRuntime) -> Result<(), Fail> {
     let alloc = rt.alloc();
-    let mut machine = one_rank(alloc)?;
-    let posted = Event::Called(caller(), notify(), Reply::Done);
-    steps(&rt, alloc, &mut machine, &posted);
+    let mut machine = start(alloc)?;
+    steps(&rt, alloc, &mut machine, &notified());
     lists(&rt, alloc, &machine, false)?;
     makes(&rt, alloc, &mut machine, &transfer(false));
     lists(&rt, alloc, &machine, true)?;

@@ -1,39 +1,13 @@
-use crate::{
+//! Journals: made of events, as a text, and their verdict.
+
+use crate::one_rank::{notified, shape, taken};
+use call_journal::{
     Journal, JournalFault, ReservedJournal, Verdict, check, journals_differ_in_text, read, write,
 };
-use gaspi_types::{
-    Bytes, Call, CallerId, Event, Notify, Outcome, QueueId, RankId, Reply, Shape, ThreadId,
-};
+use gaspi_types::Bytes;
 use std::alloc::Global;
 use std::process::Abort;
 use std::test::Fail;
-
-/// Thread 0 of rank 0 posts a notification to its own rank.
-fn notified() -> Event {
-    let caller = CallerId {
-        rank: RankId::of(0),
-        thread: ThreadId::of(0),
-    };
-    let call = Call::Notify(Notify {
-        rseg: 0,
-        rank: 0,
-        note: 3,
-        value: 7,
-        queue: 0,
-    });
-    Event::Called(caller, call, Reply::Done)
-}
-
-/// Its take.
-fn taken() -> Event {
-    Event::Take(
-        RankId::of(0),
-        QueueId::of(0),
-        RankId::of(0),
-        0,
-        Outcome::Applied,
-    )
-}
 
 /// Asserts the text of a journal, and that it reads back.
 fn assert_text(
@@ -50,12 +24,9 @@ fn assert_text(
     Ok(())
 }
 
-/// Asserts that a journal is legal in a world of one rank with a segment of 16 bytes and one thread.
+/// Asserts that a journal of the one rank is legal.
 fn assert_legal(rt: &impl Abort, alloc: Global, journal: &Journal) -> Result<(), Fail> {
-    let mut shape = Shape::new(alloc, 1, 1, 4, 8, 4, 1000)?;
-    shape.add_segment(0, 0, 16)?;
-    shape.add_caller(0, 0)?;
-    let verdict = check(alloc, &shape, journal)?;
+    let verdict = check(alloc, &shape(alloc)?, journal)?;
     assert!(rt; verdict == Verdict::Legal);
     Ok(())
 }
