@@ -1,0 +1,4 @@
+pub mod Counts
+pub mod Queues
+pub mod Rings
+pub mod Rising

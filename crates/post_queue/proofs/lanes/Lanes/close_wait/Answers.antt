@@ -1,0 +1,6 @@
+use Rattle.post_queue.specs.Steps.{closed_queue}
+use Rattle.post_queue.proofs.Queues.{queues-changed}
+use Rattle.post_queue.proofs.lanes.Lanes.close_wait.Goals as goal
+
+pub returns : goal.returns
+returns c = queues-changed _ _ _ c.self.inside.queues c.args.queue c.at_mut.result.now c.close_wait.new.self c.args.self.now closed_queue c.at_mut.ensures.value c.close_wait.ensures c.self.view_is

@@ -1,0 +1,6 @@
+use Rattle.post_queue.specs.Steps.{posted_failed_in}
+use Rattle.post_queue.proofs.Queues.{queues-changed}
+use Rattle.post_queue.proofs.lanes.Lanes.fail_posted.Goals as goal
+
+pub returns : goal.returns
+returns c = queues-changed _ _ _ c.self.inside.queues c.args.queue c.at_mut.result.now c.fail_posted.new.self c.args.self.now (posted_failed_in c.args.target) c.at_mut.ensures.value c.fail_posted.ensures c.self.view_is

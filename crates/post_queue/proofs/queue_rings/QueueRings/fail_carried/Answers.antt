@@ -1,0 +1,38 @@
+use Rattle.std.proofs.Common.{◌≡◌, List, Some, refl, ◌∙◌, ap}
+use Rattle.gaspi_types.specs.declared.entries.Entry.{Entry}
+use Rattle.gaspi_types.specs.declared.entries.Phase.TheVariants.{Failed}
+use Rattle.post_queue.specs.LaneStates.{LaneState}
+use Rattle.post_queue.specs.Places.{first_carried, with_phase}
+use Rattle.post_queue.specs.QueueStates.{QueueState, state_of}
+use Rattle.post_queue.specs.Steps.{head_failed_in}
+use Rattle.post_queue.specs.declared.kinds.Progress.TheVariants as progress
+use Rattle.post_queue.proofs.Queues.{putting, some-of, at-if, carried-progress, state-changed, whole-at, small-tally, phase-step}
+use Rattle.post_queue.proofs.queue_rings.QueueRings.fail_carried.Goals as goal
+
+pub fail_carried-kind-requires-clause-whole : goal.fail_carried-kind-requires-clause-whole
+fail_carried-kind-requires-clause-whole c =
+    let at = putting _ _ _ c.self.inside.lanes c.index.result c.args.target c.at_mut.result.now c.args.self.now c.index.ensures.value c.at_mut.ensures.value c.self.view_is c.requires in
+    whole-at c.self.inside.lanes c.index.result c.at_mut.result.now c.self.invariant at.0 c.at_mut.ensures.value
+
+pub fail_carried-kind-requires-clause-there : goal.fail_carried-kind-requires-clause-there
+fail_carried-kind-requires-clause-there c =
+    let at = putting _ _ _ c.self.inside.lanes c.index.result c.args.target c.at_mut.result.now c.args.self.now c.index.ensures.value c.at_mut.ensures.value c.self.view_is c.requires in
+    at.1
+
+pub raise-requires : goal.raise-requires
+raise-requires c = small-tally c.self.invariant
+
+pub invariant_of-self : goal.invariant_of-self
+invariant_of-self c =
+    let at = putting _ _ _ c.self.inside.lanes c.index.result c.args.target c.at_mut.result.now c.args.self.now c.index.ensures.value c.at_mut.ensures.value c.self.view_is c.requires in
+    let first = some-of (first_carried c.at_mut.result.now.entries) at.1 in
+    phase-step c.self.inside.lanes (Some c.args.target) c.index.result c.at_mut.result.now c.fail_carried-kind.new.self 0 first.0 Failed c.fail_carried-kind.result progress.Carried c.raise.new.self c.lower.new.self
+    c.self.invariant c.at_mut.ensures.value (c.fail_carried-kind.ensures.head ∙ first.1) (carried-progress c.at_mut.result.now.entries first.0 first.1)
+    (at-if (λ (e : Entry). c.fail_carried-kind.result ≡ e.kind) _ first.0 first.1 c.fail_carried-kind.ensures.kind)
+    c.fail_carried-kind.ensures.lane c.fail_carried-kind.ensures.bound c.raise.ensures c.lower.ensures refl (λ unbroken. absurd (let no : ⊥ = cc in no))
+
+pub returns : goal.returns
+returns c =
+    state-changed _ _ (Some c.args.target) c.self.inside.lanes c.index.result c.args.target c.at_mut.result.now c.fail_carried-kind.new.self (λ (lane : List Entry). with_phase lane 0 Failed)
+    c.index.ensures.value c.at_mut.ensures.value (ap (λ (l : LaneState). l.entries) c.fail_carried-kind.ensures.lane)
+    ∙ ap (λ (s : QueueState). state_of s.depth (head_failed_in c.args.target s.queue)) c.self.view_is

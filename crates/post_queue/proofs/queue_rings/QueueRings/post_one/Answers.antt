@@ -1,0 +1,38 @@
+use Rattle.std.proofs.Common.{◌++◌, ◌∷◌, [], List, ◌∙◌, ap, arith}
+use Rattle.gaspi_types.specs.Lanes.{posted_entries}
+use Rattle.gaspi_types.specs.Queues.{with_entries}
+use Rattle.gaspi_types.specs.declared.entries.Entry.{Entry}
+use Rattle.gaspi_types.specs.declared.entries.Phase.TheVariants.{Posted}
+use Rattle.gaspi_types.specs.declared.entries.Kind.{Kind}
+use Rattle.post_queue.specs.LaneStates.{LaneState}
+use Rattle.post_queue.specs.QueueStates.{QueueState, state_of}
+use Rattle.post_queue.specs.Tallies.{raised}
+use Rattle.post_queue.specs.declared.kinds.Progress.TheVariants as progress
+use Rattle.post_queue.proofs.Queues.{state-changed, room-at, posted-at, small-tally, post-step}
+use Rattle.post_queue.proofs.queue_rings.QueueRings.post_one.Goals as goal
+
+pub raise-requires : goal.raise-requires
+raise-requires c = small-tally c.self.invariant
+
+pub post-requires : goal.post-requires
+post-requires c =
+    let deep = room-at c.self.inside.lanes c.index.result c.at_mut.result.now c.self.invariant c.at_mut.ensures.value in
+    let posted = posted-at c.self.inside.lanes c.index.result c.at_mut.result.now c.self.invariant c.at_mut.ensures.value in
+    let depth = ap (λ (s : QueueState). s.depth) c.self.view_is in
+    let opens = ap (λ (s : QueueState). s.queue.open_count) c.self.view_is in
+    let room = c.requires.room in
+    omega arith
+
+pub invariant_of-self : goal.invariant_of-self
+invariant_of-self c =
+    let depth = ap (λ (s : QueueState). s.depth) c.self.view_is in
+    let opens = ap (λ (s : QueueState). s.queue.open_count) c.self.view_is in
+    let room = c.requires.room in
+    post-step c.self.inside.lanes c.index.result c.at_mut.result.now c.post.new.self c.args.number c.args.draft c.raise.new.self
+    c.self.invariant c.at_mut.ensures.value (omega arith) c.post.ensures.lane c.post.ensures.bound (c.raise.ensures ∙ ap (λ (k : Kind). raised c.self.inside.tally k progress.Posted) c.kind.ensures)
+
+pub returns : goal.returns
+returns c =
+    state-changed _ _ c.self.inside.broken c.self.inside.lanes c.index.result c.args.target c.at_mut.result.now c.post.new.self (λ (lane : List Entry). lane ++ record { number = c.args.number; kind = c.args.draft; phase = Posted } ∷ [])
+    c.index.ensures.value c.at_mut.ensures.value (ap (λ (l : LaneState). l.entries) c.post.ensures.lane)
+    ∙ ap (λ (s : QueueState). state_of s.depth (with_entries c.args.target (posted_entries c.args.number (c.args.draft ∷ [])) s.queue)) c.self.view_is

@@ -1,0 +1,93 @@
+-- The queues of one origin: what may come next, what calls are refused for, and what they leave.
+-- (GASPI: one-sided communication)
+use Rattle.std.specs.Prelude.{◌≡◌, ℕ, Bool, ◌+◌, ◌≤◌, List, [], length, replicate, slice_get, Option, None, option_and_then, Result, Ok}
+use Rattle.std.specs.List.{All}
+use Rattle.gaspi_types.specs.Checks.{◌>>=◌, found}
+use Rattle.gaspi_types.specs.Lanes.{posted_entries}
+use Rattle.gaspi_types.specs.Queues.{with_entries}
+use Rattle.gaspi_types.specs.Tables.{changed_at}
+use Rattle.gaspi_types.specs.declared.entries.Entry.{Entry}
+use Rattle.gaspi_types.specs.declared.entries.Kind.{Kind}
+use Rattle.gaspi_types.specs.declared.entries.Queue.{Queue}
+use Rattle.gaspi_types.specs.declared.replies.Refusal.{Refusal}
+use Rattle.gaspi_types.specs.declared.replies.Refusal.TheVariants.{BadQueue}
+use Rattle.post_queue.specs.QueueStates.{QueueState}
+use Rattle.post_queue.specs.Steps.{take_in, put_in, head_in, room_checks, wait_in}
+
+-- the queues, how deep each is, to how many ranks each has a lane, and the number of the next entry
+pub record LanesState : Type 0 where
+  pub depth : ℕ
+  pub ranks : ℕ
+  pub next : ℕ
+  pub queues : List Queue
+
+-- a queue to which nothing was posted
+abbrev pub empty_queue : ℕ → Queue
+empty_queue ranks = record { open_count = 0; broken = None; lanes = replicate ranks [] }
+
+abbrev pub empty_queues : ℕ → ℕ → ℕ → LanesState
+empty_queues queues ranks depth = record { depth = depth; ranks = ranks; next = 0; queues = replicate queues (empty_queue ranks) }
+
+-- What may come next in a lane, first in first out. Where there is no such queue or lane, nothing.
+
+-- the entry that may take its bytes
+abbrev pub next_take : LanesState → ℕ → ℕ → Option Entry
+next_take s queue target = option_and_then (take_in s.depth target) (slice_get s.queues queue)
+
+-- the entry that may be put
+abbrev pub next_put : LanesState → ℕ → ℕ → Option Entry
+next_put s queue target = option_and_then (put_in target) (slice_get s.queues queue)
+
+-- the first entry of a lane, whatever its phase
+abbrev pub head_of : LanesState → ℕ → ℕ → Option Entry
+head_of s queue target = option_and_then (head_in target) (slice_get s.queues queue)
+
+-- What a call is refused for.
+
+abbrev pub post_checks : LanesState → ℕ → ℕ → Result (Unit {0}) Refusal
+post_checks s queue need = do
+  q ← found (slice_get s.queues queue) BadQueue
+  room_checks s.depth need q
+
+-- (wait)
+abbrev pub wait_checks : List Queue → ℕ → Result Bool Refusal
+wait_checks queues queue = do
+  q ← found (slice_get queues queue) BadQueue
+  wait_in q
+
+-- (queue_purge)
+abbrev pub purge_checks : List Queue → ℕ → Result (Unit {0}) Refusal
+purge_checks queues queue = do
+  q ← found (slice_get queues queue) BadQueue
+  Ok tt
+
+-- (queue_size)
+abbrev pub open_count_of : List Queue → ℕ → Result ℕ Refusal
+open_count_of queues queue = do
+  q ← found (slice_get queues queue) BadQueue
+  Ok q.open_count
+
+-- What a call leaves.
+
+-- one queue changed
+abbrev pub with_queue : LanesState → ℕ → (Queue → Queue) → LanesState
+with_queue s queue change = record s { queues = changed_at s.queues queue change }
+
+-- entries at the end of a lane, numbered on from the next number
+abbrev pub with_posted : LanesState → ℕ → ℕ → List Kind → LanesState
+with_posted s queue target kinds = record s {
+  next = s.next + length kinds;
+  queues = changed_at s.queues queue (with_entries target (posted_entries s.next kinds));
+}
+
+-- Queues that stand with their depths.
+
+abbrev pub queue_in : QueueState → Queue
+queue_in q = q.queue
+
+-- each queue is as deep as that, and has a lane to each rank
+pub record IsLanes (depth ranks : ℕ) (queues : List QueueState) : Type 0 where
+  pub deep : depth ≤ 256
+  pub few : length queues ≤ 8
+  pub depths : All (λ (q : QueueState). q.depth ≡ depth) queues
+  pub lanes : All (λ (q : QueueState). length q.queue.lanes ≡ ranks) queues

@@ -1,0 +1,47 @@
+-- A queue with its depth, and what its counts keep. (GASPI: one-sided communication)
+use Rattle.std.specs.Prelude.{◌≡◌, ℕ, zero, suc, ◌≤◌, List, [], ◌∷◌, length, map, Option, None}
+use Rattle.std.specs.List.{All}
+use Rattle.gaspi_types.specs.Lanes.{is_posted, is_failed}
+use Rattle.gaspi_types.specs.declared.entries.Entry.{Entry}
+use Rattle.gaspi_types.specs.declared.entries.Queue.{Queue}
+use Rattle.post_queue.specs.LaneStates.{LaneState}
+use Rattle.post_queue.specs.Tallies.{IsTally, counted, total}
+use Rattle.post_queue.specs.declared.tallies.Tally.{Tally}
+
+pub record QueueState : Type 0 where
+  pub depth : ℕ
+  pub queue : Queue
+
+abbrev pub entries_of : LaneState → List Entry
+entries_of lane = lane.entries
+
+-- the queue of lanes that have room
+abbrev pub queue_of : ℕ → Option ℕ → List LaneState → Queue
+queue_of open_count broken lanes = record { open_count = open_count; broken = broken; lanes = map entries_of lanes }
+
+abbrev pub state_of : ℕ → Queue → QueueState
+state_of depth q = record { depth = depth; queue = q }
+
+-- Its posted entries are within its open count, only a broken queue has a failed entry, and the tally is that of its lanes.
+pub record IsCounted (depth : ℕ) (q : Queue) (t : Tally) : Type 0 where
+  pub deep : depth ≤ 256
+  pub few : length q.lanes ≤ 16
+  pub short : All (λ (lane : List Entry). length lane ≤ 512) q.lanes
+  pub posted : total (counted is_posted) q.lanes ≤ q.open_count
+  pub within : q.open_count ≤ depth
+  pub whole : q.broken ≡ None → total (counted is_failed) q.lanes ≡ 0
+  pub tally : IsTally t (λ (f : Entry → ℕ). total f q.lanes)
+
+-- each lane has the room that its queue needs
+pub record IsQueue (depth open_count : ℕ) (broken : Option ℕ) (lanes : List LaneState) (t : Tally) : Type 0 where
+  pub rooms : All (λ (lane : LaneState). lane.depth ≡ depth) lanes
+  pub counts : IsCounted depth (queue_of open_count broken lanes) t
+
+-- a lane whose entries are gone, and so many of a list
+abbrev pub cleared : LaneState → LaneState
+cleared lane = record { depth = lane.depth; entries = [] }
+
+abbrev pub cleared_front : ℕ → List LaneState → List LaneState
+cleared_front zero lanes = lanes
+cleared_front (suc n) [] = []
+cleared_front (suc n) (x ∷ lanes) = cleared x ∷ cleared_front n lanes

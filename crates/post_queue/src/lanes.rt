@@ -1,0 +1,237 @@
+//! The queues of one origin. (GASPI: one-sided communication)
+
+ghost use Rattle.std.specs.Prelude.{◌≡◌, ◌+◌, ◌<◌, ◌≤◌, ◌^◌, true, length, map, replicate, slice_get, sum_by, position, None, Some, Ok, option_copied, IfOk, IfSome, OnOk, OnErr, IsSome, IsSomeAnd};
+ghost use Rattle.std.specs.List.{list_any};
+ghost use Rattle.gaspi_types.specs.Lanes.{has_user};
+ghost use Rattle.gaspi_types.specs.Queues.{queue_owed, user_of};
+ghost use Rattle.gaspi_types.specs.declared.entries.Entry.{Entry};
+ghost use Rattle.post_drafts.specs.Payloads.{payload_size};
+ghost use Rattle.post_queue.specs.QueueStates.{QueueState, state_of};
+ghost use Rattle.post_queue.specs.Steps.{taken_in, removed_in, posted_failed_in, head_failed_in, closed_queue, purged_queue};
+ghost use Rattle.post_queue.specs.LanesStates.{empty_queue, empty_queues, next_take, next_put, head_of, post_checks, wait_checks, purge_checks, open_count_of, with_queue, with_posted};
+
+use crate::entries::PostedEntry;
+use crate::queue_rings::QueueRings;
+use gaspi_types::{Entry, NoMemory, RankId, Refusal, Rows};
+use post_drafts::Draft;
+use std::alloc::Global;
+use std::marker::Model;
+
+/// So many empty queues.
+fn empty_rings(
+    alloc: Global,
+    queues: u32,
+    ranks: u32,
+    depth: u32,
+) -> Result<Rows<QueueRings>, NoMemory>
+    requires ranks { ranks ≤ 16 }
+    requires depth { depth ≤ 256 }
+    ensures { IfOk result (λ rings. rings ≡ replicate queues (state_of depth (empty_queue ranks))) }
+{
+    let mut rings = Rows::with_room(alloc, queues as usize)?;
+    for _queue in 0..queues {
+        rings.push(QueueRings::new(alloc, ranks as usize, depth)?)?;
+    }
+    Ok(rings)
+}
+
+/// The place of the first queue with an entry that uses an own segment.
+fn user_place(queues: &[QueueRings], segment: u64) -> Option<usize>
+    requires { segment < 32 }
+    ensures place { result ≡ position (λ (q : QueueState). list_any (has_user segment) q.queue.lanes) queues.now }
+    ensures bound { IfSome result (λ place. place < length queues.now) }
+{
+    queues.iter().position(|q| q.has_user(segment))
+}
+
+/// The queues of one origin. Contracts see the machine's queues, with how deep each is, to how many ranks each has a lane,
+/// and the number of the next entry.
+///
+/// Numbers of queues and segments are those that a caller wrote, so any number may come. A target is a rank of the world.
+/// In a lane entries take their bytes and are put in the order in which they were posted.
+#[derive(Drop)]
+pub struct Lanes {
+    depth: u32,
+    ranks: u32,
+    next: u32,
+    queues: Rows<QueueRings>,
+}
+
+impl Model for Lanes {
+    ghost use Rattle.std.specs.Prelude.{map};
+    ghost use Rattle.post_queue.specs.LanesStates.{LanesState, queue_in, IsLanes};
+
+    ghost Value = { LanesState };
+
+    ghost view = { λ s. record { depth = s.depth; ranks = s.ranks; next = s.next; queues = map queue_in s.queues } };
+
+    ghost invariant = { λ s. IsLanes s.depth s.ranks s.queues };
+}
+
+impl Lanes {
+    /// So many empty queues, each with a lane to each rank and of that depth. All memory for their entries is taken here,
+    /// but for that of the entries' bytes, which a draft brings. (GASPI: queue_create)
+    pub fn new(alloc: Global, queues: u32, ranks: u32, depth: u32) -> Result<Lanes, NoMemory>
+        requires queues { queues ≤ 8 }
+        requires ranks { ranks ≤ 16 }
+        requires depth { depth ≤ 256 }
+        ensures { IfOk result (λ s. s ≡ empty_queues queues ranks depth) }
+    {
+        Ok(Lanes {
+            depth,
+            ranks,
+            next: 0,
+            queues: empty_rings(alloc, queues, ranks, depth)?,
+        })
+    }
+
+    /// To how many ranks each queue has a lane.
+    pub fn ranks(&self) -> u32
+        ensures { result ≡ self.now.ranks }
+    {
+        self.ranks
+    }
+
+    /// The number of the next entry.
+    pub fn next_number(&self) -> u32
+        ensures { result ≡ self.now.next }
+    {
+        self.next
+    }
+
+    /// Posts entries to the end of a lane, numbered on from the next number. `BadQueue` where there is no such queue,
+    /// `QueueBroken` where it is broken, `QueueFull` where its open count and the entries are over its depth. It takes no
+    /// memory. (GASPI: write, read, notify)
+    pub fn post(&mut self, queue: u64, target: RankId, entries: Rows<Draft>) -> Result<(), Refusal>
+        requires target { target < self.old.ranks }
+        requires numbers { self.old.next + length entries < 2 ^ 32 }
+        ensures answer { result ≡ post_checks self.old queue (length entries) }
+        ensures ok { OnOk result (self.new ≡ with_posted self.old queue target entries) }
+        ensures err { OnErr result (self.new ≡ self.old) }
+    {
+        let need = entries.len() as u32;
+        let place = queue as usize;
+        let rings = self.queues.get(place).ok_or(Refusal::BadQueue)?;
+        rings.check_room(need)?;
+        self.queues.at_mut(place).post(target, self.next, entries);
+        self.next += need;
+        Ok(())
+    }
+
+    /// The entry of a lane that may take its bytes next, with its number and kind: the first posted one. None exactly where
+    /// there is no such queue or lane, the queue is broken, no entry of the lane is posted, or as many are carried as the
+    /// queue is deep.
+    pub fn front_posted(&self, queue: u64, target: RankId) -> Option<&PostedEntry>
+        ensures { option_copied result ≡ next_take self.now queue target }
+    {
+        let rings = self.queues.get(queue as usize)?;
+        rings.front_posted(target)
+    }
+
+    /// The entry of a lane that may be put next: the first carried one, which is the head of the lane. None exactly where
+    /// there is no such queue or lane, the queue is broken, or no entry of the lane is carried.
+    pub fn front_carried(&self, queue: u64, target: RankId) -> Option<&Entry>
+        ensures answer { option_copied result ≡ next_put self.now queue target }
+        ensures head { IfSome result (λ e. head_of self.now queue target ≡ Some e.now) }
+    {
+        let rings = self.queues.get(queue as usize)?;
+        rings.front_carried(target)
+    }
+
+    /// The entry of `front_posted` takes its bytes, and stays in its place. It takes no memory.
+    pub fn mark_carried(&mut self, queue: u64, target: RankId, bytes: &[u8])
+        requires { IsSomeAnd (next_take self.old queue target) (λ (e : Entry). length bytes.now ≡ payload_size e.kind) }
+        ensures { self.new ≡ with_queue self.old queue (taken_in target bytes.now) }
+    {
+        self.queues
+            .at_mut(queue as usize)
+            .mark_carried(target, bytes);
+    }
+
+    /// The entry of `front_carried` goes.
+    pub fn remove(&mut self, queue: u64, target: RankId)
+        requires { IsSome (next_put self.old queue target) }
+        ensures { self.new ≡ with_queue self.old queue (removed_in target) }
+    {
+        self.queues.at_mut(queue as usize).remove(target);
+    }
+
+    /// The entry of `front_posted` fails in its place, and the queue is broken with its target. (GASPI: state vector)
+    pub fn fail_posted(&mut self, queue: u64, target: RankId)
+        requires { IsSome (next_take self.old queue target) }
+        ensures { self.new ≡ with_queue self.old queue (posted_failed_in target) }
+    {
+        self.queues.at_mut(queue as usize).fail_posted(target);
+    }
+
+    /// The entry of `front_carried` fails in its place, and the queue is broken with its target. (GASPI: state vector)
+    pub fn fail_carried(&mut self, queue: u64, target: RankId)
+        requires { IsSome (next_put self.old queue target) }
+        ensures { self.new ≡ with_queue self.old queue (head_failed_in target) }
+    {
+        self.queues.at_mut(queue as usize).fail_carried(target);
+    }
+
+    /// The least queue with an entry that uses an own segment. None for a number over 31. (GASPI: segments)
+    pub fn uses(&self, segment: u64) -> Option<u32>
+        ensures user { segment < 32 → result ≡ user_of self.now.queues segment }
+        ensures none { 32 ≤ segment → result ≡ None }
+    {
+        if segment >= 32 {
+            return None;
+        }
+        user_place(self.queues.as_slice(), segment).map(|place| place as u32)
+    }
+
+    /// Whether no entry of a queue has still to be waited for. `BadQueue` where there is no such queue, `QueueBroken` where
+    /// it is broken. (GASPI: wait)
+    pub fn wait_ready(&self, queue: u64) -> Result<bool, Refusal>
+        ensures { result ≡ wait_checks self.now.queues queue }
+    {
+        let rings = self.queues.get(queue as usize).ok_or(Refusal::BadQueue)?;
+        rings.wait_ready()
+    }
+
+    /// The open count of a queue that is ready returns to 0. (GASPI: wait)
+    pub fn close_wait(&mut self, queue: u64)
+        requires { wait_checks self.old.queues queue ≡ Ok true }
+        ensures { self.new ≡ with_queue self.old queue closed_queue }
+    {
+        self.queues.at_mut(queue as usize).close_wait();
+    }
+
+    /// Drops every entry of a queue, which is then as it was when it was made. `BadQueue` where there is no such queue.
+    /// (GASPI: queue_purge)
+    pub fn purge(&mut self, queue: u64) -> Result<(), Refusal>
+        ensures answer { result ≡ purge_checks self.old.queues queue }
+        ensures ok { OnOk result (self.new ≡ with_queue self.old queue purged_queue) }
+        ensures err { OnErr result (self.new ≡ self.old) }
+    {
+        let place = queue as usize;
+        if place >= self.queues.len() {
+            return Err(Refusal::BadQueue);
+        }
+        self.queues.at_mut(place).purge();
+        Ok(())
+    }
+
+    /// How many entries were posted to a queue since its last wait that was done, or purge. `BadQueue` where there is no
+    /// such queue. (GASPI: queue_size)
+    pub fn open_count(&self, queue: u64) -> Result<u32, Refusal>
+        ensures { result ≡ open_count_of self.now.queues queue }
+    {
+        let rings = self.queues.get(queue as usize).ok_or(Refusal::BadQueue)?;
+        Ok(rings.open_count())
+    }
+
+    /// The events for which room is kept: two for each posted entry, and one for each carried one. (own choice)
+    pub fn owed(&self) -> u64
+        ensures { result ≡ sum_by queue_owed self.now.queues }
+    {
+        let mut owed = 0;
+        for rings in self.queues.as_slice() {
+            owed += u64::from(rings.owed());
+        }
+        owed
+    }
+}
