@@ -3,5 +3,6 @@ pub mod Declarations
 pub mod Items
 pub mod MaskBits
 pub mod Extents
+pub mod SinglePosts
 pub mod Written
 mod InType

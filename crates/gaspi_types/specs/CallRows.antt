@@ -1,7 +1,8 @@
 -- What calls share: a row for each call. What is said of every call is said of its row.
-use Rattle.std.specs.Prelude.{ℕ, ◌+◌, ◌*◌, Bool, true, false, not, ◌&&◌, Option, None, Some, is_some, if◌then◌else◌}
+use Rattle.std.specs.Prelude.{ℕ, ◌+◌, ◌*◌, Bool, true, false, not, ◌&&◌, List, length, Option, None, Some, is_some, if◌then◌else◌}
+use Rattle.gaspi_types.specs.Posts.{is_list_length}
 use Rattle.gaspi_types.specs.declared.calls.Call.{Call}
-use Rattle.gaspi_types.specs.declared.calls.Call.TheVariants.{Alloc, Register, Delete, Store, Load, Write, Read, Notify, WriteNotify, ReadNotify, Wait, Purge, Qsize, Waitsome, Reset, FetchAdd, CompareSwap, State, End}
+use Rattle.gaspi_types.specs.declared.calls.Call.TheVariants.{Alloc, Register, Delete, Store, Load, Write, Read, Notify, WriteNotify, ReadNotify, WriteList, WriteListNotify, ReadList, ReadListNotify, Wait, Purge, Qsize, Waitsome, Reset, FetchAdd, CompareSwap, State, End}
 use Rattle.gaspi_types.specs.declared.call_rows.Posting.{Posting}
 use Rattle.gaspi_types.specs.declared.call_rows.CallRow.{CallRow}
 use Rattle.gaspi_types.specs.declared.touches.Touch.{Touch}
@@ -21,6 +22,11 @@ with_memory row = record row { takes_memory = true }
 abbrev pub with_timeout : CallRow → CallRow
 with_timeout row = record row { times_out = true }
 
+-- How many entries a list post asks for: one for each of its items, and so many more. One whose length is outside its
+-- limits asks for none.
+abbrev pub list_entries : ℕ → ℕ → ℕ
+list_entries items more = if is_list_length items then items + more else 0
+
 abbrev pub row_of : Call → CallRow
 row_of (Alloc call) = with_memory (row_touching OwnMemory)
 row_of (Register call) = row_touching (PostsOf call.rank)
@@ -32,6 +38,10 @@ row_of (Read call) = with_memory (row_posting 1 call.rank call.queue)
 row_of (Notify call) = row_posting 1 call.rank call.queue
 row_of (WriteNotify call) = with_memory (row_posting 2 call.rank call.queue)
 row_of (ReadNotify call) = with_memory (row_posting 2 call.rank call.queue)
+row_of (WriteList call) = with_memory (row_posting (list_entries (length call.items) 0) call.rank call.queue)
+row_of (WriteListNotify call) = with_memory (row_posting (list_entries (length call.items) 1) call.rank call.queue)
+row_of (ReadList call) = with_memory (row_posting (list_entries (length call.items) 0) call.rank call.queue)
+row_of (ReadListNotify call) = with_memory (row_posting (list_entries (length call.items) 1) call.rank call.queue)
 row_of (Wait call) = with_timeout (row_touching Nothing)
 row_of (Purge call) = row_touching Nothing
 row_of (Qsize call) = row_touching Nothing

@@ -1,5 +1,5 @@
 -- Steps that may fail, one after another: the first failure is the answer.
-use Rattle.std.specs.Prelude.{Bool, Option, None, Some, Result, Ok, Err, if◌then◌else◌}
+use Rattle.std.specs.Prelude.{Bool, List, [], ◌∷◌, Option, None, Some, Result, Ok, Err, if◌then◌else◌}
 
 infixl 10 ◌>>=◌
 abbrev pub ◌>>=◌ : {A B E : Type 0} → Result A E → (A → Result B E) → Result B E
@@ -19,3 +19,8 @@ found None e = Err e
 abbrev pub absent : {A E : Type 0} → Option A → (A → E) → Result (Unit {0}) E
 absent None e = Ok tt
 absent (Some x) e = Err (e x)
+
+-- one check of each item, in order
+abbrev pub check_each : {A E : Type 0} → (A → Result (Unit {0}) E) → List A → Result (Unit {0}) E
+check_each checks [] = Ok tt
+check_each checks (item ∷ items) = checks item >>= (λ passed. check_each checks items)

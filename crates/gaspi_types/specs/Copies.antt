@@ -1,7 +1,7 @@
 -- What is copied without memory.
 use Rattle.std.specs.Prelude.{Bool, true, ◌&&◌, length, ◌==◌}
 use Rattle.gaspi_types.specs.declared.calls.Call.{Call}
-use Rattle.gaspi_types.specs.declared.calls.Call.TheVariants.{Store}
+use Rattle.gaspi_types.specs.declared.calls.Call.TheVariants.{Store, WriteList, WriteListNotify, ReadList, ReadListNotify}
 use Rattle.gaspi_types.specs.declared.replies.Reply.{Reply}
 use Rattle.gaspi_types.specs.declared.replies.Reply.TheVariants as replies
 use Rattle.gaspi_types.specs.declared.events.Event.{Event}
@@ -10,6 +10,10 @@ use Rattle.gaspi_types.specs.declared.events.Event.TheVariants.{Called, Take, Pu
 -- no list in it has an item
 abbrev pub is_listless_call : Call → Bool
 is_listless_call (Store call) = length call.bytes == 0
+is_listless_call (WriteList call) = length call.items == 0
+is_listless_call (WriteListNotify call) = length call.items == 0
+is_listless_call (ReadList call) = length call.items == 0
+is_listless_call (ReadListNotify call) = length call.items == 0
 is_listless_call call = true
 
 abbrev pub is_listless_reply : Reply → Bool

@@ -1,4 +1,4 @@
--- A queue of a rank: a lane to each rank, and how many entries were posted since the last wait that was done.
+-- A queue of a rank: a lane to each rank, and how many entries were posted since the last wait that was done or the last purge.
 -- (GASPI: one-sided communication)
 use Rattle.std.specs.Prelude.{ℕ, ◌+◌, List, ◌++◌, length, sum_by, position, Option}
 use Rattle.std.specs.List.{list_any}

@@ -1,10 +1,10 @@
 //! What calls share: a row for each call.
 
 ghost use Rattle.std.specs.Prelude.{◌≡◌, ◌≤◌, OnSome, Some, None, true, false};
-ghost use Rattle.gaspi_types.specs.CallRows.{row_of, row_touching, row_posting, entries_in, need_of};
+ghost use Rattle.gaspi_types.specs.CallRows.{row_of, row_touching, row_posting, list_entries, entries_in, need_of};
 ghost use Rattle.gaspi_types.specs.declared.touches.Touch.TheVariants.{Nothing};
 
-use crate::calls::Call;
+use crate::calls::{Call, is_list_length};
 use crate::touches::Touch;
 
 /// The entries that a call appends: how many, and to the lane of which rank and queue. (GASPI: one-sided communication)
@@ -89,11 +89,25 @@ impl CallRow {
     }
 }
 
+/// How many entries a list post asks for: one for each of its items, and so many more. Where its length is outside its
+/// limits it asks for none.
+fn list_entries(length: usize, more: u32) -> u32
+    requires { more ≤ 1 }
+    ensures value { result ≡ list_entries length more }
+    ensures bound { result ≤ 257 }
+{
+    if is_list_length(length) {
+        length as u32 + more
+    } else {
+        0
+    }
+}
+
 impl Call {
     /// Its row.
     pub fn row(&self) -> CallRow
         ensures row { result ≡ row_of self.now }
-        ensures bound { entries_in result.posting ≤ 2 }
+        ensures bound { entries_in result.posting ≤ 257 }
     {
         match self {
             Call::Alloc(_) => CallRow::touching(Touch::OwnMemory).with_memory(),
@@ -106,6 +120,22 @@ impl Call {
             Call::Notify(call) => CallRow::posting(1, call.rank, call.queue),
             Call::WriteNotify(call) => CallRow::posting(2, call.rank, call.queue).with_memory(),
             Call::ReadNotify(call) => CallRow::posting(2, call.rank, call.queue).with_memory(),
+            Call::WriteList(call) => {
+                let entries = list_entries(call.items.len(), 0);
+                CallRow::posting(entries, call.rank, call.queue).with_memory()
+            }
+            Call::WriteListNotify(call) => {
+                let entries = list_entries(call.items.len(), 1);
+                CallRow::posting(entries, call.rank, call.queue).with_memory()
+            }
+            Call::ReadList(call) => {
+                let entries = list_entries(call.items.len(), 0);
+                CallRow::posting(entries, call.rank, call.queue).with_memory()
+            }
+            Call::ReadListNotify(call) => {
+                let entries = list_entries(call.items.len(), 1);
+                CallRow::posting(entries, call.rank, call.queue).with_memory()
+            }
             Call::Wait(_) => CallRow::touching(Touch::Nothing).with_timeout(),
             Call::Purge(_) => CallRow::touching(Touch::Nothing),
             Call::Qsize(_) => CallRow::touching(Touch::Nothing),
@@ -123,7 +153,8 @@ impl Call {
 }
 
 /// How many events of its caller's rank a call needs room for: none for the end of a caller that has not ended, one
-/// and two for each entry for a post, and one for every other call. Whether a collective is pending for the caller
+/// and two for each entry for a post, and one for every other call, also for a list post whose length is outside its
+/// limits. Whether a collective is pending for the caller
 /// makes no difference to the calls that are there.
 pub fn need(call: &Call, pending: bool, ended: bool) -> u64
     ensures { result ≡ need_of call.now pending ended }

@@ -14,7 +14,10 @@ use crate::memory::NoMemory;
 pub use atomics::{CompareSwap, FetchAdd};
 pub use memory::{Load, Store};
 pub use notifications::{Reset, Waitsome};
-pub use posts::{Item, Notify, Read, ReadNotify, Write, WriteNotify};
+pub use posts::{
+    Item, Notify, Read, ReadList, ReadListNotify, ReadNotify, Write, WriteList, WriteListNotify,
+    WriteNotify, is_list_length,
+};
 pub use queues::{Purge, Qsize, Wait};
 pub use segments::{Alloc, Delete, Register};
 use std::alloc::Global;
@@ -33,6 +36,10 @@ pub enum Call {
     Notify(Notify),
     WriteNotify(WriteNotify),
     ReadNotify(ReadNotify),
+    WriteList(WriteList),
+    WriteListNotify(WriteListNotify),
+    ReadList(ReadList),
+    ReadListNotify(ReadListNotify),
     Wait(Wait),
     Purge(Purge),
     Qsize(Qsize),
@@ -72,6 +79,10 @@ impl Call {
             Call::Notify(call) => Ok(Call::Notify(*call)),
             Call::WriteNotify(call) => Ok(Call::WriteNotify(*call)),
             Call::ReadNotify(call) => Ok(Call::ReadNotify(*call)),
+            Call::WriteList(call) => Ok(Call::WriteList(call.copy(alloc)?)),
+            Call::WriteListNotify(call) => Ok(Call::WriteListNotify(call.copy(alloc)?)),
+            Call::ReadList(call) => Ok(Call::ReadList(call.copy(alloc)?)),
+            Call::ReadListNotify(call) => Ok(Call::ReadListNotify(call.copy(alloc)?)),
             Call::Wait(call) => Ok(Call::Wait(*call)),
             Call::Purge(call) => Ok(Call::Purge(*call)),
             Call::Qsize(call) => Ok(Call::Qsize(*call)),

@@ -3,6 +3,7 @@
 
 ghost use Rattle.std.specs.Prelude.{◌≡◌};
 ghost use Rattle.gaspi_types.specs.Kinds.{destination_of, source_of};
+ghost use Rattle.gaspi_types.specs.Posts.{transfer_kind};
 
 use crate::ids::RankId;
 use crate::lists::{Bytes, Rows};
@@ -45,6 +46,33 @@ pub enum Kind {
     Notify { target: NoteSlot, value: u32 },
     /// An own slot gets 1: the notification of a read.
     ReadNote { own: NoteSlot },
+}
+
+/// Which way the bytes of a transfer go.
+#[derive(Clone, Copy, Debug, PartialEq, Eq)]
+pub enum Direction {
+    /// From an own segment to the target: a write.
+    Outward,
+    /// From the target to an own segment: a read.
+    Inward,
+}
+
+impl Ends {
+    /// What a transfer between these ends asks for.
+    pub fn kind(&self, direction: Direction) -> Kind
+        ensures { result ≡ transfer_kind direction self.now }
+    {
+        match direction {
+            Direction::Outward => Kind::Write {
+                own: self.own,
+                target: self.target,
+            },
+            Direction::Inward => Kind::Read {
+                own: self.own,
+                target: self.target,
+            },
+        }
+    }
 }
 
 /// What the put of an entry changes.
@@ -104,7 +132,7 @@ pub struct Entry {
 /// A queue of a rank. (GASPI: one-sided communication)
 #[derive(Debug, PartialEq, Eq, Drop)]
 pub struct Queue {
-    /// How many entries were posted since the last wait that was done.
+    /// How many entries were posted since the last wait that was done or the last purge.
     pub open_count: u32,
     /// The target with which it is broken.
     pub broken: Option<RankId>,

@@ -17,11 +17,12 @@ mod touches;
 
 pub use call_rows::{CallRow, Posting, need};
 pub use calls::{
-    Alloc, Call, CompareSwap, Delete, FetchAdd, Item, Load, Notify, Purge, Qsize, Read, ReadNotify,
-    Register, Reset, Store, Timeout, Wait, Waitsome, Write, WriteNotify,
+    Alloc, Call, CompareSwap, Delete, FetchAdd, Item, Load, Notify, Purge, Qsize, Read, ReadList,
+    ReadListNotify, ReadNotify, Register, Reset, Store, Timeout, Wait, Waitsome, Write, WriteList,
+    WriteListNotify, WriteNotify, is_list_length,
 };
 pub use collectives::{Coll, NumType, Numbers, Op, Stage, are_in_type, is_in_type};
-pub use entries::{ByteRange, Destination, Ends, Entry, Kind, NoteSlot, Phase, Queue};
+pub use entries::{ByteRange, Destination, Direction, Ends, Entry, Kind, NoteSlot, Phase, Queue};
 pub use events::{Event, Outcome, Transfer};
 pub use ids::{NoteId, QueueId, RankId, SegId, ThreadId};
 pub use lists::{Bytes, Rows};

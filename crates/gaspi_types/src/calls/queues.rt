@@ -12,7 +12,7 @@ pub struct Purge {
     pub queue: u64,
 }
 
-/// How many entries were posted to a queue since it was last closed. (GASPI: queue_size)
+/// How many entries were posted to a queue since its last wait that was done or its last purge. (GASPI: queue_size)
 #[derive(Clone, Copy, Debug, PartialEq, Eq)]
 pub struct Qsize {
     pub queue: u64,
