@@ -1,32 +1,45 @@
 -- What a post asks for, where it is not refused.
-use Rattle.std.proofs.Common.{◌≡◌, ℕ, true, not, ◌==◌, nat_lt, List, [], ◌∷◌, Some, Ok, sym}
-use Rattle.gaspi_types.specs.Posts.{range_in, slot_in, write_item, read_item, write_notify_item, read_notify_item, ends_of, write_kinds, read_kinds, notify_kinds, write_notify_kinds, read_notify_kinds}
+use Rattle.std.proofs.Common.{◌≡◌, ℕ, ◌+◌, ◌≤◌, Bool, true, false, not, ◌==◌, nat_lt, nat_le, List, [], ◌∷◌, ◌++◌, length, Option, Some, Result, Ok, refl, sym, ap, subst, ◌∙◌, arith}
+use Rattle.std.proofs.lemmas.Bool.{leb-true}
+use Rattle.std.proofs.lemmas.List.{length-append}
+use Rattle.gaspi_types.specs.CallRows.{row_of, entries_of, list_entries}
+use Rattle.gaspi_types.specs.Checks.{check_each, found}
+use Rattle.gaspi_types.specs.Posts.{range_in, slot_in, is_list_length, write_item, read_item, write_notify_item, read_notify_item, has_segments, has_size, ends_of, transfer_kind, transfers_of, checked_transfers, nothing_beside, transfers_alone, noted_writes, noted_reads, listed, call_kinds}
 use Rattle.gaspi_types.specs.SegmentBytes.{is_transfer_size, is_within}
 use Rattle.gaspi_types.specs.SegmentTables.{extent_in, known_extent}
+use Rattle.gaspi_types.specs.declared.call_rows.Posting.{Posting}
+use Rattle.gaspi_types.specs.declared.calls.Call.{Call}
+use Rattle.gaspi_types.specs.declared.calls.Call.TheVariants.{Write, Read, Notify, WriteNotify, ReadNotify, WriteList, WriteListNotify, ReadList, ReadListNotify}
 use Rattle.gaspi_types.specs.declared.calls.posts.Item.{Item}
-use Rattle.gaspi_types.specs.declared.calls.posts.Write as write
-use Rattle.gaspi_types.specs.declared.calls.posts.Read as read
-use Rattle.gaspi_types.specs.declared.calls.posts.Notify as notify
-use Rattle.gaspi_types.specs.declared.calls.posts.WriteNotify as write_notify
-use Rattle.gaspi_types.specs.declared.calls.posts.ReadNotify as read_notify
+use Rattle.gaspi_types.specs.declared.entries.Direction.{Direction}
+use Rattle.gaspi_types.specs.declared.entries.Direction.TheVariants.{Outward, Inward}
 use Rattle.gaspi_types.specs.declared.entries.Ends.{Ends}
 use Rattle.gaspi_types.specs.declared.entries.Kind.{Kind}
-use Rattle.gaspi_types.specs.declared.entries.Kind.TheVariants.{Write, Read, Notify, ReadNote}
+use Rattle.gaspi_types.specs.declared.entries.Kind.TheVariants as kinds_of
 use Rattle.gaspi_types.specs.declared.segments.Extent.{Extent}
 use Rattle.gaspi_types.specs.declared.segments.SegmentTable.{SegmentTable}
-use Rattle.gaspi_types.proofs.Chains.{bind_then, check_then, found_then, same_Ok}
+use Rattle.gaspi_types.specs.declared.replies.Refusal.{Refusal}
+use Rattle.gaspi_types.specs.declared.replies.Refusal.TheVariants.{NoSegment, Unregistered, BadCount}
+use Rattle.gaspi_types.proofs.Chains.{both, bind_then, check_then, found_then, found_there, same_Ok}
 
--- the two ends of a transfer
-pub record AreEnds (me : ℕ) (table : SegmentTable) (rank : ℕ) (item : Item) (ends : Ends) : Type 0 where
+-- the two ends of a transfer, by what stands in the own segments and what is known of those of its target
+pub record AreEnds (near far : ℕ → Option Extent) (item : Item) (ends : Ends) : Type 0 where
   pub mine : Extent
   pub theirs : Extent
-  pub mine_there : extent_in table.own item.seg ≡ Some mine
-  pub theirs_there : known_extent me table rank item.rseg ≡ Some theirs
+  pub mine_there : near item.seg ≡ Some mine
+  pub theirs_there : far item.rseg ≡ Some theirs
   pub from : is_within item.offset item.size mine.size ≡ true
   pub to : is_within item.roffset item.size theirs.size ≡ true
   pub are : ends ≡ record { mine = mine; theirs = theirs; own = range_in mine item.seg item.offset item.size; target = range_in theirs item.rseg item.roffset item.size }
 
-pub ends-ok : (me : ℕ) (table : SegmentTable) (rank : ℕ) (item : Item) (ends : Ends) → ends_of me table rank item ≡ Ok ends → AreEnds me table rank item ends
+-- what a rank has, and what it knows of another
+abbrev pub near_in : SegmentTable → ℕ → Option Extent
+near_in table segment = extent_in table.own segment
+
+abbrev pub far_in : ℕ → SegmentTable → ℕ → ℕ → Option Extent
+far_in me table rank segment = known_extent me table rank segment
+
+ends-ok : (me : ℕ) (table : SegmentTable) (rank : ℕ) (item : Item) (ends : Ends) → ends_of me table rank item ≡ Ok ends → AreEnds (near_in table) (far_in me table rank) item ends
 ends-ok me table rank item ends h =
     found_then (extent_in table.own item.seg) _ _ ends h (λ mine hm h1.
     found_then (known_extent me table rank item.rseg) _ _ ends h1 (λ theirs ht h2.
@@ -35,62 +48,184 @@ ends-ok me table rank item ends h =
     check_then (is_within item.roffset item.size theirs.size) _ _ ends h4 (λ to h5.
     record { mine = mine; theirs = theirs; mine_there = hm; theirs_there = ht; from = from; to = to; are = sym (same_Ok _ _ h5) })))))
 
-pub record IsWrite (me : ℕ) (table : SegmentTable) (call : write.Write) (kinds : List Kind) : Type 0 where
+-- a transfer
+pub record IsTransfer (direction : Direction) (near far : ℕ → Option Extent) (item : Item) (kind : Kind) : Type 0 where
   pub ends : Ends
-  pub are : AreEnds me table call.rank (write_item call) ends
-  pub is : kinds ≡ Write ends.own ends.target ∷ []
+  pub are : AreEnds near far item ends
+  pub is : kind ≡ transfer_kind direction ends
 
-pub write-ok : (me : ℕ) (table : SegmentTable) (call : write.Write) (kinds : List Kind) → write_kinds me table call ≡ Ok kinds → IsWrite me table call kinds
-write-ok me table call kinds h =
-    bind_then (ends_of me table call.rank (write_item call)) _ kinds h (λ ends he h1.
-    record { ends = ends; are = ends-ok me table call.rank (write_item call) ends he; is = sym (same_Ok _ _ h1) })
+-- a transfer for each item
+abbrev pub AreTransfers : Direction → (ℕ → Option Extent) → (ℕ → Option Extent) → List Item → List Kind → Type 0
+AreTransfers direction near far [] [] = Unit {0}
+AreTransfers direction near far [] (kind ∷ kinds) = ⊥
+AreTransfers direction near far (item ∷ items) [] = ⊥
+AreTransfers direction near far (item ∷ items) (kind ∷ kinds) = IsTransfer direction near far item kind × AreTransfers direction near far items kinds
 
-pub record IsRead (me : ℕ) (table : SegmentTable) (call : read.Read) (kinds : List Kind) : Type 0 where
-  pub ends : Ends
-  pub are : AreEnds me table call.rank (read_item call) ends
-  pub is : kinds ≡ Read ends.own ends.target ∷ []
+pub transfers-length : (direction : Direction) (near far : ℕ → Option Extent) (items : List Item) (kinds : List Kind) → AreTransfers direction near far items kinds → length kinds ≡ length items
+transfers-length direction near far [] [] are = refl
+transfers-length direction near far [] (kind ∷ kinds) are = absurd are
+transfers-length direction near far (item ∷ items) [] are = absurd are
+transfers-length direction near far (item ∷ items) (kind ∷ kinds) are = let rest = transfers-length direction near far items kinds are.1 in omega arith
 
-pub read-ok : (me : ℕ) (table : SegmentTable) (call : read.Read) (kinds : List Kind) → read_kinds me table call ≡ Ok kinds → IsRead me table call kinds
-read-ok me table call kinds h =
-    bind_then (ends_of me table call.rank (read_item call)) _ kinds h (λ ends he h1.
-    record { ends = ends; are = ends-ok me table call.rank (read_item call) ends he; is = sym (same_Ok _ _ h1) })
+transfers-ok : (direction : Direction) (me : ℕ) (table : SegmentTable) (rank : ℕ) (items : List Item) (kinds : List Kind) → transfers_of direction me table rank items ≡ Ok kinds
+    → AreTransfers direction (near_in table) (far_in me table rank) items kinds
+transfers-ok direction me table rank [] kinds h = subst (λ (k : List Kind). AreTransfers direction (near_in table) (far_in me table rank) [] k) (same_Ok _ _ h) tt
+transfers-ok direction me table rank (item ∷ items) kinds h =
+    bind_then (ends_of me table rank item) _ kinds h (λ ends he h1.
+    bind_then (transfers_of direction me table rank items) _ kinds h1 (λ more hm h2.
+    subst (λ (k : List Kind). AreTransfers direction (near_in table) (far_in me table rank) (item ∷ items) k) (same_Ok _ _ h2)
+    (record { ends = ends; are = ends-ok me table rank item ends he; is = refl }, transfers-ok direction me table rank items more hm)))
 
-pub record IsNotify (notes me : ℕ) (table : SegmentTable) (call : notify.Notify) (kinds : List Kind) : Type 0 where
+checked-ok : {A : Type 0} (direction : Direction) (me : ℕ) (table : SegmentTable) (rank : ℕ) (items : List Item) (beside : Result A Refusal) (x : A × List Kind)
+    → checked_transfers direction me table rank items beside ≡ Ok x → (beside ≡ Ok x.0) × AreTransfers direction (near_in table) (far_in me table rank) items x.1
+checked-ok {A} direction me table rank items beside x h =
+    bind_then (check_each (has_segments me table rank) items) _ x h (λ there h0 h1.
+    bind_then beside _ x h1 (λ known hk h2.
+    bind_then (check_each has_size items) _ x h2 (λ sized h4 h5.
+    bind_then (transfers_of direction me table rank items) _ x h5 (λ kinds ht h6.
+    subst (λ (y : A × List Kind). (beside ≡ Ok y.0) × AreTransfers direction (near_in table) (far_in me table rank) items y.1) (same_Ok _ _ h6)
+    (hk, transfers-ok direction me table rank items kinds ht)))))
+
+pub alone-ok : (direction : Direction) (me : ℕ) (table : SegmentTable) (rank : ℕ) (items : List Item) (kinds : List Kind) → transfers_alone direction me table rank items ≡ Ok kinds
+    → AreTransfers direction (near_in table) (far_in me table rank) items kinds
+alone-ok direction me table rank items kinds h =
+    bind_then (checked_transfers direction me table rank items nothing_beside) _ kinds h (λ x hx h1.
+    subst (λ (k : List Kind). AreTransfers direction (near_in table) (far_in me table rank) items k) (same_Ok _ _ h1) (checked-ok direction me table rank items nothing_beside x hx).1)
+
+-- writes with a notification behind them, of a segment that is known
+pub record AreNotedWrites (notes : ℕ) (near far : ℕ → Option Extent) (items : List Item) (segment note value : ℕ) (kinds : List Kind) : Type 0 where
+  pub transfers : List Kind
+  pub are : AreTransfers Outward near far items transfers
   pub theirs : Extent
-  pub theirs_there : known_extent me table call.rank call.rseg ≡ Some theirs
-  pub noted : nat_lt call.note notes ≡ true
-  pub is : kinds ≡ Notify (slot_in theirs call.rseg call.note) call.value ∷ []
+  pub theirs_there : far segment ≡ Some theirs
+  pub noted : nat_lt note notes ≡ true
+  pub is : kinds ≡ transfers ++ kinds_of.Notify (slot_in theirs segment note) value ∷ []
 
-pub notify-ok : (notes me : ℕ) (table : SegmentTable) (call : notify.Notify) (kinds : List Kind) → notify_kinds notes me table call ≡ Ok kinds → IsNotify notes me table call kinds
-notify-ok notes me table call kinds h =
-    found_then (known_extent me table call.rank call.rseg) _ _ kinds h (λ theirs ht h1.
-    check_then (nat_lt call.note notes) _ _ kinds h1 (λ noted h2.
-    check_then (not (call.value == 0)) _ _ kinds h2 (λ valued h3.
-    record { theirs = theirs; theirs_there = ht; noted = noted; is = sym (same_Ok _ _ h3) })))
+pub noted_writes-ok : (notes me : ℕ) (table : SegmentTable) (rank : ℕ) (items : List Item) (segment note value : ℕ) (kinds : List Kind)
+    → noted_writes notes me table rank items segment note value ≡ Ok kinds → AreNotedWrites notes (near_in table) (far_in me table rank) items segment note value kinds
+noted_writes-ok notes me table rank items segment note value kinds h =
+    let beside = found (known_extent me table rank segment) Unregistered in
+    bind_then (checked_transfers Outward me table rank items beside) _ kinds h (λ x hx h1.
+    check_then (nat_lt note notes) _ _ kinds h1 (λ noted h2.
+    check_then (not (value == 0)) _ _ kinds h2 (λ valued h3.
+    let c = checked-ok Outward me table rank items beside x hx in
+    record { transfers = x.1; are = c.1; theirs = x.0; theirs_there = found_there _ _ _ c.0; noted = noted; is = sym (same_Ok _ _ h3) })))
 
-pub record IsWriteNotify (notes me : ℕ) (table : SegmentTable) (call : write_notify.WriteNotify) (kinds : List Kind) : Type 0 where
-  pub ends : Ends
-  pub are : AreEnds me table call.rank (write_notify_item call) ends
-  pub noted : nat_lt call.note notes ≡ true
-  pub is : kinds ≡ Write ends.own ends.target ∷ Notify (slot_in ends.theirs call.rseg call.note) call.value ∷ []
+-- reads with a notification behind them, of an own segment
+pub record AreNotedReads (notes : ℕ) (near far : ℕ → Option Extent) (items : List Item) (segment note : ℕ) (kinds : List Kind) : Type 0 where
+  pub transfers : List Kind
+  pub are : AreTransfers Inward near far items transfers
+  pub mine : Extent
+  pub mine_there : near segment ≡ Some mine
+  pub noted : nat_lt note notes ≡ true
+  pub is : kinds ≡ transfers ++ kinds_of.ReadNote (slot_in mine segment note) ∷ []
 
-pub write_notify-ok : (notes me : ℕ) (table : SegmentTable) (call : write_notify.WriteNotify) (kinds : List Kind) → write_notify_kinds notes me table call ≡ Ok kinds
-    → IsWriteNotify notes me table call kinds
-write_notify-ok notes me table call kinds h =
-    bind_then (ends_of me table call.rank (write_notify_item call)) _ kinds h (λ ends he h1.
-    check_then (nat_lt call.note notes) _ _ kinds h1 (λ noted h2.
-    check_then (not (call.value == 0)) _ _ kinds h2 (λ valued h3.
-    record { ends = ends; are = ends-ok me table call.rank (write_notify_item call) ends he; noted = noted; is = sym (same_Ok _ _ h3) })))
+pub noted_reads-ok : (notes me : ℕ) (table : SegmentTable) (rank : ℕ) (items : List Item) (segment note : ℕ) (kinds : List Kind)
+    → noted_reads notes me table rank items segment note ≡ Ok kinds → AreNotedReads notes (near_in table) (far_in me table rank) items segment note kinds
+noted_reads-ok notes me table rank items segment note kinds h =
+    let beside = found (extent_in table.own segment) NoSegment in
+    bind_then (checked_transfers Inward me table rank items beside) _ kinds h (λ x hx h1.
+    check_then (nat_lt note notes) _ _ kinds h1 (λ noted h2.
+    let c = checked-ok Inward me table rank items beside x hx in
+    record { transfers = x.1; are = c.1; mine = x.0; mine_there = found_there _ _ _ c.0; noted = noted; is = sym (same_Ok _ _ h2) }))
 
-pub record IsReadNotify (notes me : ℕ) (table : SegmentTable) (call : read_notify.ReadNotify) (kinds : List Kind) : Type 0 where
-  pub ends : Ends
-  pub are : AreEnds me table call.rank (read_notify_item call) ends
-  pub noted : nat_lt call.note notes ≡ true
-  pub is : kinds ≡ Read ends.own ends.target ∷ ReadNote (slot_in ends.mine call.seg call.note) ∷ []
+pub listed-ok : (items : List Item) (asked : Result (List Kind) Refusal) (kinds : List Kind) → listed items asked ≡ Ok kinds → (is_list_length (length items) ≡ true) × (asked ≡ Ok kinds)
+listed-ok items asked kinds h = check_then (is_list_length (length items)) BadCount _ kinds h (λ counted h1. (counted, h1))
 
-pub read_notify-ok : (notes me : ℕ) (table : SegmentTable) (call : read_notify.ReadNotify) (kinds : List Kind) → read_notify_kinds notes me table call ≡ Ok kinds
-    → IsReadNotify notes me table call kinds
-read_notify-ok notes me table call kinds h =
-    bind_then (ends_of me table call.rank (read_notify_item call)) _ kinds h (λ ends he h1.
-    check_then (nat_lt call.note notes) _ _ kinds h1 (λ noted h2.
-    record { ends = ends; are = ends-ok me table call.rank (read_notify_item call) ends he; noted = noted; is = sym (same_Ok _ _ h2) }))
+-- What any post asks for: transfers, and a notification behind them or none.
+pub data IsAsked (notes : ℕ) (near far : ℕ → Option Extent) (kinds : List Kind) : Type 0 where
+  Alone : (direction : Direction) (items : List Item) → AreTransfers direction near far items kinds → IsAsked notes near far kinds
+  NotedWrites : (items : List Item) (segment note value : ℕ) → AreNotedWrites notes near far items segment note value kinds → IsAsked notes near far kinds
+  NotedReads : (items : List Item) (segment note : ℕ) → AreNotedReads notes near far items segment note kinds → IsAsked notes near far kinds
+
+-- it is as many entries as the call's row says
+pub record IsAskedBy (notes me : ℕ) (table : SegmentTable) (to : Posting) (kinds : List Kind) : Type 0 where
+  pub asked : IsAsked notes (near_in table) (far_in me table to.rank) kinds
+  pub count : length kinds ≡ to.entries
+
+noted_writes-length : (notes : ℕ) (near far : ℕ → Option Extent) (items : List Item) (segment note value : ℕ) (kinds : List Kind) → AreNotedWrites notes near far items segment note value kinds
+    → length kinds ≡ length items + 1
+noted_writes-length notes near far items segment note value kinds h =
+    let transfers = transfers-length Outward near far items h.transfers h.are in
+    let joined = length-append h.transfers (kinds_of.Notify (slot_in h.theirs segment note) value ∷ []) in
+    let all = ap length h.is in
+    omega arith
+
+noted_reads-length : (notes : ℕ) (near far : ℕ → Option Extent) (items : List Item) (segment note : ℕ) (kinds : List Kind) → AreNotedReads notes near far items segment note kinds
+    → length kinds ≡ length items + 1
+noted_reads-length notes near far items segment note kinds h =
+    let transfers = transfers-length Inward near far items h.transfers h.are in
+    let joined = length-append h.transfers (kinds_of.ReadNote (slot_in h.mine segment note) ∷ []) in
+    let all = ap length h.is in
+    omega arith
+
+-- a list whose length is within its limits
+listed-count : (items more : ℕ) → is_list_length items ≡ true → list_entries items more ≡ items + more
+listed-count items more h = rw h refl
+
+as-row : (notes me : ℕ) (table : SegmentTable) (p to : Posting) (kinds : List Kind) → ◌≡◌ {A = Option Posting} (Some p) (Some to) → IsAskedBy notes me table p kinds → IsAskedBy notes me table to kinds
+as-row notes me table p to kinds is by = let same : p ≡ to = cc in subst (λ (q : Posting). IsAskedBy notes me table q kinds) same by
+
+alone-by : (notes me : ℕ) (table : SegmentTable) (to : Posting) (direction : Direction) (items : List Item) (kinds : List Kind) → length items ≡ to.entries
+    → transfers_alone direction me table to.rank items ≡ Ok kinds → IsAskedBy notes me table to kinds
+alone-by notes me table to direction items kinds count h =
+    let are = alone-ok direction me table to.rank items kinds h in
+    record { asked = Alone direction items are; count = transfers-length direction (near_in table) (far_in me table to.rank) items kinds are ∙ count }
+
+noted_writes-by : (notes me : ℕ) (table : SegmentTable) (to : Posting) (items : List Item) (segment note value : ℕ) (kinds : List Kind) → length items + 1 ≡ to.entries
+    → noted_writes notes me table to.rank items segment note value ≡ Ok kinds → IsAskedBy notes me table to kinds
+noted_writes-by notes me table to items segment note value kinds count h =
+    let are = noted_writes-ok notes me table to.rank items segment note value kinds h in
+    record { asked = NotedWrites items segment note value are; count = noted_writes-length notes (near_in table) (far_in me table to.rank) items segment note value kinds are ∙ count }
+
+noted_reads-by : (notes me : ℕ) (table : SegmentTable) (to : Posting) (items : List Item) (segment note : ℕ) (kinds : List Kind) → length items + 1 ≡ to.entries
+    → noted_reads notes me table to.rank items segment note ≡ Ok kinds → IsAskedBy notes me table to kinds
+noted_reads-by notes me table to items segment note kinds count h =
+    let are = noted_reads-ok notes me table to.rank items segment note kinds h in
+    record { asked = NotedReads items segment note are; count = noted_reads-length notes (near_in table) (far_in me table to.rank) items segment note kinds are ∙ count }
+
+-- a call that posts asks for that
+pub asked-by : (notes me : ℕ) (table : SegmentTable) (call : Call) (to : Posting) (kinds : List Kind) → (row_of call).posting ≡ Some to → call_kinds notes me table call ≡ Ok kinds
+    → IsAskedBy notes me table to kinds
+asked-by notes me table (Write call) to kinds is h =
+    let p : Posting = record { entries = 1; rank = call.rank; queue = call.queue } in
+    as-row notes me table p to kinds is (alone-by notes me table p Outward (write_item call ∷ []) kinds refl h)
+asked-by notes me table (Read call) to kinds is h =
+    let p : Posting = record { entries = 1; rank = call.rank; queue = call.queue } in
+    as-row notes me table p to kinds is (alone-by notes me table p Inward (read_item call ∷ []) kinds refl h)
+asked-by notes me table (Notify call) to kinds is h =
+    let p : Posting = record { entries = 1; rank = call.rank; queue = call.queue } in
+    as-row notes me table p to kinds is (noted_writes-by notes me table p [] call.rseg call.note call.value kinds refl h)
+asked-by notes me table (WriteNotify call) to kinds is h =
+    let p : Posting = record { entries = 2; rank = call.rank; queue = call.queue } in
+    as-row notes me table p to kinds is (noted_writes-by notes me table p (write_notify_item call ∷ []) call.rseg call.note call.value kinds refl h)
+asked-by notes me table (ReadNotify call) to kinds is h =
+    let p : Posting = record { entries = 2; rank = call.rank; queue = call.queue } in
+    as-row notes me table p to kinds is (noted_reads-by notes me table p (read_notify_item call ∷ []) call.seg call.note kinds refl h)
+asked-by notes me table (WriteList call) to kinds is h =
+    let p : Posting = record { entries = list_entries (length call.items) 0; rank = call.rank; queue = call.queue } in
+    let l = listed-ok call.items (transfers_alone Outward me table call.rank call.items) kinds h in
+    let count = listed-count (length call.items) 0 l.0 in
+    as-row notes me table p to kinds is (alone-by notes me table p Outward call.items kinds (omega (arith, count)) l.1)
+asked-by notes me table (WriteListNotify call) to kinds is h =
+    let p : Posting = record { entries = list_entries (length call.items) 1; rank = call.rank; queue = call.queue } in
+    let l = listed-ok call.items (noted_writes notes me table call.rank call.items call.nseg call.note call.value) kinds h in
+    as-row notes me table p to kinds is (noted_writes-by notes me table p call.items call.nseg call.note call.value kinds (sym (listed-count (length call.items) 1 l.0)) l.1)
+asked-by notes me table (ReadList call) to kinds is h =
+    let p : Posting = record { entries = list_entries (length call.items) 0; rank = call.rank; queue = call.queue } in
+    let l = listed-ok call.items (transfers_alone Inward me table call.rank call.items) kinds h in
+    let count = listed-count (length call.items) 0 l.0 in
+    as-row notes me table p to kinds is (alone-by notes me table p Inward call.items kinds (omega (arith, count)) l.1)
+asked-by notes me table (ReadListNotify call) to kinds is h =
+    let p : Posting = record { entries = list_entries (length call.items) 1; rank = call.rank; queue = call.queue } in
+    let l = listed-ok call.items (noted_reads notes me table call.rank call.items call.nseg call.note) kinds h in
+    as-row notes me table p to kinds is (noted_reads-by notes me table p call.items call.nseg call.note kinds (sym (listed-count (length call.items) 1 l.0)) l.1)
+asked-by notes me table other to kinds is h = absurd (let no : ⊥ = cc in no)
+
+-- it is at most one more than a list may have items
+pub entries-few : (items more : ℕ) → list_entries items more ≤ 256 + more
+entries-few items more = go (is_list_length items) refl
+  where
+    go : (b : Bool) → is_list_length items ≡ b → list_entries items more ≤ 256 + more
+    go true is = let most = leb-true items 256 (both (nat_le 1 items) (nat_le items 256) is).1 in rw is (omega arith)
+    go false is = rw is (omega arith)

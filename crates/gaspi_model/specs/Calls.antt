@@ -1,15 +1,16 @@
 -- What a call answers, and what it leaves. A call of a rank `me` reads and changes that rank's posts and at most one memory:
 -- that of its rank or, for an atomic, of the rank that it names. A segment made known is also told to the rank that it
 -- names. What each call finds and leaves stands with its chapter.
-use Rattle.std.specs.Prelude.{ℕ, ◌+◌, ◌*◌, ◌&&◌, List, [], Option, None, Some, Result, Ok, Err, if◌then◌else◌, slice_set}
+use Rattle.std.specs.Prelude.{ℕ, ◌+◌, ◌*◌, ◌&&◌, List, Option, None, Some, Result, Ok, Err, if◌then◌else◌, slice_set}
 use Rattle.gaspi_types.specs.CallRows.{row_of, entries_of, is_end}
+use Rattle.gaspi_types.specs.Posts.{call_kinds}
 use Rattle.gaspi_types.specs.Replies.{is_done, is_idle}
 use Rattle.gaspi_types.specs.SegmentTables.{extent_in}
 use Rattle.gaspi_types.specs.declared.call_rows.Posting.{Posting}
 use Rattle.gaspi_types.specs.declared.entries.Kind.{Kind}
 use Rattle.gaspi_types.specs.declared.shapes.Limits.{Limits}
 use Rattle.gaspi_types.specs.declared.calls.Call.{Call}
-use Rattle.gaspi_types.specs.declared.calls.Call.TheVariants.{Alloc, Register, Delete, Store, Load, Write, Read, Notify, WriteNotify, ReadNotify, Wait, Purge, Qsize, Waitsome, Reset, FetchAdd, CompareSwap, State, End}
+use Rattle.gaspi_types.specs.declared.calls.Call.TheVariants.{Alloc, Register, Delete, Store, Load, Wait, Purge, Qsize, Waitsome, Reset, FetchAdd, CompareSwap, State, End}
 use Rattle.gaspi_types.specs.declared.replies.Refusal.{Refusal}
 use Rattle.gaspi_types.specs.declared.replies.Refusal.TheVariants.{CallerEnded}
 use Rattle.gaspi_types.specs.declared.replies.Reply.{Reply}
@@ -20,7 +21,7 @@ use Rattle.gaspi_model.specs.State.{thread_at, is_running}
 use Rattle.gaspi_model.specs.Posting.{with_post, counted}
 use Rattle.gaspi_model.specs.SegmentCalls.{alloc_finds, with_own, alloc_leaves, register_finds, with_known, delete_finds, without_own, delete_leaves}
 use Rattle.gaspi_model.specs.MemoryCalls.{store_finds, store_leaves, load_finds}
-use Rattle.gaspi_model.specs.PostCalls.{asked_finds, write_asks, read_asks, notify_asks, write_notify_asks, read_notify_asks}
+use Rattle.gaspi_model.specs.PostCalls.{asked_finds}
 use Rattle.gaspi_model.specs.QueueCalls.{wait_finds, purge_finds, qsize_finds, state_finds, closed, purged}
 use Rattle.gaspi_model.specs.NotificationCalls.{waitsome_finds, reset_finds, reset_leaves}
 use Rattle.gaspi_model.specs.AtomicCalls.{word_finds, fetch_add_leaves, compare_swap_leaves}
@@ -48,12 +49,7 @@ plain_finds limits me posts memory call = Ok (Some replies.Done)
 
 -- what a call asks to be appended that posts
 abbrev pub call_asks : Limits → ℕ → Posts → Call → Result (List Kind) Refusal
-call_asks limits me posts (Write call) = write_asks me posts call
-call_asks limits me posts (Read call) = read_asks me posts call
-call_asks limits me posts (Notify call) = notify_asks limits me posts call
-call_asks limits me posts (WriteNotify call) = write_notify_asks limits me posts call
-call_asks limits me posts (ReadNotify call) = read_notify_asks limits me posts call
-call_asks limits me posts call = Ok []
+call_asks limits me posts call = call_kinds limits.notes me posts.segments call
 
 -- what a call finds
 abbrev pub call_finds : Limits → ℕ → Posts → Memory → Call → Result (Option Reply) Refusal

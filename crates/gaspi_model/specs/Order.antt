@@ -1,5 +1,5 @@
 -- What stands in a lane after a history. (GASPI: notification order)
-use Rattle.std.specs.Prelude.{◌≡◌, ℕ, Bool, true, false, ◌&&◌, ◌==◌, List, Some, Ok}
+use Rattle.std.specs.Prelude.{◌≡◌, ℕ, ◌+◌, ◌<◌, Bool, true, false, ◌&&◌, ◌==◌, List, Some, Ok}
 use Rattle.gaspi_types.specs.Lanes.{is_write, is_read, is_notify, is_read_note}
 use Rattle.gaspi_types.specs.World.{World}
 use Rattle.gaspi_types.specs.declared.entries.Entry.{Entry}
@@ -31,6 +31,11 @@ IsNotificationStanding w history origin queue target number = IsStanding is_noti
 
 abbrev pub IsReadNoteStanding : World → List Event → ℕ → ℕ → ℕ → ℕ → Type 0
 IsReadNoteStanding w history origin queue target number = IsStanding is_read_note w history origin queue target number
+
+-- so many entries of that kind stand, with numbers one after another from one on
+abbrev pub AreStanding : (Entry → Bool) → World → List Event → ℕ → ℕ → ℕ → ℕ → ℕ → Type 0
+AreStanding is_kind w history origin queue target number count =
+    (k : ℕ) → k < count → IsStanding is_kind w history origin queue target (number + k)
 
 -- a purge of a queue by a caller of its origin that was answered with done (queue_purge)
 abbrev pub is_purge_of : ℕ → ℕ → Event → Bool

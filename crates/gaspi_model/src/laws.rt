@@ -8,7 +8,7 @@ ghost use Rattle.gaspi_types.specs.Replies.{is_idle, same_reply};
 ghost use Rattle.std.specs.List.{list_any, count_by};
 ghost use Rattle.gaspi_types.specs.World.{World, IsWorld, is_caller};
 ghost use Rattle.gaspi_types.specs.declared.calls.Call.{Call};
-ghost use Rattle.gaspi_types.specs.declared.calls.Call.TheVariants.{Alloc, Register, Delete, Store, Load, Write, Read, Notify, WriteNotify, ReadNotify, Wait, Purge, Qsize, Waitsome, Reset, FetchAdd, CompareSwap, End};
+ghost use Rattle.gaspi_types.specs.declared.calls.Call.TheVariants.{Alloc, Register, Delete, Store, Load, Write, Read, Notify, WriteNotify, ReadNotify, WriteList, WriteListNotify, ReadList, ReadListNotify, Wait, Purge, Qsize, Waitsome, Reset, FetchAdd, CompareSwap, End};
 ghost use Rattle.gaspi_types.specs.declared.calls.Call.TheVariants as calls;
 ghost use Rattle.gaspi_types.specs.SegmentBytes.{range_of};
 ghost use Rattle.gaspi_types.specs.SegmentWords.{word_at};
@@ -28,6 +28,10 @@ ghost use Rattle.gaspi_types.specs.declared.calls.posts.Read as read;
 ghost use Rattle.gaspi_types.specs.declared.calls.posts.Notify as notify;
 ghost use Rattle.gaspi_types.specs.declared.calls.posts.WriteNotify as write_notify;
 ghost use Rattle.gaspi_types.specs.declared.calls.posts.ReadNotify as read_notify;
+ghost use Rattle.gaspi_types.specs.declared.calls.posts.WriteList as write_list;
+ghost use Rattle.gaspi_types.specs.declared.calls.posts.WriteListNotify as write_list_notify;
+ghost use Rattle.gaspi_types.specs.declared.calls.posts.ReadList as read_list;
+ghost use Rattle.gaspi_types.specs.declared.calls.posts.ReadListNotify as read_list_notify;
 ghost use Rattle.gaspi_types.specs.declared.calls.atomics.FetchAdd as fetch_add;
 ghost use Rattle.gaspi_types.specs.declared.calls.atomics.CompareSwap as compare_swap;
 ghost use Rattle.gaspi_types.specs.declared.events.Event.{Event};
@@ -41,7 +45,8 @@ ghost use Rattle.gaspi_types.specs.declared.replies.Reply.TheVariants as replies
 ghost use Rattle.gaspi_types.specs.declared.shapes.CallerId.{CallerId};
 ghost use Rattle.gaspi_model.specs.Calls.{recorded_reply};
 ghost use Rattle.gaspi_model.specs.Changes.{IsOnlyCounted, IsAnswered, IsRead, AreSlotsRead, IsReset, IsWaited, IsPurged, IsSizeAnswered, IsStateAnswered, IsMade, IsGone, IsPutDone, IsFailed, IsTaken, IsRegistered, IsWritten, is_corrupt, may_take_fail, may_put_fail};
-ghost use Rattle.gaspi_model.specs.Order.{IsNotificationStanding, IsReadNoteStanding, IsReadStanding, IsWriteStanding, is_purge_of};
+ghost use Rattle.gaspi_types.specs.Lanes.{is_write, is_read};
+ghost use Rattle.gaspi_model.specs.Order.{AreStanding, IsNotificationStanding, IsReadNoteStanding, IsReadStanding, IsWriteStanding, is_purge_of};
 ghost use Rattle.gaspi_model.specs.Shards.{AgreeOn, ComeToSame, HaveSamePart, is_shard, same_shard, footprint, numbers_of, is_among};
 ghost use Rattle.gaspi_model.specs.declared.states.Shard.{Shard};
 ghost use Rattle.gaspi_model.specs.declared.states.Shard.TheVariants as shards;
@@ -151,7 +156,7 @@ pub fn corruption()
 {}
 
 /// A notification comes after the earlier writes of its lane since the queue's last purge. The entries of a post stand in
-/// their lane from the post on. In a legal history, where a write stands in a lane after some events, and later a
+/// their lane from the post on, those of a list in the order of its items, with its notification behind them. In a legal history, where a write stands in a lane after some events, and later a
 /// notification of that lane with a greater number is put, and in between no purge of that queue by a caller of that origin
 /// was done, the write was put in between. So it is with reads and their notifications. (GASPI: notification order,
 /// queue_purge)
@@ -178,6 +183,24 @@ pub fn notification_order()
         → is_legal w (history ++ Called c (ReadNotify call) replies.Done ∷ []) ≡ true
         → IsReadStanding w (history ++ Called c (ReadNotify call) replies.Done ∷ []) c.rank call.queue call.rank posts.next
         × IsReadNoteStanding w (history ++ Called c (ReadNotify call) replies.Done ∷ []) c.rank call.queue call.rank (posts.next + 1) }
+    ensures write_list { (w : World) (history : List Event) (c : CallerId) (call : write_list.WriteList) (s : State) (posts : Posts)
+        → IsWorld w → reached w history ≡ Ok s → slice_get s.posts c.rank ≡ Some posts
+        → is_legal w (history ++ Called c (WriteList call) replies.Done ∷ []) ≡ true
+        → AreStanding is_write w (history ++ Called c (WriteList call) replies.Done ∷ []) c.rank call.queue call.rank posts.next (length call.items) }
+    ensures read_list { (w : World) (history : List Event) (c : CallerId) (call : read_list.ReadList) (s : State) (posts : Posts)
+        → IsWorld w → reached w history ≡ Ok s → slice_get s.posts c.rank ≡ Some posts
+        → is_legal w (history ++ Called c (ReadList call) replies.Done ∷ []) ≡ true
+        → AreStanding is_read w (history ++ Called c (ReadList call) replies.Done ∷ []) c.rank call.queue call.rank posts.next (length call.items) }
+    ensures write_list_notify { (w : World) (history : List Event) (c : CallerId) (call : write_list_notify.WriteListNotify) (s : State) (posts : Posts)
+        → IsWorld w → reached w history ≡ Ok s → slice_get s.posts c.rank ≡ Some posts
+        → is_legal w (history ++ Called c (WriteListNotify call) replies.Done ∷ []) ≡ true
+        → AreStanding is_write w (history ++ Called c (WriteListNotify call) replies.Done ∷ []) c.rank call.queue call.rank posts.next (length call.items)
+        × IsNotificationStanding w (history ++ Called c (WriteListNotify call) replies.Done ∷ []) c.rank call.queue call.rank (posts.next + length call.items) }
+    ensures read_list_notify { (w : World) (history : List Event) (c : CallerId) (call : read_list_notify.ReadListNotify) (s : State) (posts : Posts)
+        → IsWorld w → reached w history ≡ Ok s → slice_get s.posts c.rank ≡ Some posts
+        → is_legal w (history ++ Called c (ReadListNotify call) replies.Done ∷ []) ≡ true
+        → AreStanding is_read w (history ++ Called c (ReadListNotify call) replies.Done ∷ []) c.rank call.queue call.rank posts.next (length call.items)
+        × IsReadNoteStanding w (history ++ Called c (ReadListNotify call) replies.Done ∷ []) c.rank call.queue call.rank (posts.next + length call.items) }
     ensures order { (w : World) (earlier later rest : List Event) (origin queue target m n : ℕ)
         → is_legal w (earlier ++ later ++ Put origin queue target n Applied ∷ rest) ≡ true
         → IsWriteStanding w earlier origin queue target m → IsNotificationStanding w (earlier ++ later) origin queue target n → m < n
@@ -196,7 +219,7 @@ pub fn prefixes()
 {}
 
 /// An event is a matter of its shards: the posts of its owner's rank, and with them at most the memory or the posts that it
-/// touches; a post and a wait have their owner's posts alone. It leaves every other shard as it was; whether it is a step,
+/// touches; a post, a wait, a purge, the size of a queue and the state vector have their owner's posts alone. It leaves every other shard as it was; whether it is a step,
 /// the cause where it is none, and the new parts of its shards depend on the limits and on those parts alone; and which
 /// shards it has, its owner's posts among them and none twice, depends on the limits, on its owner's posts and on the event
 /// without its reply.
@@ -210,6 +233,9 @@ pub fn locality()
     ensures posting { (s : State) (c : CallerId) (call : Call) (reply : Reply) (to : Posting) → (row_of call).posting ≡ Some to
         → footprint s (Called c call reply) ≡ shards.Posts c.rank ∷ [] }
     ensures waiting { (s : State) (c : CallerId) (call : wait.Wait) (reply : Reply) → footprint s (Called c (Wait call) reply) ≡ shards.Posts c.rank ∷ [] }
+    ensures purging { (s : State) (c : CallerId) (call : purge.Purge) (reply : Reply) → footprint s (Called c (Purge call) reply) ≡ shards.Posts c.rank ∷ [] }
+    ensures sizing { (s : State) (c : CallerId) (call : qsize.Qsize) (reply : Reply) → footprint s (Called c (Qsize call) reply) ≡ shards.Posts c.rank ∷ [] }
+    ensures state { (s : State) (c : CallerId) (reply : Reply) → footprint s (Called c calls.State reply) ≡ shards.Posts c.rank ∷ [] }
     ensures once { (s : State) (e : Event) (shard : Shard) → count_by (λ x. same_shard x shard) (footprint s e) ≤ 1 }
 {}
 

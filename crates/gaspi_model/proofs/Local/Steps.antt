@@ -8,8 +8,11 @@ use Rattle.gaspi_types.specs.Touches.{reach_of}
 use Rattle.gaspi_types.specs.declared.shapes.CallerId.{CallerId}
 use Rattle.gaspi_types.specs.declared.shapes.Limits.{Limits}
 use Rattle.gaspi_types.specs.declared.calls.Call.{Call}
-use Rattle.gaspi_types.specs.declared.calls.Call.TheVariants.{Write, Read, Notify, WriteNotify, ReadNotify, Wait}
+use Rattle.gaspi_types.specs.declared.calls.Call.TheVariants.{Write, Read, Notify, WriteNotify, ReadNotify, WriteList, WriteListNotify, ReadList, ReadListNotify, Wait}
+use Rattle.gaspi_types.specs.declared.calls.Call.TheVariants as calls
 use Rattle.gaspi_types.specs.declared.calls.queues.Wait as wait
+use Rattle.gaspi_types.specs.declared.calls.queues.Purge as purge
+use Rattle.gaspi_types.specs.declared.calls.queues.Qsize as qsize
 use Rattle.gaspi_types.specs.declared.call_rows.Posting.{Posting}
 use Rattle.gaspi_types.specs.declared.replies.Reply.{Reply}
 use Rattle.gaspi_types.specs.declared.events.Event.{Event}
@@ -108,6 +111,10 @@ posting-reaches-none (Read call) to is = refl
 posting-reaches-none (Notify call) to is = refl
 posting-reaches-none (WriteNotify call) to is = refl
 posting-reaches-none (ReadNotify call) to is = refl
+posting-reaches-none (WriteList call) to is = refl
+posting-reaches-none (WriteListNotify call) to is = refl
+posting-reaches-none (ReadList call) to is = refl
+posting-reaches-none (ReadListNotify call) to is = refl
 posting-reaches-none call to is = absurd (let no : ⊥ = cc in no)
 
 untouched : (s : State) (c : CallerId) (call : Call) (reply : Reply) → (row_of call).touch ≡ touches.Nothing → footprint s (Called c call reply) ≡ shards.Posts c.rank ∷ []
@@ -122,6 +129,15 @@ posting-alone s c call reply to posts = untouched s c call reply (posting-reache
 
 pub wait-alone : (s : State) (c : CallerId) (call : wait.Wait) (reply : Reply) → footprint s (Called c (Wait call) reply) ≡ shards.Posts c.rank ∷ []
 wait-alone s c call reply = untouched s c (Wait call) reply refl
+
+pub purge-alone : (s : State) (c : CallerId) (call : purge.Purge) (reply : Reply) → footprint s (Called c (calls.Purge call) reply) ≡ shards.Posts c.rank ∷ []
+purge-alone s c call reply = untouched s c (calls.Purge call) reply refl
+
+pub qsize-alone : (s : State) (c : CallerId) (call : qsize.Qsize) (reply : Reply) → footprint s (Called c (calls.Qsize call) reply) ≡ shards.Posts c.rank ∷ []
+qsize-alone s c call reply = untouched s c (calls.Qsize call) reply refl
+
+pub state-alone : (s : State) (c : CallerId) (reply : Reply) → footprint s (Called c calls.State reply) ≡ shards.Posts c.rank ∷ []
+state-alone s c reply = untouched s c calls.State reply refl
 
 -- Coarser shards.
 

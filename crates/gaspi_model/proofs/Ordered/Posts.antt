@@ -1,9 +1,9 @@
 -- The entries of a post that is done stand in its lane.
-use Rattle.std.proofs.Common.{◌≡◌, ℕ, ◌+◌, ◌<◌, true, List, [], ◌∷◌, ◌++◌, length, Option, None, Some, Result, Ok, refl, sym, ap, ◌∙◌, subst, arith}
+use Rattle.std.proofs.Common.{◌≡◌, ℕ, zero, suc, ◌+◌, ◌<◌, Bool, true, List, [], ◌∷◌, ◌++◌, length, Option, None, Some, Result, Ok, refl, sym, ap, ◌∙◌, subst, arith}
 use Rattle.std.specs.List.{slice_get, slice_set}
 use Rattle.std.proofs.lemmas.Bool.{ltb-true}
 use Rattle.gaspi_types.specs.Lanes.{posted_entries}
-use Rattle.gaspi_types.specs.Posts.{slot_in, write_kinds, read_kinds, notify_kinds, write_notify_kinds, read_notify_kinds}
+use Rattle.gaspi_types.specs.Posts.{slot_in, write_item, read_item, write_notify_item, read_notify_item, transfer_kind, write_kinds, read_kinds, notify_kinds, write_notify_kinds, read_notify_kinds, write_list_kinds, write_list_notify_kinds, read_list_kinds, read_list_notify_kinds}
 use Rattle.gaspi_types.specs.World.{World, IsWorld}
 use Rattle.gaspi_types.specs.declared.entries.Entry.{Entry}
 use Rattle.gaspi_types.specs.declared.entries.Kind.{Kind}
@@ -17,6 +17,15 @@ use Rattle.gaspi_types.specs.declared.calls.posts.Read as read
 use Rattle.gaspi_types.specs.declared.calls.posts.Notify as notify
 use Rattle.gaspi_types.specs.declared.calls.posts.WriteNotify as write_notify
 use Rattle.gaspi_types.specs.declared.calls.posts.ReadNotify as read_notify
+use Rattle.gaspi_types.specs.declared.calls.posts.WriteList as write_list
+use Rattle.gaspi_types.specs.declared.calls.posts.WriteListNotify as write_list_notify
+use Rattle.gaspi_types.specs.declared.calls.posts.ReadList as read_list
+use Rattle.gaspi_types.specs.declared.calls.posts.ReadListNotify as read_list_notify
+use Rattle.gaspi_types.specs.declared.calls.posts.Item.{Item}
+use Rattle.gaspi_types.specs.declared.entries.Direction.{Direction}
+use Rattle.gaspi_types.specs.declared.entries.Direction.TheVariants.{Outward, Inward}
+use Rattle.gaspi_types.specs.declared.entries.Ends.{Ends}
+use Rattle.gaspi_types.specs.declared.segments.Extent.{Extent}
 use Rattle.gaspi_types.specs.declared.shapes.Limits.{Limits}
 use Rattle.gaspi_types.specs.declared.replies.Refusal.{Refusal}
 use Rattle.gaspi_types.specs.declared.replies.Reply.TheVariants as replies
@@ -31,17 +40,18 @@ use Rattle.gaspi_model.specs.Transfers.{Worked, find_entry}
 use Rattle.gaspi_model.specs.Step.{step, reached, is_legal}
 use Rattle.gaspi_model.specs.Shards.{standing}
 use Rattle.gaspi_model.specs.Sound.{IsSound}
-use Rattle.gaspi_model.specs.Order.{IsWriteStanding, IsReadStanding, IsNotificationStanding, IsReadNoteStanding}
+use Rattle.gaspi_types.specs.Lanes.{is_write, is_read, is_notify, is_read_note}
+use Rattle.gaspi_model.specs.Order.{IsStanding, AreStanding, IsWriteStanding, IsReadStanding, IsNotificationStanding, IsReadNoteStanding}
 use Rattle.gaspi_types.specs.declared.entries.Queue.{Queue}
 use Rattle.gaspi_model.specs.declared.states.Posts.{Posts}
 use Rattle.gaspi_model.specs.declared.states.Memory.{Memory}
 use Rattle.gaspi_model.specs.declared.states.State.{State}
 use Rattle.gaspi_model.specs.declared.states.Why.{Why}
 use Rattle.gaspi_model.specs.declared.states.Why.TheVariants as whys
-use Rattle.gaspi_model.proofs.Asked.{write-ok, read-ok, notify-ok, write_notify-ok, read_notify-ok}
+use Rattle.gaspi_model.proofs.Asked.{AreTransfers, near_in, far_in, transfers-length, alone-ok, AreNotedWrites, noted_writes-ok, AreNotedReads, noted_reads-ok, listed-ok}
 use Rattle.gaspi_model.proofs.Made.{step-called}
 use Rattle.gaspi_model.proofs.Same.{same_reply-same}
-use Rattle.gaspi_types.proofs.Items.{slice_get-set_same, past-none, behind-of-joined}
+use Rattle.gaspi_types.proofs.Items.{slice_get-set_same, past-none, front-of-joined, behind-of-joined}
 use Rattle.gaspi_model.proofs.Sound.Rising.{place_of-rising}
 use Rattle.gaspi_model.proofs.Sound.Accounts.{post-ok}
 use Rattle.gaspi_model.proofs.FoundReplies.{found-reply}
@@ -133,44 +143,122 @@ after-post w history c call rank queue s posts asked world h hp so legal =
       leaves = post-leaves s last.0 c call rank queue posts asked (reached-sound w history s world h) hp so step_s;
     }
 
+-- the entry at a place of those of a post
+posted-at : (next : ℕ) (kinds : List Kind) (k : ℕ) (kind : Kind) → slice_get kinds k ≡ Some kind
+    → slice_get (posted_entries next kinds) k ≡ Some (record { number = next + k; kind = kind; phase = phases.Posted })
+posted-at next [] k kind at = absurd (let no : ⊥ = cc in no)
+posted-at next (x ∷ kinds) zero kind at =
+    let same : x ≡ kind = cc in
+    let number : next ≡ next + 0 = omega arith in
+    ap (λ (y : Kind). Some (record { number = next; kind = y; phase = phases.Posted })) same ∙ ap (λ (n : ℕ). Some (record { number = n; kind = kind; phase = phases.Posted })) number
+posted-at next (x ∷ kinds) (suc k) kind at =
+    let number : next + 1 + k ≡ next + suc k = omega arith in
+    posted-at (next + 1) kinds k kind at ∙ ap (λ (n : ℕ). Some (record { number = n; kind = kind; phase = phases.Posted })) number
+
+-- an entry of a post stands after it
+stands-at : (is_kind : Entry → Bool) (w : World) (history : List Event) (c : CallerId) (call : Call) (rank queue next : ℕ) (asked : Result (List Kind) Refusal) (k : ℕ) (kind : Kind)
+    → (a : AfterPost w history c call rank queue next asked) → slice_get a.leaves.kinds k ≡ Some kind → is_kind (record { number = next + k; kind = kind; phase = phases.Posted }) ≡ true
+    → IsStanding is_kind w (history ++ Called c call replies.Done ∷ []) c.rank queue rank (next + k)
+stands-at is_kind w history c call rank queue next asked k kind a at is =
+    let e : Entry = record { number = next + k; kind = kind; phase = phases.Posted } in
+    record { state = a.state; entry = e; leads = a.leads_to; stands = a.leaves.stand k e (posted-at next a.leaves.kinds k kind at); kind = is }
+
+-- the transfers of a post
+transfer-at : (direction : Direction) (near far : ℕ → Option Extent) (items : List Item) (kinds : List Kind) (k : ℕ) → AreTransfers direction near far items kinds → k < length items
+    → (ends : Ends) × (slice_get kinds k ≡ Some (transfer_kind direction ends))
+transfer-at direction near far [] [] k are less = absurd (let no : ⊥ = omega arith in no)
+transfer-at direction near far [] (kind ∷ kinds) k are less = absurd are
+transfer-at direction near far (item ∷ items) [] k are less = absurd are
+transfer-at direction near far (item ∷ items) (kind ∷ kinds) zero are less = (are.0.ends, ap (λ (x : Kind). Some x) are.0.is)
+transfer-at direction near far (item ∷ items) (kind ∷ kinds) (suc k) are less = transfer-at direction near far items kinds k are.1 (omega arith)
+
+-- of a kind as a transfer's
+abbrev IsKindOf : Direction → (Entry → Bool) → Type 0
+IsKindOf direction is_kind = (n : ℕ) (ends : Ends) → is_kind (record { number = n; kind = transfer_kind direction ends; phase = phases.Posted }) ≡ true
+
+transfers-stand : (direction : Direction) (is_kind : Entry → Bool) (near far : ℕ → Option Extent) (items : List Item) (transfers rest : List Kind)
+    → (w : World) (history : List Event) (c : CallerId) (call : Call) (rank queue next : ℕ) (asked : Result (List Kind) Refusal) (a : AfterPost w history c call rank queue next asked)
+    → IsKindOf direction is_kind → AreTransfers direction near far items transfers → a.leaves.kinds ≡ transfers ++ rest
+    → AreStanding is_kind w (history ++ Called c call replies.Done ∷ []) c.rank queue rank next (length items)
+transfers-stand direction is_kind near far items transfers rest w history c call rank queue next asked a kinds are is k less =
+    let many = transfers-length direction near far items transfers are in
+    let at = transfer-at direction near far items transfers k are less in
+    let there : slice_get a.leaves.kinds k ≡ Some (transfer_kind direction at.0) =
+    ap (λ (x : List Kind). slice_get x k) is ∙ front-of-joined transfers rest k (omega arith) ∙ at.1 in
+    stands-at is_kind w history c call rank queue next asked k (transfer_kind direction at.0) a there (kinds (next + k) at.0)
+
+-- and a notification behind them
+note-stands : (direction : Direction) (is_kind : Entry → Bool) (near far : ℕ → Option Extent) (items : List Item) (transfers : List Kind) (note : Kind)
+    → (w : World) (history : List Event) (c : CallerId) (call : Call) (rank queue next : ℕ) (asked : Result (List Kind) Refusal) (a : AfterPost w history c call rank queue next asked)
+    → ((n : ℕ) → is_kind (record { number = n; kind = note; phase = phases.Posted }) ≡ true) → AreTransfers direction near far items transfers → a.leaves.kinds ≡ transfers ++ note ∷ []
+    → IsStanding is_kind w (history ++ Called c call replies.Done ∷ []) c.rank queue rank (next + length items)
+note-stands direction is_kind near far items transfers note w history c call rank queue next asked a kind are is =
+    let many = transfers-length direction near far items transfers are in
+    let there : slice_get a.leaves.kinds (length items) ≡ Some note =
+    ap (λ (x : List Kind). slice_get x (length items)) is ∙ behind-of-joined transfers (note ∷ []) 0 (length items) (omega arith) in
+    stands-at is_kind w history c call rank queue next asked (length items) note a there (kind (next + length items))
+
+-- transfers alone have nothing behind them
+nothing-behind : (kinds : List Kind) → kinds ≡ kinds ++ []
+nothing-behind [] = refl
+nothing-behind (kind ∷ kinds) = ap (λ (rest : List Kind). kind ∷ rest) (nothing-behind kinds)
+
+-- the number of the first
+first-of : (is_kind : Entry → Bool) (w : World) (history : List Event) (origin queue target next : ℕ) (count : ℕ) → 0 < count → AreStanding is_kind w history origin queue target next count
+    → IsStanding is_kind w history origin queue target next
+first-of is_kind w history origin queue target next count some all =
+    let number : next + 0 ≡ next = omega arith in
+    subst (λ (n : ℕ). IsStanding is_kind w history origin queue target n) number (all 0 some)
+
+writes : IsKindOf Outward is_write
+writes n ends = refl
+
+reads : IsKindOf Inward is_read
+reads n ends = refl
+
 pub posted-write : (w : World) (history : List Event) (c : CallerId) (call : write.Write) (s : State) (posts : Posts) → IsWorld w → reached w history ≡ Ok s
     → slice_get s.posts c.rank ≡ Some posts → is_legal w (history ++ Called c (calls.Write call) replies.Done ∷ []) ≡ true
     → IsWriteStanding w (history ++ Called c (calls.Write call) replies.Done ∷ []) c.rank call.queue call.rank posts.next
 posted-write w history c call s posts world h hp legal =
-    let a = after-post w history c (calls.Write call) call.rank call.queue s posts (write_kinds c.rank posts.segments call) world h hp (record { finds = λ memory. refl; leaves = refl }) legal in
-    let k = write-ok c.rank posts.segments call a.leaves.kinds a.leaves.asks in
-    let first : Entry = record { number = posts.next; kind = Write k.ends.own k.ends.target; phase = phases.Posted } in
-    record { state = a.state; entry = first; leads = a.leads_to; stands = a.leaves.stand 0 first (ap (λ (ks : List Kind). slice_get (posted_entries posts.next ks) 0) k.is); kind = refl }
+    let asked = write_kinds c.rank posts.segments call in
+    let a = after-post w history c (calls.Write call) call.rank call.queue s posts asked world h hp (record { finds = λ memory. refl; leaves = refl }) legal in
+    let are = alone-ok Outward c.rank posts.segments call.rank (write_item call ∷ []) a.leaves.kinds a.leaves.asks in
+    first-of is_write w (history ++ Called c (calls.Write call) replies.Done ∷ []) c.rank call.queue call.rank posts.next 1 (omega arith)
+    (transfers-stand Outward is_write (near_in posts.segments) (far_in c.rank posts.segments call.rank) (write_item call ∷ []) a.leaves.kinds [] w history c (calls.Write call) call.rank call.queue posts.next asked a writes are (nothing-behind a.leaves.kinds))
 
 pub posted-read : (w : World) (history : List Event) (c : CallerId) (call : read.Read) (s : State) (posts : Posts) → IsWorld w → reached w history ≡ Ok s
     → slice_get s.posts c.rank ≡ Some posts → is_legal w (history ++ Called c (calls.Read call) replies.Done ∷ []) ≡ true
     → IsReadStanding w (history ++ Called c (calls.Read call) replies.Done ∷ []) c.rank call.queue call.rank posts.next
 posted-read w history c call s posts world h hp legal =
-    let a = after-post w history c (calls.Read call) call.rank call.queue s posts (read_kinds c.rank posts.segments call) world h hp (record { finds = λ memory. refl; leaves = refl }) legal in
-    let k = read-ok c.rank posts.segments call a.leaves.kinds a.leaves.asks in
-    let first : Entry = record { number = posts.next; kind = Read k.ends.own k.ends.target; phase = phases.Posted } in
-    record { state = a.state; entry = first; leads = a.leads_to; stands = a.leaves.stand 0 first (ap (λ (ks : List Kind). slice_get (posted_entries posts.next ks) 0) k.is); kind = refl }
+    let asked = read_kinds c.rank posts.segments call in
+    let a = after-post w history c (calls.Read call) call.rank call.queue s posts asked world h hp (record { finds = λ memory. refl; leaves = refl }) legal in
+    let are = alone-ok Inward c.rank posts.segments call.rank (read_item call ∷ []) a.leaves.kinds a.leaves.asks in
+    first-of is_read w (history ++ Called c (calls.Read call) replies.Done ∷ []) c.rank call.queue call.rank posts.next 1 (omega arith)
+    (transfers-stand Inward is_read (near_in posts.segments) (far_in c.rank posts.segments call.rank) (read_item call ∷ []) a.leaves.kinds [] w history c (calls.Read call) call.rank call.queue posts.next asked a reads are (nothing-behind a.leaves.kinds))
 
 pub posted-notify : (w : World) (history : List Event) (c : CallerId) (call : notify.Notify) (s : State) (posts : Posts) → IsWorld w → reached w history ≡ Ok s
     → slice_get s.posts c.rank ≡ Some posts → is_legal w (history ++ Called c (calls.Notify call) replies.Done ∷ []) ≡ true
     → IsNotificationStanding w (history ++ Called c (calls.Notify call) replies.Done ∷ []) c.rank call.queue call.rank posts.next
 posted-notify w history c call s posts world h hp legal =
-    let a = after-post w history c (calls.Notify call) call.rank call.queue s posts (notify_kinds s.limits.notes c.rank posts.segments call) world h hp (record { finds = λ memory. refl; leaves = refl }) legal in
-    let k = notify-ok s.limits.notes c.rank posts.segments call a.leaves.kinds a.leaves.asks in
-    let first : Entry = record { number = posts.next; kind = Notify (slot_in k.theirs call.rseg call.note) call.value; phase = phases.Posted } in
-    record { state = a.state; entry = first; leads = a.leads_to; stands = a.leaves.stand 0 first (ap (λ (ks : List Kind). slice_get (posted_entries posts.next ks) 0) k.is); kind = refl }
+    let asked = notify_kinds s.limits.notes c.rank posts.segments call in
+    let a = after-post w history c (calls.Notify call) call.rank call.queue s posts asked world h hp (record { finds = λ memory. refl; leaves = refl }) legal in
+    let k = noted_writes-ok s.limits.notes c.rank posts.segments call.rank [] call.rseg call.note call.value a.leaves.kinds a.leaves.asks in
+    let number : posts.next + 0 ≡ posts.next = omega arith in
+    subst (λ (n : ℕ). IsNotificationStanding w (history ++ Called c (calls.Notify call) replies.Done ∷ []) c.rank call.queue call.rank n) number
+    (note-stands Outward is_notify (near_in posts.segments) (far_in c.rank posts.segments call.rank) [] k.transfers (Notify (slot_in k.theirs call.rseg call.note) call.value) w history c (calls.Notify call) call.rank call.queue posts.next asked a (λ n. refl) k.are k.is)
 
 pub posted-write_notify : (w : World) (history : List Event) (c : CallerId) (call : write_notify.WriteNotify) (s : State) (posts : Posts) → IsWorld w → reached w history ≡ Ok s
     → slice_get s.posts c.rank ≡ Some posts → is_legal w (history ++ Called c (calls.WriteNotify call) replies.Done ∷ []) ≡ true
     → IsWriteStanding w (history ++ Called c (calls.WriteNotify call) replies.Done ∷ []) c.rank call.queue call.rank posts.next
     × IsNotificationStanding w (history ++ Called c (calls.WriteNotify call) replies.Done ∷ []) c.rank call.queue call.rank (posts.next + 1)
 posted-write_notify w history c call s posts world h hp legal =
-    let a = after-post w history c (calls.WriteNotify call) call.rank call.queue s posts (write_notify_kinds s.limits.notes c.rank posts.segments call) world h hp (record { finds = λ memory. refl; leaves = refl }) legal in
-    let k = write_notify-ok s.limits.notes c.rank posts.segments call a.leaves.kinds a.leaves.asks in
-    let first : Entry = record { number = posts.next; kind = Write k.ends.own k.ends.target; phase = phases.Posted } in
-    let second : Entry = record { number = posts.next + 1; kind = Notify (slot_in k.ends.theirs call.rseg call.note) call.value; phase = phases.Posted } in (
-      record { state = a.state; entry = first; leads = a.leads_to; stands = a.leaves.stand 0 first (ap (λ (ks : List Kind). slice_get (posted_entries posts.next ks) 0) k.is); kind = refl },
-      record { state = a.state; entry = second; leads = a.leads_to; stands = a.leaves.stand 1 second (ap (λ (ks : List Kind). slice_get (posted_entries posts.next ks) 1) k.is); kind = refl },
+    let asked = write_notify_kinds s.limits.notes c.rank posts.segments call in
+    let a = after-post w history c (calls.WriteNotify call) call.rank call.queue s posts asked world h hp (record { finds = λ memory. refl; leaves = refl }) legal in
+    let k = noted_writes-ok s.limits.notes c.rank posts.segments call.rank (write_notify_item call ∷ []) call.rseg call.note call.value a.leaves.kinds a.leaves.asks in
+    let note = Notify (slot_in k.theirs call.rseg call.note) call.value in (
+      first-of is_write w (history ++ Called c (calls.WriteNotify call) replies.Done ∷ []) c.rank call.queue call.rank posts.next 1 (omega arith)
+      (transfers-stand Outward is_write (near_in posts.segments) (far_in c.rank posts.segments call.rank) (write_notify_item call ∷ []) k.transfers (note ∷ []) w history c (calls.WriteNotify call) call.rank call.queue posts.next asked a writes k.are k.is),
+      note-stands Outward is_notify (near_in posts.segments) (far_in c.rank posts.segments call.rank) (write_notify_item call ∷ []) k.transfers note w history c (calls.WriteNotify call) call.rank call.queue posts.next asked a (λ n. refl) k.are k.is,
     )
 
 pub posted-read_notify : (w : World) (history : List Event) (c : CallerId) (call : read_notify.ReadNotify) (s : State) (posts : Posts) → IsWorld w → reached w history ≡ Ok s
@@ -178,10 +266,59 @@ pub posted-read_notify : (w : World) (history : List Event) (c : CallerId) (call
     → IsReadStanding w (history ++ Called c (calls.ReadNotify call) replies.Done ∷ []) c.rank call.queue call.rank posts.next
     × IsReadNoteStanding w (history ++ Called c (calls.ReadNotify call) replies.Done ∷ []) c.rank call.queue call.rank (posts.next + 1)
 posted-read_notify w history c call s posts world h hp legal =
-    let a = after-post w history c (calls.ReadNotify call) call.rank call.queue s posts (read_notify_kinds s.limits.notes c.rank posts.segments call) world h hp (record { finds = λ memory. refl; leaves = refl }) legal in
-    let k = read_notify-ok s.limits.notes c.rank posts.segments call a.leaves.kinds a.leaves.asks in
-    let first : Entry = record { number = posts.next; kind = Read k.ends.own k.ends.target; phase = phases.Posted } in
-    let second : Entry = record { number = posts.next + 1; kind = ReadNote (slot_in k.ends.mine call.seg call.note); phase = phases.Posted } in (
-      record { state = a.state; entry = first; leads = a.leads_to; stands = a.leaves.stand 0 first (ap (λ (ks : List Kind). slice_get (posted_entries posts.next ks) 0) k.is); kind = refl },
-      record { state = a.state; entry = second; leads = a.leads_to; stands = a.leaves.stand 1 second (ap (λ (ks : List Kind). slice_get (posted_entries posts.next ks) 1) k.is); kind = refl },
+    let asked = read_notify_kinds s.limits.notes c.rank posts.segments call in
+    let a = after-post w history c (calls.ReadNotify call) call.rank call.queue s posts asked world h hp (record { finds = λ memory. refl; leaves = refl }) legal in
+    let k = noted_reads-ok s.limits.notes c.rank posts.segments call.rank (read_notify_item call ∷ []) call.seg call.note a.leaves.kinds a.leaves.asks in
+    let note = ReadNote (slot_in k.mine call.seg call.note) in (
+      first-of is_read w (history ++ Called c (calls.ReadNotify call) replies.Done ∷ []) c.rank call.queue call.rank posts.next 1 (omega arith)
+      (transfers-stand Inward is_read (near_in posts.segments) (far_in c.rank posts.segments call.rank) (read_notify_item call ∷ []) k.transfers (note ∷ []) w history c (calls.ReadNotify call) call.rank call.queue posts.next asked a reads k.are k.is),
+      note-stands Inward is_read_note (near_in posts.segments) (far_in c.rank posts.segments call.rank) (read_notify_item call ∷ []) k.transfers note w history c (calls.ReadNotify call) call.rank call.queue posts.next asked a (λ n. refl) k.are k.is,
+    )
+
+pub posted-write_list : (w : World) (history : List Event) (c : CallerId) (call : write_list.WriteList) (s : State) (posts : Posts) → IsWorld w → reached w history ≡ Ok s
+    → slice_get s.posts c.rank ≡ Some posts → is_legal w (history ++ Called c (calls.WriteList call) replies.Done ∷ []) ≡ true
+    → AreStanding is_write w (history ++ Called c (calls.WriteList call) replies.Done ∷ []) c.rank call.queue call.rank posts.next (length call.items)
+posted-write_list w history c call s posts world h hp legal =
+    let asked = write_list_kinds c.rank posts.segments call in
+    let a = after-post w history c (calls.WriteList call) call.rank call.queue s posts asked world h hp (record { finds = λ memory. refl; leaves = refl }) legal in
+    let l = listed-ok call.items _ a.leaves.kinds a.leaves.asks in
+    let are = alone-ok Outward c.rank posts.segments call.rank call.items a.leaves.kinds l.1 in
+    transfers-stand Outward is_write (near_in posts.segments) (far_in c.rank posts.segments call.rank) call.items a.leaves.kinds [] w history c (calls.WriteList call) call.rank call.queue posts.next asked a writes are (nothing-behind a.leaves.kinds)
+
+pub posted-read_list : (w : World) (history : List Event) (c : CallerId) (call : read_list.ReadList) (s : State) (posts : Posts) → IsWorld w → reached w history ≡ Ok s
+    → slice_get s.posts c.rank ≡ Some posts → is_legal w (history ++ Called c (calls.ReadList call) replies.Done ∷ []) ≡ true
+    → AreStanding is_read w (history ++ Called c (calls.ReadList call) replies.Done ∷ []) c.rank call.queue call.rank posts.next (length call.items)
+posted-read_list w history c call s posts world h hp legal =
+    let asked = read_list_kinds c.rank posts.segments call in
+    let a = after-post w history c (calls.ReadList call) call.rank call.queue s posts asked world h hp (record { finds = λ memory. refl; leaves = refl }) legal in
+    let l = listed-ok call.items _ a.leaves.kinds a.leaves.asks in
+    let are = alone-ok Inward c.rank posts.segments call.rank call.items a.leaves.kinds l.1 in
+    transfers-stand Inward is_read (near_in posts.segments) (far_in c.rank posts.segments call.rank) call.items a.leaves.kinds [] w history c (calls.ReadList call) call.rank call.queue posts.next asked a reads are (nothing-behind a.leaves.kinds)
+
+pub posted-write_list_notify : (w : World) (history : List Event) (c : CallerId) (call : write_list_notify.WriteListNotify) (s : State) (posts : Posts) → IsWorld w → reached w history ≡ Ok s
+    → slice_get s.posts c.rank ≡ Some posts → is_legal w (history ++ Called c (calls.WriteListNotify call) replies.Done ∷ []) ≡ true
+    → AreStanding is_write w (history ++ Called c (calls.WriteListNotify call) replies.Done ∷ []) c.rank call.queue call.rank posts.next (length call.items)
+    × IsNotificationStanding w (history ++ Called c (calls.WriteListNotify call) replies.Done ∷ []) c.rank call.queue call.rank (posts.next + length call.items)
+posted-write_list_notify w history c call s posts world h hp legal =
+    let asked = write_list_notify_kinds s.limits.notes c.rank posts.segments call in
+    let a = after-post w history c (calls.WriteListNotify call) call.rank call.queue s posts asked world h hp (record { finds = λ memory. refl; leaves = refl }) legal in
+    let l = listed-ok call.items _ a.leaves.kinds a.leaves.asks in
+    let k = noted_writes-ok s.limits.notes c.rank posts.segments call.rank call.items call.nseg call.note call.value a.leaves.kinds l.1 in
+    let note = Notify (slot_in k.theirs call.nseg call.note) call.value in (
+      transfers-stand Outward is_write (near_in posts.segments) (far_in c.rank posts.segments call.rank) call.items k.transfers (note ∷ []) w history c (calls.WriteListNotify call) call.rank call.queue posts.next asked a writes k.are k.is,
+      note-stands Outward is_notify (near_in posts.segments) (far_in c.rank posts.segments call.rank) call.items k.transfers note w history c (calls.WriteListNotify call) call.rank call.queue posts.next asked a (λ n. refl) k.are k.is,
+    )
+
+pub posted-read_list_notify : (w : World) (history : List Event) (c : CallerId) (call : read_list_notify.ReadListNotify) (s : State) (posts : Posts) → IsWorld w → reached w history ≡ Ok s
+    → slice_get s.posts c.rank ≡ Some posts → is_legal w (history ++ Called c (calls.ReadListNotify call) replies.Done ∷ []) ≡ true
+    → AreStanding is_read w (history ++ Called c (calls.ReadListNotify call) replies.Done ∷ []) c.rank call.queue call.rank posts.next (length call.items)
+    × IsReadNoteStanding w (history ++ Called c (calls.ReadListNotify call) replies.Done ∷ []) c.rank call.queue call.rank (posts.next + length call.items)
+posted-read_list_notify w history c call s posts world h hp legal =
+    let asked = read_list_notify_kinds s.limits.notes c.rank posts.segments call in
+    let a = after-post w history c (calls.ReadListNotify call) call.rank call.queue s posts asked world h hp (record { finds = λ memory. refl; leaves = refl }) legal in
+    let l = listed-ok call.items _ a.leaves.kinds a.leaves.asks in
+    let k = noted_reads-ok s.limits.notes c.rank posts.segments call.rank call.items call.nseg call.note a.leaves.kinds l.1 in
+    let note = ReadNote (slot_in k.mine call.nseg call.note) in (
+      transfers-stand Inward is_read (near_in posts.segments) (far_in c.rank posts.segments call.rank) call.items k.transfers (note ∷ []) w history c (calls.ReadListNotify call) call.rank call.queue posts.next asked a reads k.are k.is,
+      note-stands Inward is_read_note (near_in posts.segments) (far_in c.rank posts.segments call.rank) call.items k.transfers note w history c (calls.ReadListNotify call) call.rank call.queue posts.next asked a (λ n. refl) k.are k.is,
     )

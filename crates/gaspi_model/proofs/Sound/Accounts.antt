@@ -11,7 +11,7 @@ use Rattle.gaspi_types.specs.declared.entries.Phase.TheVariants as phases
 use Rattle.gaspi_types.specs.CallRows.{row_of, is_end, entries_of}
 use Rattle.gaspi_types.specs.declared.call_rows.Posting.{Posting}
 use Rattle.gaspi_types.specs.declared.calls.Call.{Call}
-use Rattle.gaspi_types.specs.declared.calls.Call.TheVariants.{Write, Read, Notify, WriteNotify, ReadNotify, End}
+use Rattle.gaspi_types.specs.declared.calls.Call.TheVariants.{Write, Read, Notify, WriteNotify, ReadNotify, WriteList, WriteListNotify, ReadList, ReadListNotify, End}
 use Rattle.gaspi_types.specs.declared.shapes.Limits.{Limits}
 use Rattle.gaspi_model.specs.Calls.{call_asks}
 use Rattle.gaspi_types.specs.declared.events.Outcome.{Outcome}
@@ -30,7 +30,7 @@ use Rattle.gaspi_types.specs.declared.replies.Reply.TheVariants as replies
 use Rattle.gaspi_types.specs.declared.replies.Refusal.{Refusal}
 use Rattle.gaspi_types.specs.declared.replies.Refusal.TheVariants.{BadRank, BadQueue, QueueBroken}
 use Rattle.gaspi_types.proofs.Chains.{both, bind_then, check_then, found_then, absent_then, same_Ok}
-use Rattle.gaspi_model.proofs.Asked.{write-ok, read-ok, notify-ok, write_notify-ok, read_notify-ok}
+use Rattle.gaspi_model.proofs.Asked.{asked-by, entries-few}
 use Rattle.gaspi_model.proofs.Made.{IsTake, IsPut}
 use Rattle.gaspi_types.proofs.Items.{sum_by-changed, changed_at-found}
 use Rattle.gaspi_model.proofs.FoundEntries.{IsFound, with_lane, with_phase, queue_with_failed, failed_with}
@@ -127,30 +127,24 @@ put-owed posts memory queue target number Failed after at h =
 -- a call that posts asks for as many entries as its row says
 pub asks-counted : (limits : Limits) (me : ℕ) (posts : Posts) (call : Call) (to : Posting) (kinds : List Kind) → (row_of call).posting ≡ Some to
     → call_asks limits me posts call ≡ Ok kinds → length kinds ≡ to.entries
-asks-counted limits me posts (Write call) to kinds is h =
-    ap length (write-ok me posts.segments call kinds h).is ∙ (let same : ◌≡◌ {A = Posting} (record { entries = 1; rank = call.rank; queue = call.queue }) to = cc in ap (λ (p : Posting). p.entries) same)
-asks-counted limits me posts (Read call) to kinds is h =
-    ap length (read-ok me posts.segments call kinds h).is ∙ (let same : ◌≡◌ {A = Posting} (record { entries = 1; rank = call.rank; queue = call.queue }) to = cc in ap (λ (p : Posting). p.entries) same)
-asks-counted limits me posts (Notify call) to kinds is h =
-    ap length (notify-ok limits.notes me posts.segments call kinds h).is ∙ (let same : ◌≡◌ {A = Posting} (record { entries = 1; rank = call.rank; queue = call.queue }) to = cc in ap (λ (p : Posting). p.entries) same)
-asks-counted limits me posts (WriteNotify call) to kinds is h =
-    ap length (write_notify-ok limits.notes me posts.segments call kinds h).is ∙ (let same : ◌≡◌ {A = Posting} (record { entries = 2; rank = call.rank; queue = call.queue }) to = cc in ap (λ (p : Posting). p.entries) same)
-asks-counted limits me posts (ReadNotify call) to kinds is h =
-    ap length (read_notify-ok limits.notes me posts.segments call kinds h).is ∙ (let same : ◌≡◌ {A = Posting} (record { entries = 2; rank = call.rank; queue = call.queue }) to = cc in ap (λ (p : Posting). p.entries) same)
-asks-counted limits me posts other to kinds is h = absurd (let no : ⊥ = cc in no)
+asks-counted limits me posts call to kinds is h = (asked-by limits.notes me posts.segments call to kinds is h).count
 
 -- and is no end
 pub posting-goes_on : (call : Call) (to : Posting) → (row_of call).posting ≡ Some to → is_end call ≡ false
 posting-goes_on End to is = absurd (let no : ⊥ = cc in no)
 posting-goes_on other to is = refl
 
--- it appends at most two
-pub few-posted : (call : Call) → entries_of call ≤ 2
+-- it asks for at most one entry more than a list may have items
+pub few-posted : (call : Call) → entries_of call ≤ 257
 few-posted (Write call) = omega arith
 few-posted (Read call) = omega arith
 few-posted (Notify call) = omega arith
 few-posted (WriteNotify call) = omega arith
 few-posted (ReadNotify call) = omega arith
+few-posted (WriteList call) = let few = entries-few (length call.items) 0 in omega (arith, few)
+few-posted (WriteListNotify call) = let few = entries-few (length call.items) 1 in omega (arith, few)
+few-posted (ReadList call) = let few = entries-few (length call.items) 0 in omega (arith, few)
+few-posted (ReadListNotify call) = let few = entries-few (length call.items) 1 in omega (arith, few)
 few-posted other = omega arith
 
 -- a post that was taken

@@ -3,7 +3,7 @@ use Rattle.std.proofs.Common.{◌≡◌, ℕ, zero, suc, ◌+◌, Bool, true, fa
 use Rattle.std.specs.List.{slice_get, slice_set}
 use Rattle.std.proofs.lemmas.Bool.{leb-true, ltb-true, eqb-true}
 use Rattle.gaspi_types.specs.Lanes.{posted_entries}
-use Rattle.gaspi_types.specs.Posts.{slot_in, write_item, read_item, write_notify_item, read_notify_item, write_kinds, read_kinds, notify_kinds, write_notify_kinds, read_notify_kinds}
+use Rattle.gaspi_types.specs.Posts.{slot_in}
 use Rattle.gaspi_types.specs.SegmentTables.{extent_in, known_extent}
 use Rattle.gaspi_types.specs.SegmentBytes.{is_within}
 use Rattle.gaspi_types.specs.declared.entries.Entry.{Entry}
@@ -17,13 +17,9 @@ use Rattle.gaspi_types.specs.declared.entries.Phase.TheVariants as phases
 use Rattle.gaspi_types.specs.CallRows.{row_of}
 use Rattle.gaspi_types.specs.declared.call_rows.Posting.{Posting}
 use Rattle.gaspi_types.specs.declared.calls.Call.{Call}
-use Rattle.gaspi_types.specs.declared.calls.Call.TheVariants.{Write, Read, Notify, WriteNotify, ReadNotify}
 use Rattle.gaspi_types.specs.declared.calls.posts.Item.{Item}
-use Rattle.gaspi_types.specs.declared.calls.posts.Write as write
-use Rattle.gaspi_types.specs.declared.calls.posts.Read as read
-use Rattle.gaspi_types.specs.declared.calls.posts.Notify as notify
-use Rattle.gaspi_types.specs.declared.calls.posts.WriteNotify as write_notify
-use Rattle.gaspi_types.specs.declared.calls.posts.ReadNotify as read_notify
+use Rattle.gaspi_types.specs.declared.entries.Direction.{Direction}
+use Rattle.gaspi_types.specs.declared.entries.Direction.TheVariants.{Outward, Inward}
 use Rattle.gaspi_types.specs.declared.entries.Ends.{Ends}
 use Rattle.gaspi_types.specs.declared.shapes.Limits.{Limits}
 use Rattle.gaspi_types.specs.declared.replies.Refusal.{Refusal}
@@ -41,7 +37,7 @@ use Rattle.gaspi_types.specs.declared.entries.Queue.{Queue}
 use Rattle.gaspi_model.proofs.Sound.OpenCounts.{emptied-lane}
 use Rattle.gaspi_model.specs.declared.states.Posts.{Posts}
 use Rattle.gaspi_model.specs.declared.states.Memory.{Memory}
-use Rattle.gaspi_model.proofs.Asked.{AreEnds, write-ok, read-ok, notify-ok, write_notify-ok, read_notify-ok}
+use Rattle.gaspi_model.proofs.Asked.{AreEnds, IsTransfer, AreTransfers, AreNotedWrites, AreNotedReads, IsAsked, Alone, NotedWrites, NotedReads, asked-by, near_in, far_in}
 use Rattle.gaspi_types.proofs.Items.{slice_get-set, append-parts, remove-part}
 use Rattle.gaspi_types.proofs.Extents.{extent-at}
 use Rattle.gaspi_types.proofs.Written.{range_of-length, segment-behind, extent-there, there-in-generation}
@@ -206,7 +202,8 @@ posted-fit notes mine theirs (kind ∷ kinds) number (suc place) e fit at = post
 
 -- the ends of a transfer, as they were checked
 ends-fit : (me : ℕ) (own : Tables) (known : List (List (Option Extent))) (tables : List Tables) (rank : ℕ) (item : Item) (ends : Ends) (theirs : Tables)
-    → MayPost tables me own known → slice_get tables rank ≡ Some theirs → AreEnds me (table_with own known) rank item ends → HasTarget theirs ends.own ends.target × LiesIn own.own ends.own
+    → MayPost tables me own known → slice_get tables rank ≡ Some theirs → AreEnds (near_in (table_with own known)) (far_in me (table_with own known) rank) item ends
+    → HasTarget theirs ends.own ends.target × LiesIn own.own ends.own
 ends-fit me own known tables rank item ends theirs may ht h = rw h.are (
   known-target me own known tables rank item.rseg item.roffset item.size h.theirs theirs may h.theirs_there h.to ht,
   record { extent = h.mine; there = h.mine_there; generation = refl; within = h.from },
@@ -218,69 +215,46 @@ slot-fits : (notes me : ℕ) (own : Tables) (known : List (List (Option Extent))
     → (n : ℕ) → Fits notes own theirs (record { number = n; kind = kinds_of.Notify (slot_in far segment note) value; phase = phases.Posted })
 slot-fits notes me own known tables rank segment note value far theirs may ht hfar noted n = ((ltb-true note notes noted, known-made me own known tables rank segment far theirs may hfar ht), tt)
 
-write-fits : (notes me : ℕ) (own : Tables) (known : List (List (Option Extent))) (tables : List Tables) (call : write.Write) (kinds : List Kind) (theirs : Tables)
-    → MayPost tables me own known → slice_get tables call.rank ≡ Some theirs
-    → write_kinds me (table_with own known) call ≡ Ok kinds → KindsFit notes own theirs kinds
-write-fits notes me own known tables call kinds theirs may ht h =
-    let w = write-ok me (table_with own known) call kinds h in
-    let ends = ends-fit me own known tables call.rank (write_item call) w.ends theirs may ht w.are in
-    rw w.is ((λ n. ends), tt)
+-- a transfer, and those of a post
+transfer-fits : (direction : Direction) (notes me : ℕ) (own : Tables) (known : List (List (Option Extent))) (tables : List Tables) (rank : ℕ) (item : Item) (kind : Kind) (theirs : Tables)
+    → MayPost tables me own known → slice_get tables rank ≡ Some theirs → IsTransfer direction (near_in (table_with own known)) (far_in me (table_with own known) rank) item kind
+    → (n : ℕ) → Fits notes own theirs (record { number = n; kind = kind; phase = phases.Posted })
+transfer-fits Outward notes me own known tables rank item kind theirs may ht t n = rw t.is (ends-fit me own known tables rank item t.ends theirs may ht t.are)
+transfer-fits Inward notes me own known tables rank item kind theirs may ht t n = rw t.is (ends-fit me own known tables rank item t.ends theirs may ht t.are)
 
-read-fits : (notes me : ℕ) (own : Tables) (known : List (List (Option Extent))) (tables : List Tables) (call : read.Read) (kinds : List Kind) (theirs : Tables)
-    → MayPost tables me own known → slice_get tables call.rank ≡ Some theirs
-    → read_kinds me (table_with own known) call ≡ Ok kinds → KindsFit notes own theirs kinds
-read-fits notes me own known tables call kinds theirs may ht h =
-    let w = read-ok me (table_with own known) call kinds h in
-    let ends = ends-fit me own known tables call.rank (read_item call) w.ends theirs may ht w.are in
-    rw w.is ((λ n. ends), tt)
+transfers-fit : (direction : Direction) (notes me : ℕ) (own : Tables) (known : List (List (Option Extent))) (tables : List Tables) (rank : ℕ) (items : List Item) (kinds : List Kind) (theirs : Tables)
+    → MayPost tables me own known → slice_get tables rank ≡ Some theirs → AreTransfers direction (near_in (table_with own known)) (far_in me (table_with own known) rank) items kinds
+    → KindsFit notes own theirs kinds
+transfers-fit direction notes me own known tables rank [] [] theirs may ht are = tt
+transfers-fit direction notes me own known tables rank [] (kind ∷ kinds) theirs may ht are = absurd are
+transfers-fit direction notes me own known tables rank (item ∷ items) [] theirs may ht are = absurd are
+transfers-fit direction notes me own known tables rank (item ∷ items) (kind ∷ kinds) theirs may ht are =
+    (transfer-fits direction notes me own known tables rank item kind theirs may ht are.0, transfers-fit direction notes me own known tables rank items kinds theirs may ht are.1)
 
-notify-fits : (notes me : ℕ) (own : Tables) (known : List (List (Option Extent))) (tables : List Tables) (call : notify.Notify) (kinds : List Kind) (theirs : Tables)
-    → MayPost tables me own known → slice_get tables call.rank ≡ Some theirs
-    → notify_kinds notes me (table_with own known) call ≡ Ok kinds → KindsFit notes own theirs kinds
-notify-fits notes me own known tables call kinds theirs may ht h =
-    let w = notify-ok notes me (table_with own known) call kinds h in
-    rw w.is (slot-fits notes me own known tables call.rank call.rseg call.note call.value w.theirs theirs may ht w.theirs_there w.noted, tt)
+both-fit : (notes : ℕ) (mine theirs : Tables) (a b : List Kind) → KindsFit notes mine theirs a → KindsFit notes mine theirs b → KindsFit notes mine theirs (a ++ b)
+both-fit notes mine theirs [] b first second = second
+both-fit notes mine theirs (kind ∷ a) b first second = (first.0, both-fit notes mine theirs a b first.1 second)
 
-write_notify-fits : (notes me : ℕ) (own : Tables) (known : List (List (Option Extent))) (tables : List Tables) (call : write_notify.WriteNotify) (kinds : List Kind) (theirs : Tables)
-    → MayPost tables me own known → slice_get tables call.rank ≡ Some theirs
-    → write_notify_kinds notes me (table_with own known) call ≡ Ok kinds → KindsFit notes own theirs kinds
-write_notify-fits notes me own known tables call kinds theirs may ht h =
-    let w = write_notify-ok notes me (table_with own known) call kinds h in
-    let ends = ends-fit me own known tables call.rank (write_notify_item call) w.ends theirs may ht w.are in
-    let far : known_extent me (table_with own known) call.rank call.rseg ≡ Some w.ends.theirs = w.are.theirs_there ∙ ap (λ (e : Ends). Some e.theirs) (sym w.are.are) in
-    rw w.is ((λ n. ends), (slot-fits notes me own known tables call.rank call.rseg call.note call.value w.ends.theirs theirs may ht far w.noted, tt))
-
-read_notify-fits : (notes me : ℕ) (own : Tables) (known : List (List (Option Extent))) (tables : List Tables) (call : read_notify.ReadNotify) (kinds : List Kind) (theirs : Tables)
-    → MayPost tables me own known → slice_get tables call.rank ≡ Some theirs
-    → read_notify_kinds notes me (table_with own known) call ≡ Ok kinds → KindsFit notes own theirs kinds
-read_notify-fits notes me own known tables call kinds theirs may ht h =
-    let w = read_notify-ok notes me (table_with own known) call kinds h in
-    let ends = ends-fit me own known tables call.rank (read_notify_item call) w.ends theirs may ht w.are in
-    let near : extent_in own.own call.seg ≡ Some w.ends.mine = w.are.mine_there ∙ ap (λ (e : Ends). Some e.mine) (sym w.are.are) in
-    rw w.is ((λ n. ends), ((λ n. (ltb-true call.note notes w.noted, record { extent = w.ends.mine; there = near; same = refl })), tt))
+asked-fit : (notes me : ℕ) (own : Tables) (known : List (List (Option Extent))) (tables : List Tables) (rank : ℕ) (kinds : List Kind) (theirs : Tables)
+    → MayPost tables me own known → slice_get tables rank ≡ Some theirs → IsAsked notes (near_in (table_with own known)) (far_in me (table_with own known) rank) kinds → KindsFit notes own theirs kinds
+asked-fit notes me own known tables rank kinds theirs may ht (Alone direction items are) = transfers-fit direction notes me own known tables rank items kinds theirs may ht are
+asked-fit notes me own known tables rank kinds theirs may ht (NotedWrites items segment note value w) =
+    rw w.is (both-fit notes own theirs w.transfers (kinds_of.Notify (slot_in w.theirs segment note) value ∷ [])
+    (transfers-fit Outward notes me own known tables rank items w.transfers theirs may ht w.are)
+    (slot-fits notes me own known tables rank segment note value w.theirs theirs may ht w.theirs_there w.noted, tt))
+asked-fit notes me own known tables rank kinds theirs may ht (NotedReads items segment note w) =
+    rw w.is (both-fit notes own theirs w.transfers (kinds_of.ReadNote (slot_in w.mine segment note) ∷ [])
+    (transfers-fit Inward notes me own known tables rank items w.transfers theirs may ht w.are)
+    ((λ n. (ltb-true note notes w.noted, record { extent = w.mine; there = w.mine_there; same = refl })), tt))
 
 -- so do those that a call asks for
-target-of : (tables : List Tables) (p to : Posting) (theirs : Tables) → ◌≡◌ {A = Option Posting} (Some p) (Some to) → slice_get tables to.rank ≡ Some theirs → slice_get tables p.rank ≡ Some theirs
-target-of tables p to theirs some ht = let one : p ≡ to = cc in rw one ht
-
 pub asks-fit : (limits : Limits) (me : ℕ) (posts : Posts) (tables : List Tables) (own : Tables) (call : Call) (to : Posting) (kinds : List Kind) (theirs : Tables) → own.own ≡ posts.segments.own
     → MayPost tables me own posts.segments.known → (row_of call).posting ≡ Some to → slice_get tables to.rank ≡ Some theirs → call_asks limits me posts call ≡ Ok kinds → KindsFit limits.notes own theirs kinds
-asks-fit limits me posts tables own (Write call) to kinds theirs same may is ht h =
-    write-fits limits.notes me own posts.segments.known tables call kinds theirs may (target-of tables (record { entries = 1; rank = call.rank; queue = call.queue }) to theirs is ht)
-    (subst (λ (o : List (Option Extent)). write_kinds me (record { own = o; next_generations = own.next; known = posts.segments.known }) call ≡ Ok kinds) (sym same) h)
-asks-fit limits me posts tables own (Read call) to kinds theirs same may is ht h =
-    read-fits limits.notes me own posts.segments.known tables call kinds theirs may (target-of tables (record { entries = 1; rank = call.rank; queue = call.queue }) to theirs is ht)
-    (subst (λ (o : List (Option Extent)). read_kinds me (record { own = o; next_generations = own.next; known = posts.segments.known }) call ≡ Ok kinds) (sym same) h)
-asks-fit limits me posts tables own (Notify call) to kinds theirs same may is ht h =
-    notify-fits limits.notes me own posts.segments.known tables call kinds theirs may (target-of tables (record { entries = 1; rank = call.rank; queue = call.queue }) to theirs is ht)
-    (subst (λ (o : List (Option Extent)). notify_kinds limits.notes me (record { own = o; next_generations = own.next; known = posts.segments.known }) call ≡ Ok kinds) (sym same) h)
-asks-fit limits me posts tables own (WriteNotify call) to kinds theirs same may is ht h =
-    write_notify-fits limits.notes me own posts.segments.known tables call kinds theirs may (target-of tables (record { entries = 2; rank = call.rank; queue = call.queue }) to theirs is ht)
-    (subst (λ (o : List (Option Extent)). write_notify_kinds limits.notes me (record { own = o; next_generations = own.next; known = posts.segments.known }) call ≡ Ok kinds) (sym same) h)
-asks-fit limits me posts tables own (ReadNotify call) to kinds theirs same may is ht h =
-    read_notify-fits limits.notes me own posts.segments.known tables call kinds theirs may (target-of tables (record { entries = 2; rank = call.rank; queue = call.queue }) to theirs is ht)
-    (subst (λ (o : List (Option Extent)). read_notify_kinds limits.notes me (record { own = o; next_generations = own.next; known = posts.segments.known }) call ≡ Ok kinds) (sym same) h)
-asks-fit limits me posts tables own other to kinds theirs same may is ht h = absurd (let no : ⊥ = cc in no)
+asks-fit limits me posts tables own call to kinds theirs same may is ht h =
+    let by = asked-by limits.notes me posts.segments call to kinds is h in
+    asked-fit limits.notes me own posts.segments.known tables to.rank kinds theirs may ht
+    (subst (λ (o : List (Option Extent)). IsAsked limits.notes (near_in (record { own = o; next_generations = own.next; known = posts.segments.known }))
+    (far_in me (record { own = o; next_generations = own.next; known = posts.segments.known }) to.rank) kinds) (sym same) by.asked)
 
 -- a lane with the entries of a post added
 pub fits-post : (notes : ℕ) (tables : List Tables) (me : ℕ) (posts : Posts) (queue rank : ℕ) (own : Tables) (asked : Result (List Kind) Refusal)

@@ -1,9 +1,11 @@
 -- The opening state is sound, and every step keeps a state sound.
-use Rattle.std.proofs.Common.{◌-◌, subst, ◌≡◌, ℕ, ◌+◌, ◌≤◌, Bool, true, false, List, ◌++◌, length, Option, None, Some, Result, Ok, Err, refl, sym, ap, ◌∙◌, arith, if◌then◌else◌, ◌⊎◌, inl, inr, remove, is_none}
+use Rattle.std.proofs.Common.{◌-◌, subst, ◌≡◌, ℕ, ◌+◌, ◌≤◌, Bool, true, false, List, ◌++◌, length, Option, None, Some, Result, Ok, Err, refl, sym, ap, ◌∙◌, arith, if◌then◌else◌, ◌⊎◌, inl, inr, remove, is_none, nat_le}
 use Rattle.std.specs.List.{sum_by, slice_get, slice_set}
 use Rattle.std.proofs.lemmas.Bool.{leb-true}
 use Rattle.std.proofs.lemmas.List.{length-set, length-map}
 use Rattle.gaspi_types.specs.Lanes.{posted_entries, is_posted, is_carried, is_failed}
+use Rattle.gaspi_types.specs.Ranges.{is_between}
+use Rattle.gaspi_types.specs.World.{are_limits}
 use Rattle.gaspi_types.specs.Replies.{is_idle}
 use Rattle.gaspi_types.specs.declared.entries.Entry.{Entry}
 use Rattle.gaspi_types.specs.declared.entries.Kind.{Kind}
@@ -11,7 +13,7 @@ use Rattle.gaspi_types.specs.declared.entries.Phase.TheVariants as phases
 use Rattle.gaspi_types.specs.declared.shapes.Limits.{Limits}
 use Rattle.gaspi_types.specs.declared.calls.Call.{Call}
 use Rattle.gaspi_types.specs.declared.calls.Call.TheVariants.{Alloc, Delete, Wait, Purge, End}
-use Rattle.gaspi_types.specs.CallRows.{row_of, entries_of}
+use Rattle.gaspi_types.specs.CallRows.{row_of}
 use Rattle.gaspi_types.specs.declared.call_rows.Posting.{Posting}
 use Rattle.gaspi_types.specs.declared.replies.Reply.{Reply}
 use Rattle.gaspi_types.specs.declared.replies.Refusal.{Refusal}
@@ -26,7 +28,8 @@ use Rattle.gaspi_model.specs.Posting.{with_post, counted}
 use Rattle.gaspi_types.specs.Tables.{changed_at}
 use Rattle.gaspi_types.specs.Queues.{with_entries}
 use Rattle.gaspi_model.specs.QueueCalls.{emptied, without_entries}
-use Rattle.gaspi_model.specs.Calls.{posts_done, plain_done, call_asks}
+use Rattle.gaspi_model.specs.PostCalls.{asked_finds}
+use Rattle.gaspi_model.specs.Calls.{posts_done, plain_done, call_asks, call_finds}
 use Rattle.gaspi_model.specs.Transfers.{Found, taken_bytes, Worked}
 use Rattle.gaspi_model.specs.Step.{step}
 use Rattle.gaspi_model.specs.Coherence.{IsCoherent}
@@ -43,9 +46,10 @@ use Rattle.gaspi_model.proofs.Sound.TableLengths.{after-tables, take-tables, put
 use Rattle.gaspi_types.proofs.Extents.{generation-within}
 use Rattle.gaspi_model.proofs.Same.{same_reply-same}
 use Rattle.gaspi_model.proofs.Made.{IsTake, IsPut, IsCalled, step-called, step-take, step-put}
-use Rattle.gaspi_model.proofs.Sound.Accounts.{take-owed, put-owed, asks-counted, few-posted}
+use Rattle.gaspi_model.proofs.Sound.Accounts.{take-owed, put-owed, post-ok}
+use Rattle.gaspi_model.proofs.FoundReplies.{found-reply}
 use Rattle.gaspi_model.proofs.Sound.CallAccounts.{HasLanes, with_post-events, call-grows}
-use Rattle.gaspi_types.proofs.Chains.{both}
+use Rattle.gaspi_types.proofs.Chains.{both, same_Ok}
 use Rattle.gaspi_model.proofs.Sound.OpenCounts.{emptied-lane, posted-unfailed, carried-unfailed, queue-phase, queue-remove, carried-more, carried-failed}
 use Rattle.gaspi_model.proofs.Sound.CoherentSteps.{steps-coherent}
 use Rattle.gaspi_model.proofs.Sound.CallQueues.{queues-changed, called-queues}
@@ -119,7 +123,7 @@ rise-post posts queue target (Ok kinds) all =
     (rise-more posts.next (posts.next + length kinds) posts.queues (omega arith) all)
 
 -- the next number after a post
-numbers-post : (posts : Posts) (queue target : ℕ) (asked : Result (List Kind) Refusal) → ((kinds : List Kind) → asked ≡ Ok kinds → length kinds ≤ 2) → (with_post posts queue target asked).next ≤ posts.next + 2
+numbers-post : (posts : Posts) (queue target : ℕ) (asked : Result (List Kind) Refusal) → ((kinds : List Kind) → asked ≡ Ok kinds → length kinds ≤ 256) → (with_post posts queue target asked).next ≤ posts.next + 256
 numbers-post posts queue target (Ok kinds) counts = let few = counts kinds refl in omega arith
 numbers-post posts queue target (Err refusal) counts = omega arith
 
@@ -153,7 +157,7 @@ with_post-generations posts queue target (Err refusal) = refl
 record Keeps (ranks : ℕ) (before after : Posts) : Type 0 where
   lanes : HasLanes ranks after
   events : after.events ≡ before.events
-  numbers : after.next ≤ before.next + 2
+  numbers : after.next ≤ before.next + 256
   numbered : length after.segments.next_generations ≡ length before.segments.next_generations
   generations : HasFewGenerations (before.events + 2) after
   rising : RiseBelow after.next after.queues
@@ -162,7 +166,7 @@ record Keeps (ranks : ℕ) (before after : Posts) : Type 0 where
 same-keeps : (ranks : ℕ) (posts : Posts) → HasLanes ranks posts → RiseBelow posts.next posts.queues → HasFewGenerations (posts.events + 1) posts → Keeps ranks posts posts
 same-keeps ranks posts all rise few = record { lanes = all; events = refl; numbers = omega arith; numbered = refl; generations = generations-more posts few; rising = rise }
 
-post-keeps : (ranks : ℕ) (posts : Posts) (queue target : ℕ) (asked : Result (List Kind) Refusal) → ((kinds : List Kind) → asked ≡ Ok kinds → length kinds ≤ 2)
+post-keeps : (ranks : ℕ) (posts : Posts) (queue target : ℕ) (asked : Result (List Kind) Refusal) → ((kinds : List Kind) → asked ≡ Ok kinds → length kinds ≤ 256)
     → HasLanes ranks posts → RiseBelow posts.next posts.queues → HasFewGenerations (posts.events + 1) posts → Keeps ranks posts (with_post posts queue target asked)
 post-keeps ranks posts queue target asked counts all rise few = record {
   lanes = lanes-post ranks posts queue target asked all;
@@ -206,28 +210,49 @@ plain-keeps ranks posts thread End all rise few = record { lanes = all; events =
 plain-keeps ranks posts thread other all rise few = same-keeps ranks posts all rise few
 
 done-keeps : (ranks : ℕ) (limits : Limits) (me : ℕ) (posts : Posts) (thread : ℕ) (call : Call) → HasLanes ranks posts → RiseBelow posts.next posts.queues → HasFewGenerations (posts.events + 1) posts
+    → ((to : Posting) (kinds : List Kind) → (row_of call).posting ≡ Some to → call_asks limits me posts call ≡ Ok kinds → length kinds ≤ 256)
     → Keeps ranks posts (posts_done limits me posts thread call)
-done-keeps ranks limits me posts thread call all rise few = go (row_of call).posting refl
+done-keeps ranks limits me posts thread call all rise few counts = go (row_of call).posting refl
   where
-    few-asked : (to : Posting) → (row_of call).posting ≡ Some to → to.entries ≤ 2
-    few-asked to post = let most = few-posted call in let same : entries_of call ≡ to.entries = rw post refl in omega arith
-
     go : (o : Option Posting) → (row_of call).posting ≡ o → Keeps ranks posts (posts_done limits me posts thread call)
     go None none = rw none (plain-keeps ranks posts thread call all rise few)
-    go (Some to) post =
-        rw post (post-keeps ranks posts to.queue to.rank (call_asks limits me posts call)
-        (λ kinds asks. let many = asks-counted limits me posts call to kinds post asks in let most = few-asked to post in omega arith) all rise few)
+    go (Some to) post = rw post (post-keeps ranks posts to.queue to.rank (call_asks limits me posts call) (λ kinds asks. counts to kinds post asks) all rise few)
+
+-- a queue is not deeper than that
+depth-few : (limits : Limits) → are_limits limits ≡ true → limits.depth ≤ 256
+depth-few limits h =
+    let depth = (both (is_between 1 256 limits.depth) _ (both (is_between 1 8 limits.queues) _ (both (is_between 1 16 limits.ranks) _ h).1).1).0 in
+    leb-true limits.depth 256 (both (nat_le 1 limits.depth) (nat_le limits.depth 256) depth).1
+
+-- a post that is done has as many entries as its queue has room for
+accepted-few : (limits : Limits) (me : ℕ) (posts : Posts) (memory : Memory) (call : Call) (reply : Reply) (to : Posting) (kinds : List Kind) → limits.depth ≤ 256
+    → call_finds limits me posts memory call ≡ Ok (Some reply) → (row_of call).posting ≡ Some to → call_asks limits me posts call ≡ Ok kinds → length kinds ≤ 256
+accepted-few limits me posts memory call reply to kinds depth found post asks =
+    let finds : asked_finds limits posts to.rank to.queue (call_asks limits me posts call) ≡ Ok (Some reply) = rw post at found in
+    let posted = post-ok limits posts to.rank to.queue (call_asks limits me posts call) (Some reply) finds in
+    let same : posted.1 ≡ kinds = same_Ok _ _ (sym posted.2.asks ∙ asks) in
+    let room = leb-true _ _ posted.2.room in
+    let count = ap length same in
+    omega arith
 
 -- the posts after a call, idle or not
-after-keeps : (ranks : ℕ) (b : Bool) (before done : Posts) → HasLanes ranks before → RiseBelow before.next before.queues → HasFewGenerations (before.events + 1) before → Keeps ranks before done → Keeps ranks before (if b then before else done)
+after-keeps : (ranks : ℕ) (b : Bool) (before done : Posts) → HasLanes ranks before → RiseBelow before.next before.queues → HasFewGenerations (before.events + 1) before
+    → (b ≡ false → Keeps ranks before done) → Keeps ranks before (if b then before else done)
 after-keeps ranks true before done all rise few keeps = same-keeps ranks before all rise few
-after-keeps ranks false before done all rise few keeps = keeps
+after-keeps ranks false before done all rise few keeps = keeps refl
 
-called-sound : (limits : Limits) (me : ℕ) (posts : Posts) (memory : Memory) (thread : ℕ) (call : Call) (reply : Reply) (after : Worked)
+call-keeps : (limits : Limits) (me : ℕ) (posts : Posts) (memory : Memory) (thread : ℕ) (call : Call) (reply : Reply) (after : Worked) → limits.depth ≤ 256
+    → IsSoundPosts limits posts → IsCalled limits me posts memory thread call reply after → Keeps limits.ranks posts (if is_idle reply then posts else posts_done limits me posts thread call)
+call-keeps limits me posts memory thread call reply after depth sound h =
+    after-keeps limits.ranks (is_idle reply) posts (posts_done limits me posts thread call) sound.lanes sound.rising sound.generations
+    (λ busy. done-keeps limits.ranks limits me posts thread call sound.lanes sound.rising sound.generations
+    (λ to kinds post asks. accepted-few limits me posts memory call reply to kinds depth
+    (found-reply limits me posts memory thread call reply (same_reply-same _ _ h.answered) busy) post asks))
+
+called-sound : (limits : Limits) (me : ℕ) (posts : Posts) (memory : Memory) (thread : ℕ) (call : Call) (reply : Reply) (after : Worked) → limits.depth ≤ 256
     → IsSoundPosts limits posts → IsCalled limits me posts memory thread call reply after → IsSoundPosts limits after.posts
-called-sound limits me posts memory thread call reply after sound h =
-    let keeps = after-keeps limits.ranks (is_idle reply) posts (posts_done limits me posts thread call) sound.lanes sound.rising sound.generations
-    (done-keeps limits.ranks limits me posts thread call sound.lanes sound.rising sound.generations) in
+called-sound limits me posts memory thread call reply after depth sound h =
+    let keeps = call-keeps limits me posts memory thread call reply after depth sound h in
     let grows = call-grows limits me posts memory thread call reply sound.lanes (same_reply-same _ _ h.answered) in
     let room = leb-true _ _ h.room in
     let numbers = sound.numbers in
@@ -382,7 +407,7 @@ pub steps : (s t : State) (e : Event) → IsSound s → step s e ≡ Ok t → Is
 steps s t (Called c call reply) sound h =
     let made = sound-called s t c call reply sound h in
     let m = made.3 in
-    let after = called-sound s.limits c.rank made.0 made.1 c.thread call reply made.2 (sound.posts c.rank made.0 m.posts_there) m.is in
+    let after = called-sound s.limits c.rank made.0 made.1 c.thread call reply made.2 (depth-few s.limits sound.limits) (sound.posts c.rank made.0 m.posts_there) m.is in
     let coherent = steps-coherent s t (Called c call reply) sound h in
     rw m.leaves (record {
       limits = sound.limits;
@@ -418,11 +443,10 @@ steps s t (Put origin queue target number outcome) sound h =
 
 -- each event adds one to the events of its owner
 
-called-events : (limits : Limits) (me : ℕ) (posts : Posts) (memory : Memory) (thread : ℕ) (call : Call) (reply : Reply) (after : Worked)
+called-events : (limits : Limits) (me : ℕ) (posts : Posts) (memory : Memory) (thread : ℕ) (call : Call) (reply : Reply) (after : Worked) → limits.depth ≤ 256
     → IsSoundPosts limits posts → IsCalled limits me posts memory thread call reply after → after.posts.events ≡ posts.events + 1
-called-events limits me posts memory thread call reply after sound h =
-    let keeps = after-keeps limits.ranks (is_idle reply) posts (posts_done limits me posts thread call) sound.lanes sound.rising sound.generations
-    (done-keeps limits.ranks limits me posts thread call sound.lanes sound.rising sound.generations) in
+called-events limits me posts memory thread call reply after depth sound h =
+    let keeps = call-keeps limits me posts memory thread call reply after depth sound h in
     rw h.leaves (ap (λ (n : ℕ). n + 1) keeps.events)
 
 take-events : (limits : Limits) (posts : Posts) (memory : Memory) (queue target number : ℕ) (outcome : Outcome) (after : Posts) (at : Found)
@@ -446,8 +470,8 @@ counts s t (Called c call reply) sound h =
     let made = sound-called s t c call reply sound h in
     let m = made.3 in
     let before = sound.posts c.rank made.0 m.posts_there in
-    let after = called-sound s.limits c.rank made.0 made.1 c.thread call reply made.2 before m.is in
-    let more = called-events s.limits c.rank made.0 made.1 c.thread call reply made.2 before m.is in
+    let after = called-sound s.limits c.rank made.0 made.1 c.thread call reply made.2 (depth-few s.limits sound.limits) before m.is in
+    let more = called-events s.limits c.rank made.0 made.1 c.thread call reply made.2 (depth-few s.limits sound.limits) before m.is in
     let left = left-set s.limits s.posts c.rank made.0 made.2.posts m.posts_there more (let room = after.room in omega arith) in
     let told_left = told-sum (λ (p : Posts). s.limits.events - p.events) (λ x known. refl) s.limits.ranks c.rank made.0 call reply (slice_set s.posts c.rank made.2.posts) in
     rw m.leaves (ap (λ (n : ℕ). n + 1) told_left ∙ left)

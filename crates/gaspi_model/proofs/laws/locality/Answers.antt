@@ -1,4 +1,4 @@
-use Rattle.gaspi_model.proofs.Local.Steps.{frame, determined, owner-among, footprint-by-owner, footprint-by-call, once, few, posting-alone, wait-alone}
+use Rattle.gaspi_model.proofs.Local.Steps.{frame, determined, owner-among, footprint-by-owner, footprint-by-call, once, few, posting-alone, wait-alone, purge-alone, qsize-alone, state-alone}
 use Rattle.gaspi_model.proofs.laws.locality.Goals as goal
 
 pub returns-clause-frame : goal.returns-clause-frame
@@ -27,3 +27,12 @@ returns-clause-posting c = posting-alone
 
 pub returns-clause-waiting : goal.returns-clause-waiting
 returns-clause-waiting c = wait-alone
+
+pub returns-clause-purging : goal.returns-clause-purging
+returns-clause-purging c = purge-alone
+
+pub returns-clause-sizing : goal.returns-clause-sizing
+returns-clause-sizing c = qsize-alone
+
+pub returns-clause-state : goal.returns-clause-state
+returns-clause-state c = state-alone
