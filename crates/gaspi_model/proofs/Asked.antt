@@ -138,10 +138,11 @@ pub data IsAsked (notes : ℕ) (near far : ℕ → Option Extent) (kinds : List 
   NotedWrites : (items : List Item) (segment note value : ℕ) → AreNotedWrites notes near far items segment note value kinds → IsAsked notes near far kinds
   NotedReads : (items : List Item) (segment note : ℕ) → AreNotedReads notes near far items segment note kinds → IsAsked notes near far kinds
 
--- it is as many entries as the call's row says
+-- it is as many entries as the call's row says, and at least one
 pub record IsAskedBy (notes me : ℕ) (table : SegmentTable) (to : Posting) (kinds : List Kind) : Type 0 where
   pub asked : IsAsked notes (near_in table) (far_in me table to.rank) kinds
   pub count : length kinds ≡ to.entries
+  pub some : 1 ≤ to.entries
 
 noted_writes-length : (notes : ℕ) (near far : ℕ → Option Extent) (items : List Item) (segment note value : ℕ) (kinds : List Kind) → AreNotedWrites notes near far items segment note value kinds
     → length kinds ≡ length items + 1
@@ -163,36 +164,42 @@ noted_reads-length notes near far items segment note kinds h =
 listed-count : (items more : ℕ) → is_list_length items ≡ true → list_entries items more ≡ items + more
 listed-count items more h = rw h refl
 
+listed-some : (items more : ℕ) → is_list_length items ≡ true → 1 ≤ list_entries items more
+listed-some items more h =
+    let least = leb-true 1 items (both (nat_le 1 items) (nat_le items 256) h).0 in
+    let count = listed-count items more h in
+    omega arith
+
 as-row : (notes me : ℕ) (table : SegmentTable) (p to : Posting) (kinds : List Kind) → ◌≡◌ {A = Option Posting} (Some p) (Some to) → IsAskedBy notes me table p kinds → IsAskedBy notes me table to kinds
 as-row notes me table p to kinds is by = let same : p ≡ to = cc in subst (λ (q : Posting). IsAskedBy notes me table q kinds) same by
 
-alone-by : (notes me : ℕ) (table : SegmentTable) (to : Posting) (direction : Direction) (items : List Item) (kinds : List Kind) → length items ≡ to.entries
+alone-by : (notes me : ℕ) (table : SegmentTable) (to : Posting) (direction : Direction) (items : List Item) (kinds : List Kind) → length items ≡ to.entries → 1 ≤ to.entries
     → transfers_alone direction me table to.rank items ≡ Ok kinds → IsAskedBy notes me table to kinds
-alone-by notes me table to direction items kinds count h =
+alone-by notes me table to direction items kinds count some h =
     let are = alone-ok direction me table to.rank items kinds h in
-    record { asked = Alone direction items are; count = transfers-length direction (near_in table) (far_in me table to.rank) items kinds are ∙ count }
+    record { asked = Alone direction items are; count = transfers-length direction (near_in table) (far_in me table to.rank) items kinds are ∙ count; some = some }
 
 noted_writes-by : (notes me : ℕ) (table : SegmentTable) (to : Posting) (items : List Item) (segment note value : ℕ) (kinds : List Kind) → length items + 1 ≡ to.entries
     → noted_writes notes me table to.rank items segment note value ≡ Ok kinds → IsAskedBy notes me table to kinds
 noted_writes-by notes me table to items segment note value kinds count h =
     let are = noted_writes-ok notes me table to.rank items segment note value kinds h in
-    record { asked = NotedWrites items segment note value are; count = noted_writes-length notes (near_in table) (far_in me table to.rank) items segment note value kinds are ∙ count }
+    record { asked = NotedWrites items segment note value are; count = noted_writes-length notes (near_in table) (far_in me table to.rank) items segment note value kinds are ∙ count; some = (omega arith) }
 
 noted_reads-by : (notes me : ℕ) (table : SegmentTable) (to : Posting) (items : List Item) (segment note : ℕ) (kinds : List Kind) → length items + 1 ≡ to.entries
     → noted_reads notes me table to.rank items segment note ≡ Ok kinds → IsAskedBy notes me table to kinds
 noted_reads-by notes me table to items segment note kinds count h =
     let are = noted_reads-ok notes me table to.rank items segment note kinds h in
-    record { asked = NotedReads items segment note are; count = noted_reads-length notes (near_in table) (far_in me table to.rank) items segment note kinds are ∙ count }
+    record { asked = NotedReads items segment note are; count = noted_reads-length notes (near_in table) (far_in me table to.rank) items segment note kinds are ∙ count; some = (omega arith) }
 
 -- a call that posts asks for that
 pub asked-by : (notes me : ℕ) (table : SegmentTable) (call : Call) (to : Posting) (kinds : List Kind) → (row_of call).posting ≡ Some to → call_kinds notes me table call ≡ Ok kinds
     → IsAskedBy notes me table to kinds
 asked-by notes me table (Write call) to kinds is h =
     let p : Posting = record { entries = 1; rank = call.rank; queue = call.queue } in
-    as-row notes me table p to kinds is (alone-by notes me table p Outward (write_item call ∷ []) kinds refl h)
+    as-row notes me table p to kinds is (alone-by notes me table p Outward (write_item call ∷ []) kinds refl (omega arith) h)
 asked-by notes me table (Read call) to kinds is h =
     let p : Posting = record { entries = 1; rank = call.rank; queue = call.queue } in
-    as-row notes me table p to kinds is (alone-by notes me table p Inward (read_item call ∷ []) kinds refl h)
+    as-row notes me table p to kinds is (alone-by notes me table p Inward (read_item call ∷ []) kinds refl (omega arith) h)
 asked-by notes me table (Notify call) to kinds is h =
     let p : Posting = record { entries = 1; rank = call.rank; queue = call.queue } in
     as-row notes me table p to kinds is (noted_writes-by notes me table p [] call.rseg call.note call.value kinds refl h)
@@ -206,7 +213,7 @@ asked-by notes me table (WriteList call) to kinds is h =
     let p : Posting = record { entries = list_entries (length call.items) 0; rank = call.rank; queue = call.queue } in
     let l = listed-ok call.items (transfers_alone Outward me table call.rank call.items) kinds h in
     let count = listed-count (length call.items) 0 l.0 in
-    as-row notes me table p to kinds is (alone-by notes me table p Outward call.items kinds (omega (arith, count)) l.1)
+    as-row notes me table p to kinds is (alone-by notes me table p Outward call.items kinds (omega (arith, count)) (listed-some (length call.items) 0 l.0) l.1)
 asked-by notes me table (WriteListNotify call) to kinds is h =
     let p : Posting = record { entries = list_entries (length call.items) 1; rank = call.rank; queue = call.queue } in
     let l = listed-ok call.items (noted_writes notes me table call.rank call.items call.nseg call.note call.value) kinds h in
@@ -215,7 +222,7 @@ asked-by notes me table (ReadList call) to kinds is h =
     let p : Posting = record { entries = list_entries (length call.items) 0; rank = call.rank; queue = call.queue } in
     let l = listed-ok call.items (transfers_alone Inward me table call.rank call.items) kinds h in
     let count = listed-count (length call.items) 0 l.0 in
-    as-row notes me table p to kinds is (alone-by notes me table p Inward call.items kinds (omega (arith, count)) l.1)
+    as-row notes me table p to kinds is (alone-by notes me table p Inward call.items kinds (omega (arith, count)) (listed-some (length call.items) 0 l.0) l.1)
 asked-by notes me table (ReadListNotify call) to kinds is h =
     let p : Posting = record { entries = list_entries (length call.items) 1; rank = call.rank; queue = call.queue } in
     let l = listed-ok call.items (noted_reads notes me table call.rank call.items call.nseg call.note) kinds h in

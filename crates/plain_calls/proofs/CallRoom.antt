@@ -95,7 +95,7 @@ found_by limits me posts memory thread call reply same busy =
     found_when limits me posts memory thread call reply (is_running (thread_at posts thread)) refl same busy
 
 -- the numbers and the open count of an accepted post fit
-post_room : (limits : Limits) (posts : Posts) (rank queue : ℕ) (asked : Result (List Kind) Refusal) (reply : Reply) (entries : ℕ) → entries ≤ 2
+post_room : (limits : Limits) (posts : Posts) (rank queue : ℕ) (asked : Result (List Kind) Refusal) (reply : Reply) (entries : ℕ) → entries ≤ 257
     → are_limits limits ≡ true → IsSoundPosts limits posts → IsPost limits posts rank queue asked reply → HasLength asked entries → IsRoom posts entries queue
 post_room limits posts rank queue asked reply entries few limited sound p long =
     let a = sound.room in

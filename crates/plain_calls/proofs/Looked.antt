@@ -5,7 +5,7 @@ use Rattle.gaspi_types.specs.Replies.{is_idle, same_reply}
 use Rattle.gaspi_types.specs.World.{are_limits}
 use Rattle.gaspi_types.specs.declared.call_rows.Posting.{Posting}
 use Rattle.gaspi_types.specs.declared.calls.Call.{Call}
-use Rattle.gaspi_types.specs.declared.calls.Call.TheVariants.{Write, Read, Notify, WriteNotify, ReadNotify}
+use Rattle.gaspi_types.specs.declared.calls.Call.TheVariants.{Write, Read, Notify, WriteNotify, ReadNotify, WriteList, WriteListNotify, ReadList, ReadListNotify}
 use Rattle.gaspi_types.specs.declared.entries.Kind.{Kind}
 use Rattle.gaspi_types.specs.declared.shapes.Limits.{Limits}
 use Rattle.gaspi_types.specs.declared.replies.Ready.{Ready}
@@ -21,7 +21,8 @@ use Rattle.gaspi_model.specs.declared.states.ThreadState.{ThreadState}
 use Rattle.gaspi_model.specs.declared.states.Why.{Why}
 use Rattle.gaspi_model.specs.declared.states.Why.TheVariants as whys
 use Rattle.gaspi_model.proofs.Listed.Enabled.{same_reply-refl}
-use Rattle.plain_calls.specs.Looks.{IsFinding, kinds_of, found_done, found_after, made_of}
+use Rattle.segment_tables.specs.PostKinds.{kinds_of}
+use Rattle.plain_calls.specs.Looks.{IsFinding, found_done, found_after, made_of}
 use Rattle.plain_calls.specs.Room.{HasCallRoom, freed}
 use Rattle.plain_calls.specs.declared.looks.Finding.{Finding}
 use Rattle.plain_calls.proofs.CallRoom.{found_by, room_by, taken_by}
@@ -33,6 +34,10 @@ plain_asks limits me posts (Read call) is = absurd (let no : ⊥ = cc in no)
 plain_asks limits me posts (Notify call) is = absurd (let no : ⊥ = cc in no)
 plain_asks limits me posts (WriteNotify call) is = absurd (let no : ⊥ = cc in no)
 plain_asks limits me posts (ReadNotify call) is = absurd (let no : ⊥ = cc in no)
+plain_asks limits me posts (WriteList call) is = absurd (let no : ⊥ = cc in no)
+plain_asks limits me posts (WriteListNotify call) is = absurd (let no : ⊥ = cc in no)
+plain_asks limits me posts (ReadList call) is = absurd (let no : ⊥ = cc in no)
+plain_asks limits me posts (ReadListNotify call) is = absurd (let no : ⊥ = cc in no)
 plain_asks limits me posts call is = refl
 
 -- a call that posts changes no memory
@@ -42,6 +47,10 @@ posting_memory limits posts memory (Read call) to is = refl
 posting_memory limits posts memory (Notify call) to is = refl
 posting_memory limits posts memory (WriteNotify call) to is = refl
 posting_memory limits posts memory (ReadNotify call) to is = refl
+posting_memory limits posts memory (WriteList call) to is = refl
+posting_memory limits posts memory (WriteListNotify call) to is = refl
+posting_memory limits posts memory (ReadList call) to is = refl
+posting_memory limits posts memory (ReadListNotify call) to is = refl
 posting_memory limits posts memory call to is = absurd (let no : ⊥ = cc in no)
 
 -- what was found is what the call asks for

@@ -1,11 +1,10 @@
 -- A call that posts: what it asks for, what it finds and what it leaves, as its row says.
 use Rattle.std.proofs.Common.{◌≡◌, ℕ, ◌+◌, ◌*◌, ◌≤◌, true, nat_le, nat_lt, List, Option, Some, Result, Ok, if◌then◌else◌, length, slice_get, refl, sym, ap, arith}
-use Rattle.gaspi_types.specs.CallRows.{row_of, entries_of, is_post}
+use Rattle.gaspi_types.specs.CallRows.{row_of, entries_of}
 use Rattle.gaspi_types.specs.Checks.{check, found, absent}
 use Rattle.gaspi_types.specs.Replies.{is_done}
 use Rattle.gaspi_types.specs.declared.call_rows.Posting.{Posting}
 use Rattle.gaspi_types.specs.declared.calls.Call.{Call}
-use Rattle.gaspi_types.specs.declared.calls.Call.TheVariants.{Write, Read, Notify, WriteNotify, ReadNotify}
 use Rattle.gaspi_types.specs.declared.entries.Kind.{Kind}
 use Rattle.gaspi_types.specs.declared.shapes.Limits.{Limits}
 use Rattle.gaspi_types.specs.declared.replies.Refusal.{Refusal}
@@ -18,7 +17,7 @@ use Rattle.gaspi_types.specs.declared.entries.Queue.{Queue}
 use Rattle.gaspi_model.specs.declared.states.Posts.{Posts}
 use Rattle.gaspi_model.specs.declared.states.Memory.{Memory}
 use Rattle.gaspi_model.specs.declared.states.ThreadState.{ThreadState}
-use Rattle.gaspi_model.proofs.Asked.{write-ok, read-ok, notify-ok, write_notify-ok, read_notify-ok}
+use Rattle.gaspi_model.proofs.Sound.Accounts.{asks-counted, asks-some, few-posted, posting-goes_on}
 use Rattle.gaspi_types.proofs.Chains.{bind_then, found_there, check_holds}
 
 -- what an accepted post stands on
@@ -48,39 +47,37 @@ post_by limits posts rank queue asked reply is =
 abbrev pub HasLength : Result (List Kind) Refusal → ℕ → Type 0
 HasLength asked entries = (kinds : List Kind) → asked ≡ Ok kinds → length kinds ≡ entries
 
--- a call that posts asks for as many entries as its row says, one or two, and owes as many where it is done
+-- what is asked for is something
+abbrev pub IsFilled : Result (List Kind) Refusal → ℕ → Type 0
+IsFilled asked entries = (kinds : List Kind) → asked ≡ Ok kinds → 1 ≤ entries
+
+-- a call that posts asks for as many entries as its row says, and owes as many where it is done
 record IsCounted (limits : Limits) (me : ℕ) (posts : Posts) (call : Call) (entries : ℕ) : Type 0 where
   long : HasLength (call_asks limits me posts call) entries
-  few : entries ≤ 2
-  some : 1 ≤ entries
+  few : entries ≤ 257
+  some : IsFilled (call_asks limits me posts call) entries
   charged : (t : ThreadState) (reply : Reply) → charge t call reply ≡ (if is_done reply then 1 + 2 * entries else 1)
 
-counted_of : (limits : Limits) (me : ℕ) (posts : Posts) (call : Call) → is_post call ≡ true → IsCounted limits me posts call (entries_of call)
-counted_of limits me posts (Write call) is =
-    record { long = λ kinds asks. ap length (write-ok me posts.segments call kinds asks).is; few = omega arith; some = omega arith; charged = λ t reply. refl }
-counted_of limits me posts (Read call) is =
-    record { long = λ kinds asks. ap length (read-ok me posts.segments call kinds asks).is; few = omega arith; some = omega arith; charged = λ t reply. refl }
-counted_of limits me posts (Notify call) is =
-    record { long = λ kinds asks. ap length (notify-ok limits.notes me posts.segments call kinds asks).is; few = omega arith; some = omega arith; charged = λ t reply. refl }
-counted_of limits me posts (WriteNotify call) is =
-    record { long = λ kinds asks. ap length (write_notify-ok limits.notes me posts.segments call kinds asks).is; few = omega arith; some = omega arith; charged = λ t reply. refl }
-counted_of limits me posts (ReadNotify call) is =
-    record { long = λ kinds asks. ap length (read_notify-ok limits.notes me posts.segments call kinds asks).is; few = omega arith; some = omega arith; charged = λ t reply. refl }
-counted_of limits me posts call is = absurd (let no : ⊥ = cc in no)
+counted_of : (limits : Limits) (me : ℕ) (posts : Posts) (call : Call) (to : Posting) → (row_of call).posting ≡ Some to → IsCounted limits me posts call to.entries
+counted_of limits me posts call to is = record {
+  long = λ kinds asks. asks-counted limits me posts call to kinds is asks;
+  few = (let few = few-posted call in let same : entries_of call ≡ to.entries = rw is refl in omega (arith, few, same));
+  some = λ kinds asks. asks-some limits me posts call to kinds is asks;
+  charged = λ t reply. rw (is, posting-goes_on call to is) refl;
+}
 
 -- a call that posts does what its row says
 pub record IsPosting (limits : Limits) (me : ℕ) (posts : Posts) (call : Call) (posting : Posting) : Type 0 where
   pub long : HasLength (call_asks limits me posts call) posting.entries
-  pub few : posting.entries ≤ 2
-  pub some : 1 ≤ posting.entries
+  pub few : posting.entries ≤ 257
+  pub some : IsFilled (call_asks limits me posts call) posting.entries
   pub finds : (memory : Memory) → call_finds limits me posts memory call ≡ asked_finds limits posts posting.rank posting.queue (call_asks limits me posts call)
   pub leaves : (thread : ℕ) → posts_done limits me posts thread call ≡ with_post posts posting.queue posting.rank (call_asks limits me posts call)
   pub charged : (t : ThreadState) (reply : Reply) → charge t call reply ≡ (if is_done reply then 1 + 2 * posting.entries else 1)
 
 pub posting_of : (limits : Limits) (me : ℕ) (posts : Posts) (call : Call) (posting : Posting) → (row_of call).posting ≡ Some posting → IsPosting limits me posts call posting
 posting_of limits me posts call posting is =
-    let post : is_post call ≡ true = rw is refl in
-    let n = rw is at (counted_of limits me posts call post) in
+    let n = counted_of limits me posts call posting is in
     record {
       long = n.long;
       few = n.few;

@@ -14,20 +14,9 @@ use Rattle.gaspi_model.specs.Posting.{with_post, counted}
 use Rattle.gaspi_model.specs.declared.states.Posts.{Posts}
 use Rattle.gaspi_model.specs.declared.states.Memory.{Memory}
 use Rattle.gaspi_model.specs.declared.states.StepFault.{StepFault}
-use Rattle.plain_calls.specs.declared.looks.Kinds.{Kinds}
-use Rattle.plain_calls.specs.declared.looks.Kinds.TheVariants.{Nothing, One, Two}
+use Rattle.segment_tables.specs.PostKinds.{kinds_of}
+use Rattle.segment_tables.specs.declared.kinds.Kinds.{Kinds}
 use Rattle.plain_calls.specs.declared.looks.Finding.{Finding}
-
--- the kinds of the entries, in order
-abbrev pub kinds_of : Kinds → List Kind
-kinds_of Nothing = []
-kinds_of (One kinds) = kinds
-kinds_of (Two kinds) = kinds
-
--- what a call asks to be appended is that, or its refusal
-abbrev pub Asks : Result Kinds Refusal → Result (List Kind) Refusal → Type 0
-Asks (Ok kinds) asked = asked ≡ Ok (kinds_of kinds)
-Asks (Err refusal) asked = asked ≡ Err refusal
 
 -- a check that a call finds itself done by, or its refusal
 abbrev pub Grants : Result (Unit {0}) Refusal → Result (Option Reply) Refusal → Type 0

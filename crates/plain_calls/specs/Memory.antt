@@ -2,6 +2,7 @@
 use Rattle.std.specs.Prelude.{◌≡◌, ℕ, Bool, true, false, ◌||◌, List, Option, Some, Result, Ok, Err}
 use Rattle.std.specs.Borrow.{Bor}
 use Rattle.gaspi_types.specs.CallRows.{is_post}
+use Rattle.gaspi_types.specs.Posts.{is_list_post}
 use Rattle.gaspi_types.specs.declared.calls.Call.{Call}
 use Rattle.gaspi_types.specs.declared.calls.Call.TheVariants.{Alloc, Load}
 use Rattle.gaspi_types.specs.declared.replies.Refusal.{Refusal}
@@ -15,6 +16,10 @@ abbrev pub is_load : Call → Bool
 is_load (Load load) = true
 is_load call = false
 
+-- a look at these may want memory: for the bytes that a load answers, and for the entries of a list
+abbrev pub looks_with_memory : Call → Bool
+looks_with_memory call = is_load call || is_list_post call
+
 -- this makes a segment
 abbrev pub is_alloc : Call → Bool
 is_alloc (Alloc alloc) = true
@@ -26,7 +31,7 @@ keeps_memory call = is_post call || is_alloc call
 
 -- a step of these may want memory
 abbrev pub takes_memory : Event → Bool
-takes_memory (Called caller call reply) = is_load call || keeps_memory call
+takes_memory (Called caller call reply) = looks_with_memory call || keeps_memory call
 takes_memory (Take origin queue target number outcome) = true
 takes_memory (Put origin queue target number outcome) = false
 

@@ -7,12 +7,12 @@ ghost use Rattle.gaspi_types.specs.declared.replies.Reply.{Reply};
 ghost use Rattle.gaspi_model.specs.Calls.{plain_finds, answer, plain_done, memory_done, peer_after, recorded_reply};
 ghost use Rattle.gaspi_model.specs.declared.states.Posts.{Posts};
 ghost use Rattle.plain_calls.specs.Looks.{Accepts, IsPostFinding, IsFinding, found_done};
-ghost use Rattle.plain_calls.specs.Memory.{is_load, is_alloc, keeps_memory};
+ghost use Rattle.plain_calls.specs.Memory.{is_load, is_alloc, looks_with_memory, keeps_memory};
 ghost use Rattle.plain_calls.specs.Room.{HasPlainRoom, HasCallRoom};
 ghost use Rattle.plain_calls.specs.Telling.{told};
 
 use crate::atomic_calls::{compare_swap_leaves, fetch_add_leaves, word_finds};
-use crate::looks::{Finding, Kinds};
+use crate::looks::Finding;
 use crate::memory_calls::{load_finds, store_finds, store_leaves};
 use crate::notification_calls::{reset_finds, reset_leaves, waitsome_finds};
 use crate::post_calls::posting_finds;
@@ -28,6 +28,7 @@ use gaspi_model::{Memory, Posts};
 use gaspi_types::{
     Call, CompareSwap, FetchAdd, Kind, Limits, NoMemory, RankId, Ready, Refusal, Reply, ThreadId,
 };
+use segment_tables::Kinds;
 use std::alloc::Global;
 
 /// What a call finds that posts nothing. Only a load takes memory.
@@ -93,7 +94,7 @@ fn posting_finding(finds: Result<Kinds, Refusal>) -> Finding
 }
 
 /// Looks at a call. The memory is that which the call works on: its rank's or, of an atomic, that of the rank that it
-/// names. Only a load takes memory.
+/// names. Only a load and the post of a list take memory.
 pub fn look(
     alloc: Global,
     limits: &Limits,
@@ -106,7 +107,7 @@ pub fn look(
     requires queues { length posts.now.queues ≤ 8 }
     requires corrupt { length posts.now.corrupt ≤ 32 }
     ensures look { IfOk result (λ look. IsFinding look limits.now me posts.now memory.now thread call.now) }
-    ensures ample { is_load call.now ≡ false → IsOk result }
+    ensures ample { looks_with_memory call.now ≡ false → IsOk result }
 {
     if !is_running(thread_at(posts, thread)) {
         return Ok(Finding {
@@ -115,7 +116,10 @@ pub fn look(
         });
     }
     match call.row().posting {
-        Some(to) => Ok(posting_finding(posting_finds(limits, me, posts, to, call))),
+        Some(to) => {
+            let finds = posting_finds(alloc, limits, me, posts, to, call)?;
+            Ok(posting_finding(finds))
+        }
         None => {
             let finds = plain_finds(alloc, limits, me, posts, memory, call)?;
             Ok(Finding {

@@ -19,7 +19,7 @@ mod threads;
 
 pub use calls::{look, news, tell};
 pub use lanes::{is_carried, is_posted, is_read, is_write, may_put, may_take, place_of};
-pub use looks::{Finding, Kinds};
+pub use looks::Finding;
 pub use memories::{bytes_of, new_slots, segment_at, set_slot};
 pub use queue_calls::purged_queue;
 pub use recording::record;

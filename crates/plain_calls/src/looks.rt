@@ -1,35 +1,13 @@
 //! What a look at a call found. It is recorded as it was found, and nothing of it is looked for again.
 
-ghost use Rattle.std.specs.Prelude.{◌≡◌, ◌≤◌, length};
+ghost use Rattle.std.specs.Prelude.{◌≡◌};
 ghost use Rattle.gaspi_types.specs.Replies.{same_reply, is_idle};
 ghost use Rattle.gaspi_model.specs.Calls.{recorded_reply};
-ghost use Rattle.plain_calls.specs.Looks.{kinds_of};
 
 use crate::replies::is_idle;
-use gaspi_types::{Kind, Ready, Reply};
+use gaspi_types::{Ready, Reply};
 use reply_comparison::same_reply;
-
-/// The kinds of the entries that a call asks to be appended, in order.
-#[derive(Clone, Copy, Debug)]
-pub enum Kinds {
-    Nothing,
-    One([Kind; 1]),
-    Two([Kind; 2]),
-}
-
-impl Kinds {
-    /// The kinds as a list.
-    pub fn as_slice(&self) -> &[Kind]
-        ensures kinds { result.now ≡ kinds_of self.now }
-        ensures bound { length result.now ≤ 2 }
-    {
-        match self {
-            Kinds::Nothing => &[],
-            Kinds::One(kinds) => kinds,
-            Kinds::Two(kinds) => kinds,
-        }
-    }
-}
+use segment_tables::Kinds;
 
 /// What a look at a call found: what it answers, and the kinds of the entries to append where it posts and is done.
 #[derive(Debug, Drop)]

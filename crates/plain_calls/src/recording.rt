@@ -8,7 +8,8 @@ ghost use Rattle.gaspi_model.specs.Calls.{memory_after, charge, recorded_reply};
 ghost use Rattle.gaspi_model.specs.Sound.{IsSoundPosts};
 ghost use Rattle.gaspi_model.specs.Step.{called, Steps, is_there};
 ghost use Rattle.gaspi_model.specs.Transfers.{Worked};
-ghost use Rattle.plain_calls.specs.Looks.{IsFinding, kinds_of, found_after, made_of};
+ghost use Rattle.segment_tables.specs.PostKinds.{kinds_of};
+ghost use Rattle.plain_calls.specs.Looks.{IsFinding, found_after, made_of};
 ghost use Rattle.plain_calls.specs.Memory.{keeps_memory};
 ghost use Rattle.plain_calls.specs.Room.{HasCallRoom, freed};
 
@@ -25,7 +26,7 @@ use std::alloc::Global;
 /// transfers of each entry for a post that is done, and else itself.
 fn charge(state: ThreadState, call: &Call, ready: &Ready) -> u32
     ensures value { result ≡ charge state call.now (recorded_reply ready.now) }
-    ensures bound { result ≤ 5 }
+    ensures bound { result ≤ 515 }
 {
     let row = call.row();
     if row.ends && is_running(state) {

@@ -299,7 +299,7 @@ posting s t (Called c call reply) id sound lane puts is =
         let post = posted s.limits c.rank done.p done.by.0 c.thread call reply posting p f in
         let after : counted (with_post done.p posting.queue posting.rank (call_asks s.limits c.rank done.p call)) ≡ done.p' = ap counted (sym (p.leaves c.thread)) ∙ (rw busy at done.by.1.after_is) in
         rw (← lane_of_post (nat_lt posting.rank 16 && nat_lt posting.queue 8) (lane_id c.rank posting.queue posting.rank) id lane, done.is, ← after)
-        (post_names s.posts c.rank s.limits done.p posting.queue posting.rank (call_asks s.limits c.rank done.p call) f.reply_found posting.entries done.there (sound.posts c.rank done.p done.there) post p.long p.some)
+        (post_names s.posts c.rank s.limits done.p posting.queue posting.rank (call_asks s.limits c.rank done.p call) f.reply_found posting.entries done.there (sound.posts c.rank done.p done.there) post p.long (p.some post.kinds post.made))
 posting s t transfer id sound lane puts is = absurd (let no : ⊥ = cc in no)
 
 -- a put

@@ -8,7 +8,7 @@ ghost use Rattle.gaspi_model.specs.Step.{step, Steps, is_declared};
 ghost use Rattle.gaspi_model.specs.declared.states.Memory.{Memory};
 ghost use Rattle.gaspi_model.specs.declared.states.Posts.{Posts};
 ghost use Rattle.plain_calls.specs.Looks.{made_of};
-ghost use Rattle.plain_calls.specs.Memory.{is_load, keeps_memory};
+ghost use Rattle.plain_calls.specs.Memory.{looks_with_memory, keeps_memory};
 ghost use Rattle.plain_machine.specs.Looking.{IsFindingIn, IsFindingOn, look_purge};
 ghost use Rattle.plain_machine.specs.Machine.{AreWhole, IsMachine, state_in, taken_of};
 ghost use Rattle.plain_machine.specs.Reaching.{call_reach, Lent, call_lent, AreRanks};
@@ -32,7 +32,7 @@ pub fn has_section(ranks: &Ranks, caller: &CallerId) -> bool
     }
 }
 
-/// Looks at a call of a caller. Only a load takes memory.
+/// Looks at a call of a caller. Only a load and the post of a list take memory.
 pub fn look_in(
     ranks: &Ranks,
     memories: &Rows<Memory>,
@@ -43,7 +43,7 @@ pub fn look_in(
     requires whole { AreWhole ranks.now memories.now }
     requires there { caller.now.rank < length ranks.now.posts }
     ensures look { IfOk result (λ look. IsFindingIn look (state_in ranks.now memories.now) caller.now call.now) }
-    ensures ample { is_load call.now ≡ false → IsOk result }
+    ensures ample { looks_with_memory call.now ≡ false → IsOk result }
 {
     let none = no_memory(alloc);
     let reach = call_reach(&ranks.limits, caller.rank, call);
@@ -241,7 +241,7 @@ pub fn step_called(
     ensures step { Steps result (state_in ranks.old memories.old) (state_in ranks.new memories.new) (step (state_in ranks.old memories.old) (Called caller call.now reply.now)) }
     ensures taken { ranks.new.taken ≡ map taken_of ranks.new.posts }
     ensures named { standing.new.items ≡ standing_lanes ranks.new.posts }
-    ensures ample { (is_load call.now || keeps_memory call.now) ≡ false → result ≢ Err StepFault.NoMemory }
+    ensures ample { (looks_with_memory call.now || keeps_memory call.now) ≡ false → result ≢ Err StepFault.NoMemory }
 {
     if !has_section(ranks, &caller) {
         return Err(StepFault::Illegal(Why::Caller));

@@ -8,7 +8,7 @@ ghost use Rattle.gaspi_model.specs.Transfers.{transfers};
 ghost use Rattle.gaspi_types.specs.declared.events.Event.TheVariants.{Called};
 ghost use Rattle.gaspi_model.specs.Calls.{recorded_reply};
 ghost use Rattle.plain_calls.specs.Looks.{made_of};
-ghost use Rattle.plain_calls.specs.Memory.{is_load, keeps_memory, takes_memory};
+ghost use Rattle.plain_calls.specs.Memory.{looks_with_memory, keeps_memory, takes_memory};
 ghost use Rattle.plain_machine.specs.Looking.{IsFindingIn};
 
 use crate::listing::{transfer_at, transfer_count, transfers};
@@ -82,12 +82,12 @@ impl Machine {
     }
 
     /// Looks at a call of a caller: its refusal or its reply, or that it is not ready, and what it asks to be appended. Only
-    /// a load takes memory, for the bytes that it reads.
+    /// a load takes memory, for the bytes that it reads, and the post of a list, for its entries.
     pub fn look(&self, alloc: Global, caller: CallerId, call: &Call) -> Result<Finding, NoMemory>
         requires { is_declared self.now caller.rank caller.thread ≡ true }
         ensures look { IfOk result (λ look. IsFindingIn look self.now caller call.now) }
         ensures answer { IfOk result (λ look. answer_in self.now caller.rank caller.thread call.now ≡ Some look.ready) }
-        ensures ample { is_load call.now ≡ false → IsOk result }
+        ensures ample { looks_with_memory call.now ≡ false → IsOk result }
     {
         look_in(&self.ranks, &self.memories, alloc, &caller, call)
     }
@@ -120,12 +120,12 @@ impl Machine {
         )
     }
 
-    /// What a look at a call answers: its refusal or its reply, or that it is not ready. Only a load takes memory, for
-    /// the bytes that it reads.
+    /// What a look at a call answers: its refusal or its reply, or that it is not ready. Only a load and the post of a list
+    /// take memory.
     pub fn answer(&self, alloc: Global, caller: CallerId, call: &Call) -> Result<Ready, NoMemory>
         requires { is_declared self.now caller.rank caller.thread ≡ true }
         ensures answer { IfOk result (λ ready. answer_in self.now caller.rank caller.thread call.now ≡ Some ready) }
-        ensures ample { is_load call.now ≡ false → IsOk result }
+        ensures ample { looks_with_memory call.now ≡ false → IsOk result }
     {
         let look = look_in(&self.ranks, &self.memories, alloc, &caller, call)?;
         Ok(look.ready)

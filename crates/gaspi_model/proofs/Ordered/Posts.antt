@@ -257,7 +257,7 @@ posted-write_notify w history c call s posts world h hp legal =
     let k = noted_writes-ok s.limits.notes c.rank posts.segments call.rank (write_notify_item call ∷ []) call.rseg call.note call.value a.leaves.kinds a.leaves.asks in
     let note = Notify (slot_in k.theirs call.rseg call.note) call.value in (
       first-of is_write w (history ++ Called c (calls.WriteNotify call) replies.Done ∷ []) c.rank call.queue call.rank posts.next 1 (omega arith)
-      (transfers-stand Outward is_write (near_in posts.segments) (far_in c.rank posts.segments call.rank) (write_notify_item call ∷ []) k.transfers (note ∷ []) w history c (calls.WriteNotify call) call.rank call.queue posts.next asked a writes k.are k.is),
+          (transfers-stand Outward is_write (near_in posts.segments) (far_in c.rank posts.segments call.rank) (write_notify_item call ∷ []) k.transfers (note ∷ []) w history c (calls.WriteNotify call) call.rank call.queue posts.next asked a writes k.are k.is),
       note-stands Outward is_notify (near_in posts.segments) (far_in c.rank posts.segments call.rank) (write_notify_item call ∷ []) k.transfers note w history c (calls.WriteNotify call) call.rank call.queue posts.next asked a (λ n. refl) k.are k.is,
     )
 
@@ -271,7 +271,7 @@ posted-read_notify w history c call s posts world h hp legal =
     let k = noted_reads-ok s.limits.notes c.rank posts.segments call.rank (read_notify_item call ∷ []) call.seg call.note a.leaves.kinds a.leaves.asks in
     let note = ReadNote (slot_in k.mine call.seg call.note) in (
       first-of is_read w (history ++ Called c (calls.ReadNotify call) replies.Done ∷ []) c.rank call.queue call.rank posts.next 1 (omega arith)
-      (transfers-stand Inward is_read (near_in posts.segments) (far_in c.rank posts.segments call.rank) (read_notify_item call ∷ []) k.transfers (note ∷ []) w history c (calls.ReadNotify call) call.rank call.queue posts.next asked a reads k.are k.is),
+          (transfers-stand Inward is_read (near_in posts.segments) (far_in c.rank posts.segments call.rank) (read_notify_item call ∷ []) k.transfers (note ∷ []) w history c (calls.ReadNotify call) call.rank call.queue posts.next asked a reads k.are k.is),
       note-stands Inward is_read_note (near_in posts.segments) (far_in c.rank posts.segments call.rank) (read_notify_item call ∷ []) k.transfers note w history c (calls.ReadNotify call) call.rank call.queue posts.next asked a (λ n. refl) k.are k.is,
     )
 

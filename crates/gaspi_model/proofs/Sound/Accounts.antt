@@ -124,10 +124,14 @@ put-owed posts memory queue target number Failed after at h =
 
 -- A call that is recorded: the room that is taken grows by its charge.
 
--- a call that posts asks for as many entries as its row says
+-- a call that posts asks for as many entries as its row says, and for at least one
 pub asks-counted : (limits : Limits) (me : ℕ) (posts : Posts) (call : Call) (to : Posting) (kinds : List Kind) → (row_of call).posting ≡ Some to
     → call_asks limits me posts call ≡ Ok kinds → length kinds ≡ to.entries
 asks-counted limits me posts call to kinds is h = (asked-by limits.notes me posts.segments call to kinds is h).count
+
+pub asks-some : (limits : Limits) (me : ℕ) (posts : Posts) (call : Call) (to : Posting) (kinds : List Kind) → (row_of call).posting ≡ Some to
+    → call_asks limits me posts call ≡ Ok kinds → 1 ≤ to.entries
+asks-some limits me posts call to kinds is h = (asked-by limits.notes me posts.segments call to kinds is h).some
 
 -- and is no end
 pub posting-goes_on : (call : Call) (to : Posting) → (row_of call).posting ≡ Some to → is_end call ≡ false
