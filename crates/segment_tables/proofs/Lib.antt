@@ -1,0 +1,2 @@
+mod OneTransfer
+mod ListPosts

@@ -1,0 +1,2 @@
+pub mod PostKinds
+pub mod ListPosts
