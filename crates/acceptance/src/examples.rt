@@ -88,6 +88,15 @@ notify 0 1 4 1 0 -> refused 8 4 1
 wait 0 block -> done
 notify 0 1 4 1 0 -> done
 
+# A list posts all of its entries or none. It has at least one item.
+notify 0 1 0 1 0 -> done
+notify 0 1 1 1 0 -> done
+notify 0 1 2 1 0 -> done
+write_list_notify 1 0 0 7 1 2 0 0 0 0 1 0 1 0 1 1 -> refused 8 3 3
+qsize 0 -> value 3
+
+write_list 1 0 0 -> refused 21
+
 # The slot comes before the value.
 notify 0 1 0 0 0 -> refused 11
 notify 0 1 8 1 0 -> refused 10

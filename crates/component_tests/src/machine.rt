@@ -1,7 +1,10 @@
 //! The machine in memory, call by call.
 
 use crate::one_rank::{caller, notified, notify, put, shape, taken};
-use gaspi_types::{Call, Event, QueueId, RankId, Ready, Reply, Reset, Transfer};
+use gaspi_types::{
+    Call, Event, Item, NoMemory, QueueId, RankId, Ready, Reply, Reset, Rows, Transfer,
+    WriteListNotify,
+};
 use plain_machine::Machine;
 use std::alloc::Global;
 use std::process::Abort;
@@ -90,5 +93,35 @@ fn transfers_are_listed_and_made(rt: HostRuntime) -> Result<(), Fail> {
     let end = Event::Called(caller(), Call::End, Reply::Done);
     steps(&rt, alloc, &mut machine, &end);
     assert!(rt; !machine.is_active(caller()));
+    Ok(())
+}
+
+/// Two writes of the rank to itself, and a notification behind them.
+fn list(alloc: Global) -> Result<Call, NoMemory> {
+    let item = Item {
+        seg: 0,
+        offset: 0,
+        rseg: 0,
+        roffset: 8,
+        size: 4,
+    };
+    Ok(Call::WriteListNotify(WriteListNotify {
+        rank: 0,
+        queue: 0,
+        nseg: 0,
+        note: 3,
+        value: 7,
+        items: Rows::copied_from(alloc, &[item, item])?,
+    }))
+}
+
+#[test]
+fn a_list_is_posted_by_an_event(rt: HostRuntime) -> Result<(), Fail> {
+    let alloc = rt.alloc();
+    let mut machine = start(alloc)?;
+    let posted = Event::Called(caller(), list(alloc)?, Reply::Done);
+    steps(&rt, alloc, &mut machine, &posted);
+    has_room(&rt, &machine, 992);
+    assert_eq!(rt; machine.transfer_count(), 3);
     Ok(())
 }

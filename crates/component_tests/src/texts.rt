@@ -96,6 +96,15 @@ fn calls_are_written(rt: HostRuntime) -> Result<(), Fail> {
     assert!(rt; is_call_text(alloc, b"store 0 8 abcd")?);
     assert!(rt; is_call_text(alloc, b"notify 1 2 3 4 5")?);
     assert!(rt; is_call_text(alloc, b"compare_swap 1 2 3 4 5")?);
+    assert!(rt; is_call_text(alloc, b"write_list 1 2 1 3 4 5 6 7")?);
+    assert!(rt; is_call_text(alloc, b"write_list_notify 1 2 3 4 5 1 6 7 8 9 10")?);
+    assert!(rt; is_call_text(alloc, b"read_list 1 2 0")?);
+    assert!(rt;
+        is_call_text(
+            alloc,
+            b"read_list_notify 1 2 3 4 2 5 6 7 8 9 10 11 12 13 14"
+        )?
+    );
     assert!(rt; is_call_text(alloc, b"end")?);
     Ok(())
 }
