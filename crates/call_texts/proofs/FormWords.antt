@@ -1,14 +1,15 @@
 -- The words of a form, read back, and what they spell.
-use Rattle.std.proofs.Common.{◌≡◌, ℕ, ◌^◌, ◌<◌, List, [], ◌∷◌, ◌++◌, Option, Some, refl, subst, append_assoc}
-use Rattle.std.specs.List.{AllByRecursion}
+use Rattle.std.proofs.Common.{◌≡◌, ℕ, zero, suc, ◌^◌, ◌<◌, List, [], ◌∷◌, ◌++◌, length, Option, Some, refl, sym, ap, subst, append_assoc}
+use Rattle.std.specs.List.{AllByRecursion, flat_map}
 use Rattle.std.proofs.lemmas.Option.{option_and_then_some, same_Some, none-some}
 use Rattle.hex.specs.Hex.{IsBytes}
-use Rattle.call_texts.specs.Fields.{FieldValue, IsInRange, words_of_field, first_spells, field_taken, Fields, AreInRange, words_of_fields, fields_taken}
+use Rattle.gaspi_types.specs.declared.calls.posts.Item.{Item}
+use Rattle.call_texts.specs.Fields.{IsNumber, FieldValue, IsItemInRange, IsInRange, words_of_item, words_of_field, first_spells, item_taken, items_taken, field_taken, Fields, AreInRange, words_of_fields, fields_taken}
 use Rattle.call_texts.specs.Hex.{bytes_of}
 use Rattle.call_texts.specs.Numbers.{number_of, value_of}
 use Rattle.call_texts.specs.Words.{IsPlainWord}
 use Rattle.call_texts.specs.declared.fields.Field.{Field}
-use Rattle.call_texts.specs.declared.fields.Field.TheVariants.{Number, Value, Bytes}
+use Rattle.call_texts.specs.declared.fields.Field.TheVariants.{Number, Value, Bytes, Items}
 use Rattle.call_texts.proofs.HexWords.{bytes_of-hex_text}
 use Rattle.call_texts.proofs.NumberWords.{number_of-decimal, value_of-decimal}
 use Rattle.call_texts.proofs.PlainWords.{number_word, small_word, hex_word}
@@ -16,11 +17,28 @@ use Rattle.call_texts.proofs.WordRanges.{number_of-range, value_of-range, bytes_
 
 -- What is written is read back.
 
+item-back : (item : Item) (behind : List (List ℕ)) → IsItemInRange item → item_taken (words_of_item item ++ behind) ≡ Some (item, behind)
+item-back item behind small =
+    rw (
+      number_of-decimal item.seg small.0,
+      number_of-decimal item.offset small.1,
+      number_of-decimal item.rseg small.2,
+      number_of-decimal item.roffset small.3,
+      number_of-decimal item.size small.4,
+    ) refl
+
+items-back : (items : List Item) (behind : List (List ℕ)) → AllByRecursion IsItemInRange items
+    → items_taken (length items) (flat_map words_of_item items ++ behind) ≡ Some (items, behind)
+items-back [] behind small = refl
+items-back (item ∷ items) behind small =
+    rw (item-back item (flat_map words_of_item items ++ behind) small.0, items-back items behind small.1) refl
+
 field-back : (field : Field) (value : FieldValue field) (behind : List (List ℕ)) → IsInRange field value
     → field_taken field (words_of_field field value ++ behind) ≡ Some (value, behind)
 field-back Number n behind small = rw (number_of-decimal n small) refl
 field-back Value n behind small = rw (value_of-decimal n small) refl
 field-back Bytes bytes behind small = rw (bytes_of-hex_text bytes small) refl
+field-back Items items behind small = rw (number_of-decimal (length items) small.0) (items-back items behind small.1)
 
 pub form-back : (form : List Field) (fields : Fields form) (behind : List (List ℕ)) → AreInRange form fields
     → fields_taken form (words_of_fields form fields ++ behind) ≡ Some (fields, behind)
@@ -37,11 +55,50 @@ one-range {A = A} P read range (word ∷ words) taken is =
     option_and_then_some _ (read word) taken is (λ value spelled found.
     subst (λ (t : A × List (List ℕ)). P t.0) (same_Some (value, words) taken found) (range word value spelled))
 
+number-range : (words : List (List ℕ)) (taken : ℕ × List (List ℕ)) → first_spells number_of words ≡ Some taken → IsNumber taken.0
+number-range words taken is = one-range (λ (n : ℕ). IsNumber n) number_of number_of-range words taken is
+
+item-range : (words : List (List ℕ)) (taken : Item × List (List ℕ)) → item_taken words ≡ Some taken → IsItemInRange taken.0
+item-range words taken is =
+    option_and_then_some _ (first_spells number_of words) taken is (λ seg first behind_seg.
+    option_and_then_some _ (first_spells number_of seg.1) taken behind_seg (λ offset second behind_offset.
+    option_and_then_some _ (first_spells number_of offset.1) taken behind_offset (λ rseg third behind_rseg.
+    option_and_then_some _ (first_spells number_of rseg.1) taken behind_rseg (λ roffset fourth behind_roffset.
+    option_and_then_some _ (first_spells number_of roffset.1) taken behind_roffset (λ size fifth same.
+    subst (λ (t : Item × List (List ℕ)). IsItemInRange t.0) (same_Some (record { seg = seg.0; offset = offset.0; rseg = rseg.0; roffset = roffset.0; size = size.0 }, size.1) taken same) (
+      number-range words seg first,
+      number-range seg.1 offset second,
+      number-range offset.1 rseg third,
+      number-range rseg.1 roffset fourth,
+      number-range roffset.1 size fifth,
+    ))))))
+
+record AreItems (count : ℕ) (items : List Item) : Type 0 where
+  counted : length items ≡ count
+  range : AllByRecursion IsItemInRange items
+
+items-range : (count : ℕ) (words : List (List ℕ)) (taken : List Item × List (List ℕ)) → items_taken count words ≡ Some taken → AreItems count taken.0
+items-range zero words taken is =
+    subst (λ (t : List Item × List (List ℕ)). AreItems zero t.0) (same_Some ([], words) taken is) (record { counted = refl; range = tt })
+items-range (suc count) words taken is =
+    option_and_then_some _ (item_taken words) taken is (λ first spelled found.
+    option_and_then_some _ (items_taken count first.1) taken found (λ others read same.
+    let later = items-range count first.1 others read in
+    subst (λ (t : List Item × List (List ℕ)). AreItems (suc count) t.0) (same_Some (first.0 ∷ others.0, others.1) taken same)
+    (record { counted = ap suc later.counted; range = (item-range words first spelled, later.range) })))
+
+list-range : (words : List (List ℕ)) (taken : List Item × List (List ℕ)) → field_taken Items words ≡ Some taken → IsInRange Items taken.0
+list-range words taken is =
+    option_and_then_some _ (first_spells number_of words) taken is (λ count spelled found.
+    let items = items-range count.0 count.1 taken found in
+    (subst (λ (n : ℕ). IsNumber n) (sym items.counted) (number-range words count spelled), items.range))
+
 field-range : (field : Field) (words : List (List ℕ)) (taken : FieldValue field × List (List ℕ)) → field_taken field words ≡ Some taken
     → IsInRange field taken.0
-field-range Number words taken is = one-range (λ (n : ℕ). n < 2 ^ 64) number_of number_of-range words taken is
+field-range Number words taken is = number-range words taken is
 field-range Value words taken is = one-range (λ (n : ℕ). n < 2 ^ 32) value_of value_of-range words taken is
 field-range Bytes words taken is = one-range IsBytes bytes_of bytes_of-range words taken is
+field-range Items words taken is = list-range words taken is
 
 pub form-range : (form : List Field) (words : List (List ℕ)) (taken : Fields form × List (List ℕ)) → fields_taken form words ≡ Some taken
     → AreInRange form taken.0
@@ -58,10 +115,19 @@ both-plain : (words others : List (List ℕ)) → AllByRecursion IsPlainWord wor
 both-plain [] others first second = second
 both-plain (word ∷ words) others first second = (first.0, both-plain words others first.1 second)
 
+item-plain : (item : Item) → IsItemInRange item → AllByRecursion IsPlainWord (words_of_item item)
+item-plain item small =
+    (number_word item.seg small.0, (number_word item.offset small.1, (number_word item.rseg small.2, (number_word item.roffset small.3, (number_word item.size small.4, tt)))))
+
+items-plain : (items : List Item) → AllByRecursion IsItemInRange items → AllByRecursion IsPlainWord (flat_map words_of_item items)
+items-plain [] small = tt
+items-plain (item ∷ items) small = both-plain (words_of_item item) (flat_map words_of_item items) (item-plain item small.0) (items-plain items small.1)
+
 field-plain : (field : Field) (value : FieldValue field) → IsInRange field value → AllByRecursion IsPlainWord (words_of_field field value)
 field-plain Number n small = (number_word n small, tt)
 field-plain Value n small = (small_word n small, tt)
 field-plain Bytes bytes small = (hex_word bytes small, tt)
+field-plain Items items small = (number_word (length items) small.0, items-plain items small.1)
 
 pub form-plain : (form : List Field) (fields : Fields form) → AreInRange form fields → AllByRecursion IsPlainWord (words_of_fields form fields)
 form-plain [] fields small = tt

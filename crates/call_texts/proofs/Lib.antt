@@ -1,6 +1,9 @@
 pub mod CallTexts
+pub mod CountedWords
+pub mod FormCounts
 pub mod FormWords
 pub mod HexWords
+pub mod ItemWords
 pub mod JoinedWords
 pub mod NumberWords
 pub mod Pieces

@@ -1,16 +1,16 @@
 -- The texts of calls.
-use Rattle.std.specs.Prelude.{ℕ, Bool, true, false, List, [], ◌∷◌, length, Option, Some, None, find, ◌==◌, if◌then◌else◌, codes}
+use Rattle.std.specs.Prelude.{ℕ, ◌+◌, Bool, true, false, List, [], ◌∷◌, length, Option, Some, None, find, ◌==◌, if◌then◌else◌, codes}
 use Rattle.std.specs.List.{join_with_byte}
 use Rattle.std.specs.Str.{bytes_eq}
 use Rattle.std.specs.Option.{option_map_or}
 use Rattle.call_texts.specs.Words.{words_of}
-use Rattle.call_texts.specs.Fields.{◌>>=◌, Fields, AreInRange, words_of_fields, fields_taken, has_list}
+use Rattle.call_texts.specs.Fields.{◌>>=◌, Fields, AreInRange, words_of_fields, fields_taken, form_words, has_list}
 use Rattle.gaspi_types.specs.declared.calls.Call.{Call}
 use Rattle.gaspi_types.specs.declared.calls.Call.TheVariants as calls
 use Rattle.call_texts.specs.declared.fields.Field.{Field}
-use Rattle.call_texts.specs.declared.fields.Field.TheVariants.{Number, Value, Bytes}
+use Rattle.call_texts.specs.declared.fields.Field.TheVariants.{Number, Value, Bytes, Items}
 use Rattle.call_texts.specs.declared.call_words.CallWord.{CallWord}
-use Rattle.call_texts.specs.declared.call_words.CallWord.TheVariants.{Alloc, Register, Delete, Store, Load, Write, Read, Notify, WriteNotify, ReadNotify, Wait, Purge, Qsize, Waitsome, Reset, FetchAdd, CompareSwap, State}
+use Rattle.call_texts.specs.declared.call_words.CallWord.TheVariants.{Alloc, Register, Delete, Store, Load, Write, Read, Notify, WriteNotify, ReadNotify, WriteList, WriteListNotify, ReadList, ReadListNotify, Wait, Purge, Qsize, Waitsome, Reset, FetchAdd, CompareSwap, State}
 
 -- how a call's word is spelled, and the form of what follows it, a timeout aside
 pub record WordRow : Type 0 where
@@ -42,6 +42,15 @@ word_row WriteNotify =
     record { spelling = codes "write_notify"; form = Number ∷ Number ∷ Number ∷ Number ∷ Number ∷ Number ∷ Number ∷ Value ∷ Number ∷ [] }
 -- SEG OFF RANK RSEG ROFF SIZE NOTE QUEUE
 word_row ReadNotify = record { spelling = codes "read_notify"; form = Number ∷ Number ∷ Number ∷ Number ∷ Number ∷ Number ∷ Number ∷ Number ∷ [] }
+-- RANK QUEUE N, and N items
+word_row WriteList = record { spelling = codes "write_list"; form = Number ∷ Number ∷ Items ∷ [] }
+-- RANK QUEUE NSEG NOTE VALUE N, and N items
+word_row WriteListNotify =
+    record { spelling = codes "write_list_notify"; form = Number ∷ Number ∷ Number ∷ Number ∷ Value ∷ Items ∷ [] }
+-- RANK QUEUE N, and N items
+word_row ReadList = record { spelling = codes "read_list"; form = Number ∷ Number ∷ Items ∷ [] }
+-- RANK QUEUE NSEG NOTE N, and N items
+word_row ReadListNotify = record { spelling = codes "read_list_notify"; form = Number ∷ Number ∷ Number ∷ Number ∷ Items ∷ [] }
 -- QUEUE
 word_row Wait = record { spelling = codes "wait"; form = Number ∷ [] }
 -- QUEUE
@@ -68,21 +77,27 @@ form_of word = (word_row word).form
 -- the words of calls
 abbrev pub call_words : List CallWord
 call_words =
-    Alloc ∷ Register ∷ Delete ∷ Store ∷ Load ∷ Write ∷ Read ∷ Notify ∷ WriteNotify ∷ ReadNotify ∷ Wait ∷ Purge ∷ Qsize ∷ Waitsome ∷ Reset ∷ FetchAdd ∷ CompareSwap ∷ State ∷ []
+    Alloc ∷ Register ∷ Delete ∷ Store ∷ Load ∷ Write ∷ Read ∷ Notify ∷ WriteNotify ∷ ReadNotify ∷ WriteList ∷ WriteListNotify ∷ ReadList ∷ ReadListNotify ∷ Wait ∷ Purge ∷ Qsize ∷ Waitsome ∷ Reset ∷ FetchAdd ∷ CompareSwap ∷ State ∷ []
 
 -- the call's word that is spelled so
 unfoldable pub call_word_of : List ℕ → Option CallWord
 call_word_of word = find (λ call. bytes_eq (spelling_of call) word) call_words
 
--- how many words follow, a timeout aside
-abbrev pub arguments_of : CallWord → ℕ
-arguments_of word = length (form_of word)
+-- how many of the words behind it are its arguments; none where the number of a list is not of the form of a number
+abbrev pub arguments_of : CallWord → List (List ℕ) → Option ℕ
+arguments_of word words = form_words (form_of word) words
 
 -- whether a timeout belongs to the call (GASPI: timeouts)
 abbrev pub has_timeout : CallWord → Bool
 has_timeout Wait = true
 has_timeout Waitsome = true
 has_timeout word = false
+
+-- how many words stand behind it: its arguments, and a timeout where one belongs to the call
+abbrev pub given_count : CallWord → List (List ℕ) → Option ℕ
+given_count word words = do
+  arguments ← arguments_of word words
+  Some (arguments + (if has_timeout word then 1 else 0))
 
 -- whether the call's text holds a list, which takes memory as it is read
 abbrev pub holds_list : CallWord → Bool
@@ -111,6 +126,12 @@ spelled (calls.WriteNotify call) =
     Some (record { word = WriteNotify; fields = (call.seg, (call.offset, (call.rank, (call.rseg, (call.roffset, (call.size, (call.note, (call.value, (call.queue, tt))))))))) })
 spelled (calls.ReadNotify call) =
     Some (record { word = ReadNotify; fields = (call.seg, (call.offset, (call.rank, (call.rseg, (call.roffset, (call.size, (call.note, (call.queue, tt)))))))) })
+spelled (calls.WriteList call) = Some (record { word = WriteList; fields = (call.rank, (call.queue, (call.items, tt))) })
+spelled (calls.WriteListNotify call) =
+    Some (record { word = WriteListNotify; fields = (call.rank, (call.queue, (call.nseg, (call.note, (call.value, (call.items, tt)))))) })
+spelled (calls.ReadList call) = Some (record { word = ReadList; fields = (call.rank, (call.queue, (call.items, tt))) })
+spelled (calls.ReadListNotify call) =
+    Some (record { word = ReadListNotify; fields = (call.rank, (call.queue, (call.nseg, (call.note, (call.items, tt))))) })
 spelled (calls.Wait call) = Some (record { word = Wait; fields = (call.queue, tt) })
 spelled (calls.Purge call) = Some (record { word = Purge; fields = (call.queue, tt) })
 spelled (calls.Qsize call) = Some (record { word = Qsize; fields = (call.queue, tt) })
@@ -139,6 +160,12 @@ call_with WriteNotify (seg, (offset, (rank, (rseg, (roffset, (size, (note, (valu
     calls.WriteNotify (record { seg = seg; offset = offset; rank = rank; rseg = rseg; roffset = roffset; size = size; note = note; value = value; queue = queue })
 call_with ReadNotify (seg, (offset, (rank, (rseg, (roffset, (size, (note, (queue, end)))))))) =
     calls.ReadNotify (record { seg = seg; offset = offset; rank = rank; rseg = rseg; roffset = roffset; size = size; note = note; queue = queue })
+call_with WriteList (rank, (queue, (items, end))) = calls.WriteList (record { rank = rank; queue = queue; items = items })
+call_with WriteListNotify (rank, (queue, (nseg, (note, (value, (items, end)))))) =
+    calls.WriteListNotify (record { rank = rank; queue = queue; nseg = nseg; note = note; value = value; items = items })
+call_with ReadList (rank, (queue, (items, end))) = calls.ReadList (record { rank = rank; queue = queue; items = items })
+call_with ReadListNotify (rank, (queue, (nseg, (note, (items, end))))) =
+    calls.ReadListNotify (record { rank = rank; queue = queue; nseg = nseg; note = note; items = items })
 call_with Wait (queue, end) = calls.Wait (record { queue = queue })
 call_with Purge (queue, end) = calls.Purge (record { queue = queue })
 call_with Qsize (queue, end) = calls.Qsize (record { queue = queue })

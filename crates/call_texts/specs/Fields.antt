@@ -1,12 +1,14 @@
 -- Forms: the kinds of the fields that follow a word, in their order. How a form is read, what is written of it, and
 -- which values are in the ranges of their types, all by the kinds of its fields. (own choice)
-use Rattle.std.specs.Prelude.{ℕ, ◌^◌, ◌<◌, Bool, true, false, ◌||◌, List, [], ◌∷◌, ◌++◌, Option, Some, None, option_and_then}
+use Rattle.std.specs.Prelude.{ℕ, zero, suc, ◌+◌, ◌*◌, ◌^◌, ◌<◌, Bool, true, false, ◌||◌, List, [], ◌∷◌, ◌++◌, length, drop, flat_map, Option, Some, None, option_and_then}
 use Rattle.std.specs.Fmt.{decimal}
+use Rattle.std.specs.List.{AllByRecursion}
 use Rattle.hex.specs.Hex.{IsBytes}
 use Rattle.call_texts.specs.Hex.{bytes_of, hex_text}
 use Rattle.call_texts.specs.Numbers.{number_of, value_of}
+use Rattle.gaspi_types.specs.declared.calls.posts.Item.{Item}
 use Rattle.call_texts.specs.declared.fields.Field.{Field}
-use Rattle.call_texts.specs.declared.fields.Field.TheVariants.{Number, Value, Bytes}
+use Rattle.call_texts.specs.declared.fields.Field.TheVariants.{Number, Value, Bytes, Items}
 
 -- the second step, where the first gave a value
 infixl 10 ◌>>=◌
@@ -24,18 +26,30 @@ abbrev pub FieldValue : Field → Type 0
 FieldValue Number = ℕ
 FieldValue Value = ℕ
 FieldValue Bytes = List ℕ
+FieldValue Items = List Item
+
+-- an item's numbers are of 64 bits
+abbrev pub IsItemInRange : Item → Type 0
+IsItemInRange item = IsNumber item.seg × IsNumber item.offset × IsNumber item.rseg × IsNumber item.roffset × IsNumber item.size
 
 -- its value is one of its type
 abbrev pub IsInRange : (field : Field) → FieldValue field → Type 0
 IsInRange Number n = IsNumber n
 IsInRange Value n = n < 2 ^ 32
 IsInRange Bytes bytes = IsBytes bytes
+IsInRange Items items = IsNumber (length items) × AllByRecursion IsItemInRange items
 
--- its words in the one form that is written
+-- the words of an item, SEG OFF RSEG ROFF SIZE
+abbrev pub words_of_item : Item → List (List ℕ)
+words_of_item item =
+    decimal item.seg ∷ decimal item.offset ∷ decimal item.rseg ∷ decimal item.roffset ∷ decimal item.size ∷ []
+
+-- its words in the one form that is written; those of items stand behind their number
 abbrev pub words_of_field : (field : Field) → FieldValue field → List (List ℕ)
 words_of_field Number n = decimal n ∷ []
 words_of_field Value n = decimal n ∷ []
 words_of_field Bytes bytes = hex_text bytes ∷ []
+words_of_field Items items = decimal (length items) ∷ flat_map words_of_item items
 
 -- what the first of the words spells, and the words behind it
 abbrev pub first_spells : {A : Type 0} → (List ℕ → Option A) → List (List ℕ) → Option (A × List (List ℕ))
@@ -44,16 +58,45 @@ first_spells read (word ∷ words) = do
   value ← read word
   Some (value, words)
 
+-- the item that the words in front spell, and the words behind them
+abbrev pub item_taken : List (List ℕ) → Option (Item × List (List ℕ))
+item_taken words = do
+  seg ← first_spells number_of words
+  offset ← first_spells number_of seg.1
+  rseg ← first_spells number_of offset.1
+  roffset ← first_spells number_of rseg.1
+  size ← first_spells number_of roffset.1
+  Some (record { seg = seg.0; offset = offset.0; rseg = rseg.0; roffset = roffset.0; size = size.0 }, size.1)
+
+-- so many items that the words in front spell, one after the other, and the words behind them
+abbrev pub items_taken : ℕ → List (List ℕ) → Option (List Item × List (List ℕ))
+items_taken zero words = Some ([], words)
+items_taken (suc count) words = do
+  first ← item_taken words
+  others ← items_taken count first.1
+  Some (first.0 ∷ others.0, others.1)
+
 -- the value that the words in front spell, and the words behind them
 abbrev pub field_taken : (field : Field) → List (List ℕ) → Option (FieldValue field × List (List ℕ))
 field_taken Number words = first_spells number_of words
 field_taken Value words = first_spells value_of words
 field_taken Bytes words = first_spells bytes_of words
+field_taken Items words = do
+  count ← first_spells number_of words
+  items_taken count.0 count.1
 
 -- whether it is a list, which takes memory as it is read
 abbrev pub is_list : Field → Bool
 is_list Bytes = true
+is_list Items = true
 is_list field = false
+
+-- how many of the words in front it takes; none where the number of its items is not of the form of a number
+abbrev pub field_words : Field → List (List ℕ) → Option ℕ
+field_words Items (word ∷ words) = do
+  count ← number_of word
+  Some (1 + 5 * count)
+field_words field words = Some 1
 
 -- Forms.
 
@@ -81,3 +124,11 @@ fields_taken (field ∷ form) words = do
 abbrev pub has_list : List Field → Bool
 has_list [] = false
 has_list (field ∷ form) = is_list field || has_list form
+
+-- how many of the words in front a form takes, one field after the other
+abbrev pub form_words : List Field → List (List ℕ) → Option ℕ
+form_words [] words = Some 0
+form_words (field ∷ form) words = do
+  first ← field_words field words
+  others ← form_words form (drop first words)
+  Some (first + others)

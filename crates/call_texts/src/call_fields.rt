@@ -10,7 +10,8 @@ ghost use Rattle.call_texts.specs.declared.call_words.CallWord.TheVariants as ca
 use crate::field_words::FieldWords;
 use gaspi_types::{
     Alloc, Call, CompareSwap, Delete, FetchAdd, Load, NoMemory, Notify, Purge, Qsize, Read,
-    ReadNotify, Register, Reset, Store, Wait, Waitsome, Write, WriteNotify,
+    ReadList, ReadListNotify, ReadNotify, Register, Reset, Store, Wait, Waitsome, Write, WriteList,
+    WriteListNotify, WriteNotify,
 };
 use std::alloc::Global;
 
@@ -134,6 +135,106 @@ pub(crate) fn take_read_notify(fields: &mut FieldWords) -> Option<Call>
         note: fields.number()?,
         queue: fields.number()?,
     }))
+}
+
+pub(crate) fn take_write_list(
+    alloc: Global,
+    fields: &mut FieldWords,
+) -> Result<Option<Call>, NoMemory>
+    ensures { IfOk result (λ call. option_map (λ c. (c, words_in fields.new)) call ≡ call_taken call_words.WriteList (words_in fields.old)) }
+{
+    let Some(rank) = fields.number() else {
+        return Ok(None);
+    };
+    let Some(queue) = fields.number() else {
+        return Ok(None);
+    };
+    let Some(items) = fields.items(alloc)? else {
+        return Ok(None);
+    };
+    Ok(Some(Call::WriteList(WriteList { rank, queue, items })))
+}
+
+pub(crate) fn take_write_list_notify(
+    alloc: Global,
+    fields: &mut FieldWords,
+) -> Result<Option<Call>, NoMemory>
+    ensures { IfOk result (λ call. option_map (λ c. (c, words_in fields.new)) call ≡ call_taken call_words.WriteListNotify (words_in fields.old)) }
+{
+    let Some(rank) = fields.number() else {
+        return Ok(None);
+    };
+    let Some(queue) = fields.number() else {
+        return Ok(None);
+    };
+    let Some(nseg) = fields.number() else {
+        return Ok(None);
+    };
+    let Some(note) = fields.number() else {
+        return Ok(None);
+    };
+    let Some(value) = fields.value() else {
+        return Ok(None);
+    };
+    let Some(items) = fields.items(alloc)? else {
+        return Ok(None);
+    };
+    Ok(Some(Call::WriteListNotify(WriteListNotify {
+        rank,
+        queue,
+        nseg,
+        note,
+        value,
+        items,
+    })))
+}
+
+pub(crate) fn take_read_list(
+    alloc: Global,
+    fields: &mut FieldWords,
+) -> Result<Option<Call>, NoMemory>
+    ensures { IfOk result (λ call. option_map (λ c. (c, words_in fields.new)) call ≡ call_taken call_words.ReadList (words_in fields.old)) }
+{
+    let Some(rank) = fields.number() else {
+        return Ok(None);
+    };
+    let Some(queue) = fields.number() else {
+        return Ok(None);
+    };
+    let Some(items) = fields.items(alloc)? else {
+        return Ok(None);
+    };
+    Ok(Some(Call::ReadList(ReadList { rank, queue, items })))
+}
+
+pub(crate) fn take_read_list_notify(
+    alloc: Global,
+    fields: &mut FieldWords,
+) -> Result<Option<Call>, NoMemory>
+    ensures { IfOk result (λ call. option_map (λ c. (c, words_in fields.new)) call ≡ call_taken call_words.ReadListNotify (words_in fields.old)) }
+{
+    let Some(rank) = fields.number() else {
+        return Ok(None);
+    };
+    let Some(queue) = fields.number() else {
+        return Ok(None);
+    };
+    let Some(nseg) = fields.number() else {
+        return Ok(None);
+    };
+    let Some(note) = fields.number() else {
+        return Ok(None);
+    };
+    let Some(items) = fields.items(alloc)? else {
+        return Ok(None);
+    };
+    Ok(Some(Call::ReadListNotify(ReadListNotify {
+        rank,
+        queue,
+        nseg,
+        note,
+        items,
+    })))
 }
 
 pub(crate) fn take_wait(fields: &mut FieldWords) -> Option<Call>

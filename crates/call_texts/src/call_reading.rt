@@ -8,8 +8,9 @@ ghost use Rattle.call_texts.specs.FieldWords.{words_in};
 use crate::blanks::words;
 use crate::call_fields::{
     take_alloc, take_compare_swap, take_delete, take_fetch_add, take_load, take_notify, take_purge,
-    take_qsize, take_read, take_read_notify, take_register, take_reset, take_store, take_wait,
-    take_waitsome, take_write, take_write_notify,
+    take_qsize, take_read, take_read_list, take_read_list_notify, take_read_notify, take_register,
+    take_reset, take_store, take_wait, take_waitsome, take_write, take_write_list,
+    take_write_list_notify, take_write_notify,
 };
 use crate::call_words::CallWord;
 use crate::field_words::FieldWords;
@@ -36,6 +37,10 @@ fn take_call(
         CallWord::Notify => Ok(take_notify(fields)),
         CallWord::WriteNotify => Ok(take_write_notify(fields)),
         CallWord::ReadNotify => Ok(take_read_notify(fields)),
+        CallWord::WriteList => take_write_list(alloc, fields),
+        CallWord::WriteListNotify => take_write_list_notify(alloc, fields),
+        CallWord::ReadList => take_read_list(alloc, fields),
+        CallWord::ReadListNotify => take_read_list_notify(alloc, fields),
         CallWord::Wait => Ok(take_wait(fields)),
         CallWord::Purge => Ok(take_purge(fields)),
         CallWord::Qsize => Ok(take_qsize(fields)),
@@ -67,8 +72,8 @@ pub fn read_arguments(
     }
 }
 
-/// The call that words spell: a call's word and exactly its arguments, without a timeout. Only the bytes of a `store`
-/// take memory.
+/// The call that words spell: a call's word and exactly its arguments, without a timeout. Only a list takes
+/// memory.
 #[tactic(auto, unfolding(crate::specs::CallText::call_of))]
 pub fn read_call_words(alloc: Global, words: &[&[u8]]) -> Result<Option<Call>, NoMemory>
     ensures ok { IfOk result (λ call. call ≡ call_of (map (λ word. word.now) words.now)) }

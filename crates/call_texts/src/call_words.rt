@@ -1,9 +1,11 @@
 //! The words that calls begin with.
 
-ghost use Rattle.std.specs.Prelude.{◌≡◌, is_some};
-ghost use Rattle.call_texts.specs.CallText.{spelling_of, form_of, call_word_of, arguments_of, has_timeout};
+ghost use Rattle.std.specs.Prelude.{◌≡◌, ◌==◌, map, length};
+ghost use Rattle.std.specs.Option.{option_map};
+ghost use Rattle.call_texts.specs.CallText.{spelling_of, form_of, call_word_of, given_count, has_timeout};
 
-use crate::fields::Field::{self, Bytes, Number, Value};
+use crate::fields::Field::{self, Bytes, Items, Number, Value};
+use crate::form_counts::are_counted;
 
 /// The word that a call's text begins with.
 #[derive(Clone, Copy, Debug, PartialEq, Eq)]
@@ -18,6 +20,10 @@ pub enum CallWord {
     Notify,
     WriteNotify,
     ReadNotify,
+    WriteList,
+    WriteListNotify,
+    ReadList,
+    ReadListNotify,
     Wait,
     Purge,
     Qsize,
@@ -66,6 +72,16 @@ impl CallWord {
                 ],
             ),
             CallWord::ReadNotify => WordRow::new(b"read_notify", &[Number; 8]),
+            CallWord::WriteList => WordRow::new(b"write_list", &[Number, Number, Items]),
+            CallWord::WriteListNotify => WordRow::new(
+                b"write_list_notify",
+                &[Number, Number, Number, Number, Value, Items],
+            ),
+            CallWord::ReadList => WordRow::new(b"read_list", &[Number, Number, Items]),
+            CallWord::ReadListNotify => WordRow::new(
+                b"read_list_notify",
+                &[Number, Number, Number, Number, Items],
+            ),
             CallWord::Wait => WordRow::new(b"wait", &[Number]),
             CallWord::Purge => WordRow::new(b"purge", &[Number]),
             CallWord::Qsize => WordRow::new(b"qsize", &[Number]),
@@ -100,6 +116,10 @@ impl CallWord {
             CallWord::Notify,
             CallWord::WriteNotify,
             CallWord::ReadNotify,
+            CallWord::WriteList,
+            CallWord::WriteListNotify,
+            CallWord::ReadList,
+            CallWord::ReadListNotify,
             CallWord::Wait,
             CallWord::Purge,
             CallWord::Qsize,
@@ -114,11 +134,13 @@ impl CallWord {
         .find(|call| call.spelling() == word)
     }
 
-    /// How many words follow it, a timeout aside.
-    pub fn argument_count(self) -> usize
-        ensures { result ≡ arguments_of self }
+    /// Whether so many words stand behind it: its arguments, and its timeout where it takes one. None where the number of
+    /// a list is not of the form of a number.
+    pub fn has_count(self, words: &[&[u8]]) -> Option<bool>
+        ensures { result ≡ option_map (λ count. length words.now == count) (given_count self (map (λ word. word.now) words.now)) }
     {
-        self.row().form.len()
+        let timeouts = if self.takes_timeout() { 1 } else { 0 };
+        are_counted(self.row().form, words, timeouts)
     }
 
     /// Whether its call has a timeout. (GASPI: timeouts)

@@ -4,7 +4,7 @@ ghost use Rattle.std.specs.Prelude.{◌≡◌, ◌++◌, take, length, OnOk, OnE
 ghost use Rattle.call_texts.specs.CallText.{call_text};
 
 use crate::call_words::CallWord;
-use crate::words_written::{append_bytes, append_line};
+use crate::words_written::{append_bytes, append_line, append_list};
 use gaspi_types::{Bytes, Call, NoMemory};
 
 /// Adds the text of a call. Without memory the text keeps its front.
@@ -94,6 +94,36 @@ fn append_call(text: &mut Bytes, call: &Call) -> Result<(), NoMemory>
                 call.note,
                 call.queue,
             ],
+        ),
+        Call::WriteList(call) => append_list(
+            text,
+            CallWord::WriteList.spelling(),
+            &[call.rank, call.queue],
+            call.items.as_slice(),
+        ),
+        Call::WriteListNotify(call) => append_list(
+            text,
+            CallWord::WriteListNotify.spelling(),
+            &[
+                call.rank,
+                call.queue,
+                call.nseg,
+                call.note,
+                u64::from(call.value),
+            ],
+            call.items.as_slice(),
+        ),
+        Call::ReadList(call) => append_list(
+            text,
+            CallWord::ReadList.spelling(),
+            &[call.rank, call.queue],
+            call.items.as_slice(),
+        ),
+        Call::ReadListNotify(call) => append_list(
+            text,
+            CallWord::ReadListNotify.spelling(),
+            &[call.rank, call.queue, call.nseg, call.note],
+            call.items.as_slice(),
         ),
         Call::Wait(call) => append_line(text, CallWord::Wait.spelling(), &[call.queue]),
         Call::Purge(call) => append_line(text, CallWord::Purge.spelling(), &[call.queue]),

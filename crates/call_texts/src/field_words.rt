@@ -2,13 +2,13 @@
 
 ghost use Rattle.std.specs.Prelude.{◌≡◌, ◌==◌, map, length, IfOk, OnErr, true};
 ghost use Rattle.std.specs.Option.{option_map};
-ghost use Rattle.call_texts.specs.Fields.{field_taken};
+ghost use Rattle.call_texts.specs.Fields.{item_taken, field_taken};
 ghost use Rattle.call_texts.specs.FieldWords.{words_in};
-ghost use Rattle.call_texts.specs.declared.fields.Field.TheVariants.{Number, Value, Bytes};
+ghost use Rattle.call_texts.specs.declared.fields.Field.TheVariants.{Number, Value, Bytes, Items};
 
 use crate::hexes::read_bytes;
 use crate::numbers::{read_number, read_value};
-use gaspi_types::{Bytes, NoMemory};
+use gaspi_types::{Bytes, Item, NoMemory, Rows};
 use std::alloc::Global;
 
 /// The words of fields that were not taken yet.
@@ -63,5 +63,37 @@ impl<'b, 'a> FieldWords<'b, 'a> {
         };
         self.words = words;
         read_bytes(alloc, word)
+    }
+
+    /// The item that the first five words spell, which are taken.
+    fn item(&mut self) -> Option<Item>
+        ensures { option_map (λ item. (item, words_in self.new)) result ≡ item_taken (words_in self.old) }
+    {
+        Some(Item {
+            seg: self.number()?,
+            offset: self.number()?,
+            rseg: self.number()?,
+            roffset: self.number()?,
+            size: self.number()?,
+        })
+    }
+
+    /// The items that the words behind their number spell, which are taken. However large the number is, memory is taken
+    /// for no more items than there are words.
+    pub(crate) fn items(&mut self, alloc: Global) -> Result<Option<Rows<Item>>, NoMemory>
+        ensures { IfOk result (λ items. option_map (λ i. (i, words_in self.new)) items ≡ field_taken Items (words_in self.old)) }
+    {
+        let Some(count) = self.number() else {
+            return Ok(None);
+        };
+        let room = self.words.len() / 5;
+        let mut items = Rows::with_room(alloc, room.min(count as usize))?;
+        for _ in 0..count {
+            let Some(item) = self.item() else {
+                return Ok(None);
+            };
+            items.push(item)?;
+        }
+        Ok(Some(items))
     }
 }

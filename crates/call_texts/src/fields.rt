@@ -9,4 +9,6 @@ pub enum Field {
     Value,
     /// Bytes in hex.
     Bytes,
+    /// The number of a list's items, and five numbers for each of them.
+    Items,
 }

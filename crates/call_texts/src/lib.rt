@@ -8,6 +8,7 @@ mod call_words;
 mod call_writing;
 mod field_words;
 mod fields;
+mod form_counts;
 mod hexes;
 mod numbers;
 mod ranges;
@@ -22,7 +23,8 @@ pub use hexes::{read_bytes, write_bytes};
 pub use numbers::{read_number, read_value, write_number};
 pub use ranges::{bytes_are_in_range, call_is_in_range};
 pub use text_laws::{
-    bytes_read_back, calls_read_back, numbers_read_back, read_words_are_in_range,
-    timeouts_are_those_of_rows, words_read_back, words_spell_no_end, written_words_are_plain,
+    bytes_read_back, calls_read_back, numbers_read_back, read_words_are_counted,
+    read_words_are_in_range, timeouts_are_those_of_rows, words_read_back, words_spell_no_end,
+    written_words_are_plain,
 };
 pub use words_written::{append_bytes, append_line, append_numbers, append_word};

@@ -2,17 +2,34 @@
 
 ghost use Rattle.hex.specs.Hex.{IsBytes};
 ghost use Rattle.call_texts.specs.CallText.{IsWritable};
+ghost use Rattle.call_texts.specs.Fields.{IsInRange, IsItemInRange};
+ghost use Rattle.call_texts.specs.declared.fields.Field.TheVariants.{Items};
 ghost use Rattle.gaspi_types.specs.declared.calls.Call.TheVariants as calls;
 
 use gaspi_types::{
-    Alloc, Call, CompareSwap, Delete, FetchAdd, Load, Notify, Purge, Qsize, Read, ReadNotify,
-    Register, Reset, Store, Wait, Waitsome, Write, WriteNotify,
+    Alloc, Call, CompareSwap, Delete, FetchAdd, Item, Load, Notify, Purge, Qsize, Read, ReadList,
+    ReadListNotify, ReadNotify, Register, Reset, Store, Wait, Waitsome, Write, WriteList,
+    WriteListNotify, WriteNotify,
 };
 
 /// Bytes are below 256.
 pub fn bytes_are_in_range(bytes: &[u8])
     ensures { IsBytes bytes.now }
 {}
+
+/// The numbers of an item are those of their types.
+fn item_is_in_range(_item: Item)
+    ensures { IsItemInRange _item }
+{}
+
+/// The numbers of items are those of their types, and so is their number.
+fn items_are_in_range(items: &[Item])
+    ensures { IsInRange Items items.now }
+{
+    for item in items {
+        item_is_in_range(*item);
+    }
+}
 
 /// The numbers of a write with a notification are those of their types.
 fn write_notify_is_in_range(_call: WriteNotify)
@@ -84,6 +101,39 @@ pub fn call_is_in_range(call: &Call)
         }
         Call::WriteNotify(call) => write_notify_is_in_range(*call),
         Call::ReadNotify(call) => read_notify_is_in_range(*call),
+        Call::WriteList(WriteList { rank, queue, items }) => {
+            let _read = (*rank, *queue);
+            items_are_in_range(items.as_slice());
+        }
+        Call::WriteListNotify(
+            WriteListNotify {
+                rank,
+                queue,
+                nseg,
+                note,
+                value,
+                items,
+            },
+        ) => {
+            let _read = (*rank, *queue, *nseg, *note, *value);
+            items_are_in_range(items.as_slice());
+        }
+        Call::ReadList(ReadList { rank, queue, items }) => {
+            let _read = (*rank, *queue);
+            items_are_in_range(items.as_slice());
+        }
+        Call::ReadListNotify(
+            ReadListNotify {
+                rank,
+                queue,
+                nseg,
+                note,
+                items,
+            },
+        ) => {
+            let _read = (*rank, *queue, *nseg, *note);
+            items_are_in_range(items.as_slice());
+        }
         Call::Wait(Wait { queue }) => {
             let _read = *queue;
         }

@@ -1,10 +1,10 @@
 //! Laws of the texts. Each is a function without a body: what it ensures is the law.
 
-ghost use Rattle.std.specs.Prelude.{◌≡◌, ◌≢◌, ◌^◌, ◌<◌, ℕ, List, Some, true};
+ghost use Rattle.std.specs.Prelude.{◌≡◌, ◌≢◌, ◌^◌, ◌<◌, ℕ, List, length, Some, true};
 ghost use Rattle.std.specs.Fmt.{decimal};
 ghost use Rattle.std.specs.List.{AllByRecursion, join_with_byte};
 ghost use Rattle.hex.specs.Hex.{IsBytes};
-ghost use Rattle.call_texts.specs.CallText.{call_by, call_of, recorded_call_of, call_of_text, call_with, form_of, has_timeout, words_of_call, call_text, IsWritable};
+ghost use Rattle.call_texts.specs.CallText.{call_by, call_of, recorded_call_of, call_of_text, call_with, form_of, arguments_of, has_timeout, words_of_call, call_text, IsWritable};
 ghost use Rattle.call_texts.specs.Fields.{Fields};
 ghost use Rattle.call_texts.specs.declared.call_words.CallWord.{CallWord};
 ghost use Rattle.gaspi_types.specs.CallRows.{row_of};
@@ -40,6 +40,11 @@ pub fn calls_read_back()
 pub fn words_spell_no_end()
     ensures arguments { (word : CallWord) (words : List (List ℕ)) (call : Call) → call_by word words ≡ Some call → call ≢ End }
     ensures words { (words : List (List ℕ)) (call : Call) → call_of words ≡ Some call → call ≢ End }
+{}
+
+/// The words that spell a call are as many as its form takes of them, so none that spells one is miscounted.
+pub fn read_words_are_counted()
+    ensures { (word : CallWord) (words : List (List ℕ)) (call : Call) → call_by word words ≡ Some call → arguments_of word words ≡ Some (length words) }
 {}
 
 /// A word's call has a timeout where the call's row says so. (GASPI: timeouts)

@@ -4,11 +4,13 @@ ghost use Rattle.std.specs.Prelude.{◌≡◌, ◌++◌, ◌∷◌, map, take, l
 ghost use Rattle.std.specs.Fmt.{decimal};
 ghost use Rattle.std.specs.List.{join_with_byte};
 ghost use Rattle.call_texts.specs.Hex.{hex_text};
-ghost use Rattle.call_texts.specs.Written.{spaced_numbers};
+ghost use Rattle.call_texts.specs.Fields.{words_of_field};
+ghost use Rattle.call_texts.specs.Written.{spaced, spaced_numbers};
+ghost use Rattle.call_texts.specs.declared.fields.Field.TheVariants.{Items};
 
 use crate::hexes::write_bytes;
 use crate::numbers::write_number;
-use gaspi_types::{Bytes, NoMemory};
+use gaspi_types::{Bytes, Item, NoMemory};
 
 /// Adds a word behind a space. Without memory the text keeps its front.
 pub fn append_word(text: &mut Bytes, word: &[u8]) -> Result<(), NoMemory>
@@ -40,6 +42,21 @@ pub fn append_bytes(text: &mut Bytes, bytes: &[u8]) -> Result<(), NoMemory>
     write_bytes(text, bytes)
 }
 
+/// Adds the number of items and behind it their numbers, each behind a space. Without memory the text keeps its front.
+fn append_items(text: &mut Bytes, items: &[Item]) -> Result<(), NoMemory>
+    ensures ok { OnOk result (text.new ≡ text.old ++ spaced (words_of_field Items items.now)) }
+    ensures err { OnErr result (take (length text.old) text.new ≡ text.old) }
+{
+    append_numbers(text, &[items.len() as u64])?;
+    for item in items {
+        append_numbers(
+            text,
+            &[item.seg, item.offset, item.rseg, item.roffset, item.size],
+        )?;
+    }
+    Ok(())
+}
+
 /// Adds a first word, without a space, and numbers in decimal. Without memory the text keeps its front.
 pub fn append_line(text: &mut Bytes, word: &[u8], numbers: &[u64]) -> Result<(), NoMemory>
     ensures ok { OnOk result (text.new ≡ text.old ++ join_with_byte 32 (word.now ∷ map decimal numbers.now)) }
@@ -47,4 +64,19 @@ pub fn append_line(text: &mut Bytes, word: &[u8], numbers: &[u64]) -> Result<(),
 {
     text.append(word)?;
     append_numbers(text, numbers)
+}
+
+/// Adds a first word, without a space, numbers in decimal, and items behind their number. Without memory the text keeps
+/// its front.
+pub(crate) fn append_list(
+    text: &mut Bytes,
+    word: &[u8],
+    numbers: &[u64],
+    items: &[Item],
+) -> Result<(), NoMemory>
+    ensures ok { OnOk result (text.new ≡ text.old ++ join_with_byte 32 (word.now ∷ (map decimal numbers.now ++ words_of_field Items items.now))) }
+    ensures err { OnErr result (take (length text.old) text.new ≡ text.old) }
+{
+    append_line(text, word, numbers)?;
+    append_items(text, items)
 }
