@@ -32,7 +32,7 @@ FieldValue Items = List Item
 abbrev pub IsItemInRange : Item → Type 0
 IsItemInRange item = IsNumber item.seg × IsNumber item.offset × IsNumber item.rseg × IsNumber item.roffset × IsNumber item.size
 
--- its value is one of its type
+-- a field's value is one of its type
 abbrev pub IsInRange : (field : Field) → FieldValue field → Type 0
 IsInRange Number n = IsNumber n
 IsInRange Value n = n < 2 ^ 32
@@ -44,7 +44,7 @@ abbrev pub words_of_item : Item → List (List ℕ)
 words_of_item item =
     decimal item.seg ∷ decimal item.offset ∷ decimal item.rseg ∷ decimal item.roffset ∷ decimal item.size ∷ []
 
--- its words in the one form that is written; those of items stand behind their number
+-- a field's words in the one form that is written; those of items stand behind their number
 abbrev pub words_of_field : (field : Field) → FieldValue field → List (List ℕ)
 words_of_field Number n = decimal n ∷ []
 words_of_field Value n = decimal n ∷ []
@@ -91,7 +91,7 @@ is_list Bytes = true
 is_list Items = true
 is_list field = false
 
--- how many of the words in front it takes; none where the number of its items is not of the form of a number
+-- how many of the words in front a field takes; none where the number of its items is not of the form of a number
 abbrev pub field_words : Field → List (List ℕ) → Option ℕ
 field_words Items (word ∷ words) = do
   count ← number_of word

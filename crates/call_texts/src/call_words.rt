@@ -134,8 +134,8 @@ impl CallWord {
         .find(|call| call.spelling() == word)
     }
 
-    /// Whether so many words stand behind it: its arguments, and its timeout where it takes one. None where the number of
-    /// a list is not of the form of a number.
+    /// Whether these are as many words as stand behind it: its arguments, and its timeout where it takes one. None where
+    /// the number of a list is not of the form of a number.
     pub fn has_count(self, words: &[&[u8]]) -> Option<bool>
         ensures { result ≡ option_map (λ count. length words.now == count) (given_count self (map (λ word. word.now) words.now)) }
     {

@@ -1,7 +1,8 @@
 -- Some of the words of a line.
-use Rattle.std.proofs.Common.{◌≡◌, ℕ, suc, ◌+◌, ◌-◌, ◌<◌, ◌≤◌, Bool, true, false, cond, not, nat_lt, take, drop, Some, None, List, [], ◌∷◌, ◌++◌, length, map, Bor, refl, ap, subst, arith, add-one}
+use Rattle.std.proofs.Common.{◌≡◌, ℕ, suc, ◌+◌, ◌-◌, ◌<◌, ◌≤◌, Bool, true, false, cond, not, nat_lt, take, drop, Some, None, List, [], ◌∷◌, ◌++◌, length, map, if◌then◌else◌, Bor, refl, sym, ap, subst, arith, add-one}
 use Rattle.std.specs.List.{position, prefix_len}
 use Rattle.std.proofs.lemmas.Grind.{common_steps}
+use Rattle.std.proofs.lemmas.List.{length-map, take-map}
 use Rattle.std.proofs.lemmas.Bool.Decides.{nat_tests}
 use Rattle.rank_script.specs.WorldText.{is_equals_word, before_equals, after_equals, last_word}
 
@@ -16,6 +17,12 @@ map-push (first ∷ front) word = ap (λ (ws : List (List ℕ)). first.now ∷ w
 
 pub last_word-split : (words front : List (Bor (List ℕ))) (word : Bor (List ℕ)) → words ≡ front ++ word ∷ [] → word.now ≡ last_word (map (λ w. w.now) words)
 last_word-split words front word is = rw is (rw map-push (rw last_word-push refl))
+
+-- the words given to a call that takes a timeout, but the last
+pub without-timeout : (timed : Bool) (given : List (Bor (List ℕ))) (count : ℕ) → timed ≡ true → count ≡ length given - 1
+    → map (λ (w : Bor (List ℕ)). w.now) (take count given)
+    ≡ (if timed then take (length (map (λ (w : Bor (List ℕ)). w.now) given) - 1) (map (λ w. w.now) given) else map (λ w. w.now) given)
+without-timeout timed given count is same = rw (is, same, length-map) (sym (take-map (λ (w : Bor (List ℕ)). w.now) (length given - 1) given))
 
 -- where the first `=` stands, or the length
 record FirstEquals (words : List (Bor (List ℕ))) (n : ℕ) : Type 0 where

@@ -1,12 +1,12 @@
 -- World texts: the shape and the scripts that a text gives, or its first fault. (own choice)
-use Rattle.std.specs.Prelude.{◌≡◌, map, ℕ, ◌+◌, Bool, true, false, ◌==◌, ◌&&◌, ◌||◌, not, nat_lt, List, [], ◌∷◌, ◌++◌, length, Option, None, Some, Result, Ok, Err, if◌then◌else◌, codes, is_none, is_some, take, option_and_then}
+use Rattle.std.specs.Prelude.{◌≡◌, map, ℕ, ◌+◌, ◌-◌, Bool, true, false, ◌==◌, ◌&&◌, ◌||◌, not, nat_lt, List, [], ◌∷◌, ◌++◌, length, Option, None, Some, Result, Ok, Err, if◌then◌else◌, codes, is_none, is_some, take, option_and_then}
 use Rattle.std.specs.Str.{bytes_eq}
 use Rattle.std.specs.Option.{option_map, option_map_or}
 use Rattle.gaspi_types.specs.Ranges.{is_between}
 use Rattle.call_texts.specs.Words.{words_of}
 use Rattle.text_lines.specs.Lines.{fed_lines, plain_line, lines_of}
 use Rattle.call_texts.specs.Numbers.{number_of}
-use Rattle.call_texts.specs.CallText.{call_word_of, arguments_of, has_timeout, call_by}
+use Rattle.call_texts.specs.CallText.{call_word_of, given_count, has_timeout, call_by}
 use Rattle.call_texts.specs.declared.call_words.CallWord.{CallWord}
 use Rattle.call_texts.specs.Fields.{◌>>=◌}
 use Rattle.gaspi_texts.specs.ReplyText.{reply_of}
@@ -140,10 +140,6 @@ last_word [] = []
 last_word (word ∷ []) = word
 last_word (word ∷ next ∷ words) = last_word (next ∷ words)
 
--- how many arguments a call has, with its timeout
-abbrev pub given_count : CallWord → ℕ
-given_count word = arguments_of word + (if has_timeout word then 1 else 0)
-
 -- how often a line's call is made at most
 abbrev pub line_tries : LineCall → Option ℕ
 line_tries call = option_map_or number_of call.tries (Some 1)
@@ -151,9 +147,13 @@ line_tries call = option_map_or number_of call.tries (Some 1)
 abbrev pub are_tries_within : ℕ → Bool
 are_tries_within tries = is_between 1 1000000 tries
 
+-- the arguments of a line's call: the words given, but the last of a call that takes a timeout
+abbrev pub line_arguments : LineCall → List (List ℕ)
+line_arguments call = if has_timeout call.word then take (length call.given - 1) call.given else call.given
+
 -- the call that a line's words spell, its timeout aside
 abbrev pub line_call : LineCall → Option Call
-line_call call = call_by call.word (take (arguments_of call.word) call.given)
+line_call call = call_by call.word (line_arguments call)
 
 -- what a line's timeout is; a call that takes none makes one look
 abbrev pub line_timeout : LineCall → Option (Option ℕ)
@@ -252,10 +252,12 @@ is_misplaced said (CallLine call) = length said.scripts == 0
 is_misplaced said LoneAgain = length said.scripts == 0
 is_misplaced said UnknownLine = false
 
--- a call has its arguments, and something behind `=`
+-- A call has its arguments and its timeout, and something behind `=`. Where the number of a list is not of the form of a
+-- number, its arguments are not counted.
 abbrev pub is_miscounted_call : LineCall → Bool
 is_miscounted_call call =
-    not (length call.given == given_count call.word) || option_map_or (λ reply. length reply == 0) call.expected false
+    option_map_or (λ count. not (length call.given == count)) (given_count call.word call.given) false
+    || option_map_or (λ reply. length reply == 0) call.expected false
 
 -- S5: the number of words is wrong for the line
 abbrev pub is_miscounted : Line → Bool

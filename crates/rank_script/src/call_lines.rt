@@ -1,11 +1,10 @@
 //! The calls of lines: `again` and a number may stand before a call, and `=` and a reply behind it.
 
-ghost use Rattle.std.specs.Prelude.{◌≡◌, ◌≢◌, ◌≤◌, map, length, IfOk, IfSome};
+ghost use Rattle.std.specs.Prelude.{◌≡◌, ◌≢◌, map, IfOk, IfSome};
 ghost use Rattle.std.specs.List.{position};
 ghost use Rattle.std.specs.Option.{option_map};
-ghost use Rattle.call_texts.specs.CallText.{arguments_of};
 ghost use Rattle.gaspi_types.specs.declared.calls.Call.TheVariants.{End};
-ghost use Rattle.rank_script.specs.WorldText.{is_equals_word, before_equals, after_equals, last_word, given_count, is_miscounted_call, line_tries, line_call, line_timeout, line_expected};
+ghost use Rattle.rank_script.specs.WorldText.{is_equals_word, before_equals, after_equals, last_word, is_miscounted_call, line_tries, line_arguments, line_call, line_timeout, line_expected};
 ghost use Rattle.rank_script.specs.CutLines.{call_in};
 
 use crate::arguments::read_looks;
@@ -28,11 +27,12 @@ pub(crate) struct CallParts<'b, 'a> {
 }
 
 impl<'b, 'a> CallParts<'b, 'a> {
-    /// Whether it has another number of arguments, or nothing behind `=`.
+    /// Whether it has another number of arguments, its timeout among them, or nothing behind `=`. Where the number of a
+    /// list is not of the form of a number, its arguments are not counted.
     pub(crate) fn is_miscounted(self) -> bool
         ensures { result ≡ is_miscounted_call (call_in self.entry) }
     {
-        self.given.len() != given_count(self.word)
+        self.word.has_count(self.given) == Some(false)
             || self.expected.is_some_and(|reply| reply.is_empty())
     }
 
@@ -46,14 +46,23 @@ impl<'b, 'a> CallParts<'b, 'a> {
         }
     }
 
+    /// Its arguments: the words given, but the last of a call that takes a timeout.
+    fn arguments(self) -> &'b [&'a [u8]]
+        ensures { map (λ word. word.now) result.now ≡ line_arguments (call_in self.entry) }
+    {
+        if !self.word.takes_timeout() {
+            return self.given;
+        }
+        &self.given[..self.given.len().saturating_sub(1)]
+    }
+
     /// The call, its timeout aside; none where its words spell none.
     pub(crate) fn read_call(self, alloc: Global) -> Result<Option<Call>, NoMemory>
-        requires { arguments_of self.word ≤ length self.given.now }
         ensures exact { IfOk result (λ call. call ≡ line_call (call_in self.entry)) }
         ensures plain { IfOk result (λ call. IfSome call (λ made. made ≢ End)) }
     {
         words_spell_no_end();
-        read_arguments(alloc, self.word, &self.given[..self.word.argument_count()])
+        read_arguments(alloc, self.word, self.arguments())
     }
 
     /// How many looks its words allow. A call that takes no timeout makes one look.
@@ -77,13 +86,6 @@ impl<'b, 'a> CallParts<'b, 'a> {
         let reply = read_reply_words(alloc, reply)?;
         Ok(reply.map(Some))
     }
-}
-
-/// How many arguments a call has, with its timeout.
-fn given_count(call: CallWord) -> usize
-    ensures { result ≡ given_count call }
-{
-    call.argument_count() + if call.takes_timeout() { 1 } else { 0 }
 }
 
 /// The last of the words; no byte where there is none.

@@ -1,7 +1,7 @@
 //! Reading a world text line by line.
 
 ghost use Rattle.std.specs.Prelude.{◌≡◌, ◌<◌, ◌+◌, map, length, true, false, None, Some, IsSome, OnOk, IfOk};
-ghost use Rattle.rank_script.specs.WorldText.{WorldLine, SegmentLine, SectionLine, CallLine, is_comment, is_unknown, lacks_world, is_misplaced, is_miscounted, is_miscounted_call};
+ghost use Rattle.rank_script.specs.WorldText.{WorldLine, SegmentLine, SectionLine, CallLine, is_comment, is_unknown, lacks_world, is_misplaced, is_miscounted};
 ghost use Rattle.rank_script.specs.CutLines.{line_in, call_in};
 ghost use Rattle.rank_script.specs.Readings.{fault_for, GivesLine};
 ghost use Rattle.rank_script.specs.PlainScripts.{IsPlain};
@@ -207,8 +207,7 @@ impl Reading {
         number: u64,
         call: CallParts,
     ) -> Result<(), ScriptFault>
-        requires count { is_miscounted_call (call_in call) ≡ false }
-        requires section { 0 < length self.old.scripts }
+        requires { 0 < length self.old.scripts }
         ensures exact { ReadsParts result (said_of self.old) (said_of self.new) number (CallLine (call_in call.entry)) }
         ensures accords { Accords (said_of self.old) → OnOk result (Accords (said_of self.new)) }
     {
@@ -220,7 +219,6 @@ impl Reading {
 
 /// The line of a script that a call line gives.
 fn read_script_line(alloc: Global, number: u64, parts: CallParts) -> Result<ScriptLine, ScriptFault>
-    requires { is_miscounted_call (call_in parts) ≡ false }
     ensures exact { GivesLine result number (call_in parts.entry) }
     ensures plain { IfOk result IsPlain }
 {
