@@ -1,3 +1,4 @@
+pub mod Counted
 pub mod Dropped
 pub mod Fitting
 pub mod Kept

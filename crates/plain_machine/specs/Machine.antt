@@ -1,5 +1,7 @@
 -- The machine: a sound state, the room that each rank has taken, and the lanes that have an entry.
-use Rattle.std.specs.Prelude.{◌≡◌, ℕ, ◌+◌, ◌≤◌, List, map, length, slice_get, Option, None, Some, true, false}
+use Rattle.std.specs.Prelude.{◌≡◌, ℕ, ◌+◌, ◌≤◌, Bool, ◌&&◌, List, map, length, slice_get, Option, None, Some, is_none, true, false}
+use Rattle.gaspi_types.specs.CallRows.{row_of}
+use Rattle.gaspi_types.specs.declared.calls.Call.{Call}
 use Rattle.gaspi_types.specs.declared.shapes.Limits.{Limits}
 use Rattle.gaspi_types.specs.declared.events.Event.{Event}
 use Rattle.gaspi_types.specs.declared.events.Event.TheVariants.{Take, Put}
@@ -7,9 +9,11 @@ use Rattle.gaspi_types.specs.declared.events.Outcome.{Outcome}
 use Rattle.gaspi_model.specs.State.{owed}
 use Rattle.gaspi_model.specs.Sound.{IsSound}
 use Rattle.gaspi_model.specs.Step.{transfer_event}
+use Rattle.gaspi_model.specs.Transfers.{transfers}
 use Rattle.gaspi_model.specs.declared.states.Posts.{Posts}
 use Rattle.gaspi_model.specs.declared.states.Memory.{Memory}
 use Rattle.gaspi_model.specs.declared.states.State.{State}
+use Rattle.plain_calls.specs.Room.{purged_queue}
 use Rattle.plain_machine.specs.Standing.{standing_lanes}
 use Rattle.plain_machine.specs.declared.ranks.Ranks.{Ranks}
 use Rattle.plain_machine.specs.declared.standing.LaneId.{LaneId}
@@ -52,3 +56,12 @@ take_event s id number None = transfer_event s (record { origin = id.origin; que
 abbrev pub put_event : State → LaneId → ℕ → Option Outcome → Event
 put_event s id number (Some outcome) = Put id.origin id.queue id.target number outcome
 put_event s id number None = transfer_event s (record { origin = id.origin; queue = id.queue; target = id.target; number = number; put = true })
+
+-- how many transfers may come next, where that is kept
+abbrev pub IsCounted : State → Option ℕ → Type 0
+IsCounted s None = Unit {0}
+IsCounted s (Some count) = count ≡ length (transfers s.limits s.posts)
+
+-- a call that posts nothing and purges nothing: it leaves the transfers as they are
+abbrev pub is_still : Call → Bool
+is_still call = is_none (row_of call).posting && is_none (purged_queue call)

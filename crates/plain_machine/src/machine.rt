@@ -1,6 +1,6 @@
 //! The machine: a state that is sound, its steps, and what it answers.
 
-ghost use Rattle.std.specs.Prelude.{◌≡◌, ◌≢◌, ◌+◌, ◌<◌, ◌↔◌, IfOk, IsOk, IsTrue, Some, Err, true, false, not, length, slice_get};
+ghost use Rattle.std.specs.Prelude.{◌≡◌, ◌≢◌, ◌+◌, ◌<◌, ◌↔◌, IfOk, IsOk, IsTrue, Some, None, Err, if◌then◌else◌, true, false, not, length, slice_get};
 ghost use Rattle.gaspi_types.specs.CallRows.{need_of};
 ghost use Rattle.gaspi_model.specs.State.{opening};
 ghost use Rattle.gaspi_model.specs.Step.{step, Steps, answer_in, is_declared, is_active, room_taken, transfer_event};
@@ -10,6 +10,7 @@ ghost use Rattle.gaspi_model.specs.Calls.{recorded_reply};
 ghost use Rattle.plain_calls.specs.Looks.{made_of};
 ghost use Rattle.plain_calls.specs.Memory.{looks_with_memory, keeps_memory, takes_memory};
 ghost use Rattle.plain_machine.specs.Looking.{IsFindingIn};
+ghost use Rattle.plain_machine.specs.Machine.{is_still};
 
 use crate::listing::{transfer_at, transfer_count, transfers};
 use crate::looking::{has_section, look_in, record_named};
@@ -19,7 +20,7 @@ use crate::standing::LaneId;
 use crate::steps::{make, step};
 use gaspi_model::{Memory, StepFault, soundness};
 use gaspi_types::{Call, CallerId, Event, NoMemory, RankId, Ready, Reply, Rows, Shape, Transfer};
-use plain_calls::{Finding, is_running, thread_at};
+use plain_calls::{Finding, is_running, purged_queue, thread_at};
 use std::alloc::Global;
 use std::marker::Model;
 
@@ -33,6 +34,8 @@ pub struct Machine {
     memories: Rows<Memory>,
     /// The lanes that have an entry, by origin, queue and target.
     standing: Vec<LaneId>,
+    /// How many transfers may come next, where they were counted since they last changed.
+    counted: Option<usize>,
 }
 
 impl Model for Machine {
@@ -40,11 +43,22 @@ impl Model for Machine {
 
     ghost Value = { State };
 
-    ghost use Rattle.plain_machine.specs.Machine.{IsMachine, state_in};
+    ghost use Rattle.plain_machine.specs.Machine.{IsMachine, IsCounted, state_in};
 
     ghost view = { λ m. state_in m.ranks m.memories };
 
-    ghost invariant = { λ m. IsMachine (state_in m.ranks m.memories) m.ranks.taken m.standing.items };
+    ghost invariant = { λ m. IsMachine (state_in m.ranks m.memories) m.ranks.taken m.standing.items × IsCounted (state_in m.ranks m.memories) m.counted };
+}
+
+/// What is left of a count of transfers where a call is recorded: all, where the call posts nothing and purges nothing.
+fn kept_count(counted: Option<usize>, call: &Call) -> Option<usize>
+    ensures { result ≡ (if is_still call.now then counted else None) }
+{
+    if call.row().posting.is_none() && purged_queue(call).is_none() {
+        counted
+    } else {
+        None
+    }
 }
 
 impl Machine {
@@ -62,6 +76,7 @@ impl Machine {
             },
             memories: all_memories(alloc, shape)?,
             standing: Vec::new(alloc),
+            counted: None,
         })
     }
 
@@ -72,6 +87,7 @@ impl Machine {
         ensures ample { takes_memory event.now ≡ false → result ≢ Err StepFault.NoMemory }
     {
         soundness();
+        self.counted = None;
         step(
             &mut self.ranks,
             &mut self.memories,
@@ -109,6 +125,7 @@ impl Machine {
         ensures ample { keeps_memory call.now ≡ false → result ≢ Err StepFault.NoMemory }
     {
         soundness();
+        self.counted = kept_count(self.counted, call);
         record_named(
             &mut self.ranks,
             &mut self.memories,
@@ -138,11 +155,25 @@ impl Machine {
         transfers(alloc, &self.ranks.limits, &self.ranks.posts, &self.standing)
     }
 
-    /// How many transfers may come next. It takes no memory.
-    pub fn transfer_count(&self) -> usize
+    /// Counts the transfers that may come next.
+    fn count_transfers(&self) -> usize
         ensures { result ≡ length (transfers self.now.limits self.now.posts) }
     {
         transfer_count(&self.ranks.limits, &self.ranks.posts, &self.standing)
+    }
+
+    /// How many transfers may come next. They are counted where they may have changed since they were counted last; the
+    /// state stays. It takes no memory.
+    pub fn transfer_count(&mut self) -> usize
+        ensures count { result ≡ length (transfers self.old.limits self.old.posts) }
+        ensures same { self.new ≡ self.old }
+    {
+        if let Some(count) = self.counted {
+            return count;
+        }
+        let count = self.count_transfers();
+        self.counted = Some(count);
+        count
     }
 
     /// The transfer at a place of those that may come next, by origin, queue, target and number. It takes no memory.
@@ -161,6 +192,7 @@ impl Machine {
         ensures ample { transfer.now.put ≡ true → result ≢ Err StepFault.NoMemory }
     {
         soundness();
+        self.counted = None;
         make(
             &mut self.ranks,
             &mut self.memories,

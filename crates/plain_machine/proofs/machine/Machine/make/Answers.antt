@@ -5,6 +5,8 @@ use Rattle.plain_machine.specs.Machine.{state_in}
 use Rattle.plain_machine.proofs.machine.Machine.make.Goals as goal
 
 pub invariant_of-self : goal.invariant_of-self
-invariant_of-self c =
-    stepped (state_in c.self.inside.ranks c.self.inside.memories) _ (transfer_event (state_in c.self.inside.ranks c.self.inside.memories) c.args.transfer.now) _ _ _ _ (made_of c.make.result)
-    c.soundness.ensures.steps c.self.invariant c.make.ensures.step c.make.ensures.taken c.make.ensures.named
+invariant_of-self c = (
+  stepped (state_in c.self.inside.ranks c.self.inside.memories) _ (transfer_event (state_in c.self.inside.ranks c.self.inside.memories) c.args.transfer.now) _ _ _ _ (made_of c.make.result)
+      c.soundness.ensures.steps c.self.invariant.0 c.make.ensures.step c.make.ensures.taken c.make.ensures.named,
+  tt,
+)

@@ -1,11 +1,16 @@
 use Rattle.gaspi_types.specs.declared.events.Event.TheVariants.{Called}
 use Rattle.gaspi_model.specs.Calls.{recorded_reply}
 use Rattle.plain_calls.specs.Looks.{made_of}
+use Rattle.plain_machine.proofs.Counted.{count_kept}
 use Rattle.plain_machine.proofs.Running.{stepped}
 use Rattle.plain_machine.specs.Machine.{state_in}
 use Rattle.plain_machine.proofs.machine.Machine.record.Goals as goal
 
 pub invariant_of-self : goal.invariant_of-self
-invariant_of-self c =
-    stepped (state_in c.self.inside.ranks c.self.inside.memories) _ (Called c.args.caller c.args.call.now (recorded_reply c.args.look.ready)) _ _ _ _ (made_of c.record_named.result)
-    c.soundness.ensures.steps c.self.invariant c.record_named.ensures.step c.record_named.ensures.taken c.record_named.ensures.named
+invariant_of-self c = (
+  stepped (state_in c.self.inside.ranks c.self.inside.memories) _ (Called c.args.caller c.args.call.now (recorded_reply c.args.look.ready)) _ _ _ _ (made_of c.record_named.result)
+      c.soundness.ensures.steps c.self.invariant.0 c.record_named.ensures.step c.record_named.ensures.taken c.record_named.ensures.named,
+  rw c.kept_count-self-inside.ensures
+      (count_kept c.self.inside.counted (state_in c.self.inside.ranks c.self.inside.memories) _ c.args.caller c.args.call.now (recorded_reply c.args.look.ready) (made_of c.record_named.result)
+      c.soundness.ensures.limits c.self.invariant.1 c.record_named.ensures.step),
+)

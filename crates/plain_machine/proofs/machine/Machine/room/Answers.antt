@@ -4,12 +4,12 @@ use Rattle.plain_machine.proofs.Running.{IsTaken, taken_at}
 use Rattle.plain_machine.proofs.machine.Machine.room.Goals as goal
 
 pub overflow_sub-result : goal.overflow_sub-result
-overflow_sub-result c = rw (c.from-2.ensures, c.from.ensures) (taken_at _ _ _ _ _ c.self.invariant c.at.ensures).within
+overflow_sub-result c = rw (c.from-2.ensures, c.from.ensures) (taken_at _ _ _ _ _ c.self.invariant.0 c.at.ensures).within
 
 pub returns : goal.returns
 returns c =
     let taken : IsTaken (state_of c.self.inside.ranks.limits c.self.inside.ranks.posts c.self.inside.memories) c.index.result c.at.result.now =
-    taken_at _ _ _ _ _ c.self.invariant c.at.ensures in
+    taken_at _ _ _ _ _ c.self.invariant.0 c.at.ensures in
     let within = taken.within in
     let value = taken.value in
     rw (← c.self.view_is, c.from.ensures, c.from-2.ensures, ← c.index.ensures.value)

@@ -5,10 +5,12 @@ use Rattle.plain_machine.proofs.machine.Machine.start.Goals as goal
 
 pub invariant_of-result : goal.invariant_of-result
 invariant_of-result c =
-    rw (c.in_ok-all_posts.ensures, c.in_ok-all_memories.ensures, c.in_ok-all_taken.ensures, c.limits-limits.ensures.value)
-    (record {
-      sound = c.soundness.ensures.opens c.args.shape.now c.limits-limits.ensures.world;
-      fitting = fitting-opening c.args.shape.now c.limits-limits.ensures.world.limits;
-      taken = taken-opening c.args.shape.now (range_with_len 0 c.args.shape.now.limits.ranks);
-      named = c.new.ensures.items ∙ standing-opening c.args.shape.now (range_with_len 0 c.args.shape.now.limits.ranks);
-    })
+    rw (c.in_ok-all_posts.ensures, c.in_ok-all_memories.ensures, c.in_ok-all_taken.ensures, c.limits-limits.ensures.value) (
+      record {
+        sound = c.soundness.ensures.opens c.args.shape.now c.limits-limits.ensures.world;
+        fitting = fitting-opening c.args.shape.now c.limits-limits.ensures.world.limits;
+        taken = taken-opening c.args.shape.now (range_with_len 0 c.args.shape.now.limits.ranks);
+        named = c.new.ensures.items ∙ standing-opening c.args.shape.now (range_with_len 0 c.args.shape.now.limits.ranks);
+      },
+      tt,
+    )

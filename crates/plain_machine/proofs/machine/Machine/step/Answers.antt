@@ -4,4 +4,4 @@ use Rattle.plain_machine.proofs.machine.Machine.step.Goals as goal
 
 pub invariant_of-self : goal.invariant_of-self
 invariant_of-self c =
-    stepped (state_in c.self.inside.ranks c.self.inside.memories) _ c.args.event.now _ _ _ _ c.step.result c.soundness.ensures.steps c.self.invariant c.step.ensures.step c.step.ensures.taken c.step.ensures.named
+    (stepped (state_in c.self.inside.ranks c.self.inside.memories) _ c.args.event.now _ _ _ _ c.step.result c.soundness.ensures.steps c.self.invariant.0 c.step.ensures.step c.step.ensures.taken c.step.ensures.named, tt)

@@ -5,4 +5,4 @@ pub returns : goal.returns
 returns c =
     rw (← c.self.view_is)
     (rw (transfers-standing c.self.inside.ranks.limits c.self.inside.ranks.posts)
-    (rw (c.deref.ensures.value, c.self.invariant.named) at c.transfers.ensures))
+    (rw (c.deref.ensures.value, c.self.invariant.0.named) at c.transfers.ensures))
