@@ -1,9 +1,8 @@
-use Rattle.std.proofs.Common.{List, length, ◌∙◌, ap, arith}
+use Rattle.std.proofs.Common.{List, [], ◌∷◌, length, ◌∙◌, ap, arith}
 use Rattle.post_queue.specs.QueueStates.{QueueState}
 use Rattle.gaspi_types.specs.Lanes.{posted_entries}
 use Rattle.gaspi_types.specs.declared.entries.Kind.{Kind}
 use Rattle.post_queue.proofs.Queues.{one-taken, next-posted, same-targets, all-posted}
-use Rattle.std.proofs.Common.{[], ◌∷◌}
 use Rattle.post_queue.proofs.queue_rings.QueueRings.post.Goals as goal
 
 pub loop-draft-preserved : goal.loop-draft-preserved
