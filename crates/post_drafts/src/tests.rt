@@ -1,4 +1,4 @@
-use crate::{Draft, payload_size};
+use crate::{Draft, Entries, payload_size};
 use gaspi_types::{ByteRange, Kind, NoteSlot};
 use std::test::Fail;
 
@@ -32,5 +32,14 @@ fn drafts_have_room_for_their_bytes(rt: HostRuntime) -> Result<(), Fail> {
     let (kind, room) = Draft::new(alloc, notify)?.into_parts();
     assert_eq!(rt; kind, notify);
     assert_eq!(rt; room.len(), 0);
+    let mut entries = Entries::new(alloc, &[write, notify])?;
+    assert_eq!(rt; entries.len(), 2);
+    for kind in [write, notify] {
+        match entries.take_first() {
+            Some(draft) => assert_eq!(rt; *draft.kind(), kind),
+            None => assert_eq!(rt; entries.len(), 2),
+        }
+    }
+    assert_eq!(rt; entries.len(), 0);
     Ok(())
 }

@@ -16,7 +16,7 @@ use Rattle.gaspi_types.specs.declared.entries.Phase.{Phase}
 use Rattle.gaspi_types.specs.declared.entries.Phase.TheVariants.{Posted, Carried, Failed}
 use Rattle.gaspi_types.specs.declared.entries.Queue.{Queue}
 use Rattle.gaspi_types.specs.declared.replies.Refusal.{Refusal}
-use Rattle.gaspi_types.proofs.Items.{sum_by-changed, changed_at-found, set-there}
+use Rattle.gaspi_types.proofs.Items.{sum_by-changed, changed_at-found, set-there, length-changed_at}
 use Rattle.post_queue.specs.Kinds.{one_if, progress_of, is_awaited_entry}
 use Rattle.post_queue.specs.LaneStates.{LaneState}
 use Rattle.post_queue.specs.Places.{first_posted, first_carried, with_phase}
@@ -384,7 +384,7 @@ new-queue depth n lanes t deep few is none = rw (is, none) (record {
 
 -- Entries that come one after another.
 
-pub with-none : (target : ℕ) (q : Queue) → with_entries target [] q ≡ q
+with-none : (target : ℕ) (q : Queue) → with_entries target [] q ≡ q
 with-none target q = go (slice_get q.lanes target) refl
   where
     lanes : changed_at q.lanes target (λ (lane : List Entry). lane ++ []) ≡ q.lanes → with_entries target [] q ≡ q
@@ -412,17 +412,7 @@ twice-changed (x ∷ lanes) (suc target) a b =
     ∙ (ap (λ (ls : List (List Entry)). x ∷ ls) (twice-changed lanes target a b)
     ∙ sym (changed-behind x lanes target (λ (lane : List Entry). lane ++ (a ++ b)))))
 
-pub posted-more : (first : ℕ) (kinds : List Kind) (kind : Kind) → posted_entries first (kinds ++ kind ∷ []) ≡ posted_entries first kinds ++ posted_entries (first + length kinds) (kind ∷ [])
-posted-more first [] kind = ap (λ (n : ℕ). posted_entries n (kind ∷ [])) (omega arith)
-posted-more first (x ∷ kinds) kind =
-    ap (λ (es : List Entry). record { number = first; kind = x; phase = Posted } ∷ es)
-    (posted-more (first + 1) kinds kind ∙ ap (λ (n : ℕ). posted_entries (first + 1) kinds ++ posted_entries n (kind ∷ [])) (omega arith))
-
-pub posted-length : (first : ℕ) (kinds : List Kind) → length (posted_entries first kinds) ≡ length kinds
-posted-length first [] = refl
-posted-length first (x ∷ kinds) = ap (λ (n : ℕ). suc n) (posted-length (first + 1) kinds)
-
-pub with-more : (target : ℕ) (a b : List Entry) (q : Queue) → with_entries target b (with_entries target a q) ≡ with_entries target (a ++ b) q
+with-more : (target : ℕ) (a b : List Entry) (q : Queue) → with_entries target b (with_entries target a q) ≡ with_entries target (a ++ b) q
 with-more target a b q =
     let long = length-append a b in
     parts (q.open_count + length a + length b) (q.open_count + length (a ++ b)) _ _ (omega arith) (twice-changed q.lanes target a b)
@@ -430,13 +420,25 @@ with-more target a b q =
     parts : (m n : ℕ) (ls ms : List (List Entry)) → m ≡ n → ls ≡ ms → ◌≡◌ {A = Queue} (record { open_count = m; broken = q.broken; lanes = ls }) (record { open_count = n; broken = q.broken; lanes = ms })
     parts m n ls ms same alike = rw (same, alike) refl
 
--- one more entry of a list that is posted
-pub next-posted : (s now : QueueState) (target first number : ℕ) (done : List Kind) (kind : Kind) → number ≡ first + length done → now ≡ state_of s.depth (with_entries target (posted_entries first done) s.queue)
-    → state_of now.depth (with_entries target (posted_entries number (kind ∷ [])) now.queue) ≡ state_of s.depth (with_entries target (posted_entries first (done ++ kind ∷ [])) s.queue)
-next-posted s now target first number done kind count is =
-    rw (is, count) (ap (λ (q : Queue). state_of s.depth q)
-    (with-more target (posted_entries first done) (posted_entries (first + length done) (kind ∷ [])) s.queue
-    ∙ ap (λ (es : List Entry). with_entries target es s.queue) (sym (posted-more first done kind))))
+-- the first of some entries, taken out
+pub one-taken : (entries rest : List Kind) (kind : Kind) → Some kind ≡ slice_get entries 0 → rest ≡ drop 1 entries → entries ≡ kind ∷ rest
+one-taken [] rest kind first is = absurd (let no : ⊥ = cc in no)
+one-taken (x ∷ entries) rest kind first is = cc
+
+-- the first entry is posted, and then those behind it
+pub next-posted : (now after : QueueState) (target number : ℕ) (entries rest : List Kind) (kind : Kind) → entries ≡ kind ∷ rest → after ≡ state_of now.depth (with_entries target (posted_entries number (kind ∷ [])) now.queue)
+    → state_of after.depth (with_entries target (posted_entries (number + 1) rest) after.queue) ≡ state_of now.depth (with_entries target (posted_entries number entries) now.queue)
+next-posted now after target number entries rest kind all is =
+    rw (is, all) (ap (λ (q : Queue). state_of now.depth q) (with-more target (posted_entries number (kind ∷ [])) (posted_entries (number + 1) rest) now.queue))
+
+pub same-targets : (now after : QueueState) (target : ℕ) (entries : List Entry) → after ≡ state_of now.depth (with_entries target entries now.queue) → length after.queue.lanes ≡ length now.queue.lanes
+same-targets now after target entries is =
+    ap (λ (s : QueueState). length s.queue.lanes) is ∙ length-changed_at now.queue.lanes target (λ (lane : List Entry). lane ++ entries)
+
+-- no entry is left to be posted
+pub all-posted : (now done : QueueState) (target number : ℕ) (entries : List Kind) → None ≡ slice_get entries 0 → state_of now.depth (with_entries target (posted_entries number entries) now.queue) ≡ done → now ≡ done
+all-posted now done target number [] none is = ap (λ (q : Queue). state_of now.depth q) (sym (with-none target now.queue)) ∙ is
+all-posted now done target number (x ∷ entries) none is = absurd (let no : ⊥ = cc in no)
 
 -- Queues with their depths, and as the machine has them.
 

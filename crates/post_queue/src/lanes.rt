@@ -13,7 +13,7 @@ ghost use Rattle.post_queue.specs.LanesStates.{empty_queue, empty_queues, next_t
 use crate::entries::PostedEntry;
 use crate::queue_rings::QueueRings;
 use gaspi_types::{Entry, NoMemory, RankId, Refusal, Rows};
-use post_drafts::Draft;
+use post_drafts::Entries;
 use std::alloc::Global;
 use std::marker::Model;
 
@@ -102,7 +102,7 @@ impl Lanes {
     /// Posts entries to the end of a lane, numbered on from the next number. `BadQueue` where there is no such queue,
     /// `QueueBroken` where it is broken, `QueueFull` where its open count and the entries are over its depth. It takes no
     /// memory. (GASPI: write, read, notify)
-    pub fn post(&mut self, queue: u64, target: RankId, entries: Rows<Draft>) -> Result<(), Refusal>
+    pub fn post(&mut self, queue: u64, target: RankId, entries: Entries) -> Result<(), Refusal>
         requires target { target < self.old.ranks }
         requires numbers { self.old.next + length entries < 2 ^ 32 }
         ensures answer { result ≡ post_checks self.old queue (length entries) }

@@ -14,7 +14,7 @@ use crate::kinds::Progress;
 use crate::lane_rings::LaneRings;
 use crate::tallies::Tally;
 use gaspi_types::{Entry, NoMemory, RankId, Refusal, Rows};
-use post_drafts::Draft;
+use post_drafts::{Draft, Entries};
 use std::alloc::Global;
 use std::marker::Model;
 
@@ -106,14 +106,15 @@ impl QueueRings {
     }
 
     /// Posts entries, numbered on from a number.
-    pub fn post(&mut self, target: RankId, first: u32, entries: Rows<Draft>)
+    pub fn post(&mut self, target: RankId, first: u32, entries: Entries)
         requires target { target < length self.old.queue.lanes }
         requires room { self.old.queue.open_count + length entries ≤ self.old.depth }
         requires numbers { first + length entries < 2 ^ 32 }
         ensures { self.new ≡ state_of self.old.depth (with_entries target (posted_entries first entries) self.old.queue) }
     {
+        let mut entries = entries;
         let mut number = first;
-        for draft in entries.into_vec() {
+        while let Some(draft) = entries.take_first() {
             self.post_one(target, number, draft);
             number += 1;
         }

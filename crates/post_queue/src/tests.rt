@@ -1,6 +1,6 @@
 use crate::Lanes;
-use gaspi_types::{ByteRange, Kind, NoMemory, NoteSlot, Phase, RankId, Refusal, Rows};
-use post_drafts::{Draft, payload_size};
+use gaspi_types::{ByteRange, Kind, NoMemory, NoteSlot, Phase, RankId, Refusal};
+use post_drafts::{Entries, payload_size};
 use std::alloc::Global;
 use std::test::Fail;
 
@@ -30,17 +30,9 @@ fn notify() -> Kind {
     }
 }
 
-/// The drafts of a write and a notification.
-fn write_notify(alloc: Global, segment: u32) -> Result<Rows<Draft>, NoMemory> {
-    let mut drafts = Rows::with_room(alloc, 2)?;
-    drafts.push(Draft::new(alloc, write_of(segment))?)?;
-    drafts.push(Draft::new(alloc, notify())?)?;
-    Ok(drafts)
-}
-
 /// Posts a write and its notification, where the world has the target and few were posted.
 fn post(alloc: Global, lanes: &mut Lanes, queue: u64, target: RankId, segment: u32) -> Posted {
-    let entries = write_notify(alloc, segment)?;
+    let entries = Entries::new(alloc, &[write_of(segment), notify()])?;
     if target.number() >= lanes.ranks() || lanes.next_number() > 1000 || entries.len() > 2 {
         return Ok(None);
     }

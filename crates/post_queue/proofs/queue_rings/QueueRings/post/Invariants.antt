@@ -1,14 +1,16 @@
-use Rattle.std.proofs.Common.{◌≡◌, ◌+◌, length}
+use Rattle.std.proofs.Common.{◌≡◌, ◌+◌, ◌≤◌, length}
 use Rattle.gaspi_types.specs.Lanes.{posted_entries}
 use Rattle.gaspi_types.specs.Queues.{with_entries}
 use Rattle.post_queue.specs.QueueStates.{state_of}
 use Rattle.post_queue.proofs.queue_rings.QueueRings.post.Given as goal
 
+abbrev pub decreases-loop-draft : goal.decreases-loop-draft
+decreases-loop-draft l = length l.entries
+
 abbrev pub invariant-loop-draft : goal.invariant-loop-draft
 invariant-loop-draft l = record {
-  next : (goal.iterator-loop-draft).can_next l.draft-iterator;
-  finite : (goal.iterator-loop-draft).is_finite l.draft-iterator;
-  number : l.number ≡ l.fn.first + length l.yielded;
-  left : length l.yielded + l.draft-iterator.rest.len ≡ length l.fn.entries;
-  state : l.self ≡ state_of l.fn.self.depth (with_entries l.fn.target (posted_entries l.fn.first l.yielded) l.fn.self.queue);
+  targets : length l.self.queue.lanes ≡ length l.fn.self.queue.lanes;
+  room : l.self.queue.open_count + length l.entries ≤ l.self.depth;
+  numbers : l.number + length l.entries ≡ l.fn.first + length l.fn.entries;
+  state : state_of l.self.depth (with_entries l.fn.target (posted_entries l.number l.entries) l.self.queue) ≡ state_of l.fn.self.depth (with_entries l.fn.target (posted_entries l.fn.first l.fn.entries) l.fn.self.queue);
 }
