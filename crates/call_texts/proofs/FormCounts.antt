@@ -5,7 +5,10 @@ use Rattle.std.proofs.lemmas.Bool.Decides.{nat_tests}
 use Rattle.std.proofs.lemmas.Grind.{common_steps}
 use Rattle.std.proofs.lemmas.List.{drop-map}
 use Rattle.std.proofs.lemmas.Option.{cond_some}
+use Rattle.call_texts.specs.CallText.{form_of, has_timeout, takes_items, given_count}
 use Rattle.call_texts.specs.Fields.{◌>>=◌, field_words, form_words}
+use Rattle.call_texts.specs.declared.call_words.CallWord.{CallWord}
+use Rattle.call_texts.specs.declared.call_words.CallWord.TheVariants.{WriteList, WriteListNotify, ReadList, ReadListNotify}
 use Rattle.call_texts.specs.declared.fields.Field.{Field}
 use Rattle.call_texts.specs.declared.fields.Field.TheVariants.{Number, Value, Bytes, Items}
 
@@ -79,3 +82,11 @@ pub counted-short : (form : List Field) (words : List (Bor (List ℕ))) (count m
     → Some false ≡ option_map (λ n. length words == n + more) (form_words form (map (λ word. word.now) words))
 counted-short [] words count more some is left = absurd (omega arith)
 counted-short (field ∷ form) words count more some is left = sym (counted-over field form words count more is (counted-few words count left))
+
+-- a call without items has one word for each field
+pub plain_count : (word : CallWord) (words : List (List ℕ)) → takes_items word ≡ false → given_count word words ≡ Some (length (form_of word) + (if has_timeout word then 1 else 0))
+plain_count WriteList words is = absurd (let no : ⊥ = cc in no)
+plain_count WriteListNotify words is = absurd (let no : ⊥ = cc in no)
+plain_count ReadList words is = absurd (let no : ⊥ = cc in no)
+plain_count ReadListNotify words is = absurd (let no : ⊥ = cc in no)
+plain_count word words is = refl

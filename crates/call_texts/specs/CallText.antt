@@ -93,6 +93,14 @@ has_timeout Wait = true
 has_timeout Waitsome = true
 has_timeout word = false
 
+-- whether items are among its fields
+abbrev pub takes_items : CallWord → Bool
+takes_items WriteList = true
+takes_items WriteListNotify = true
+takes_items ReadList = true
+takes_items ReadListNotify = true
+takes_items word = false
+
 -- how many words stand behind it: its arguments, and a timeout where one belongs to the call
 abbrev pub given_count : CallWord → List (List ℕ) → Option ℕ
 given_count word words = do

@@ -2,7 +2,7 @@
 
 ghost use Rattle.std.specs.Prelude.{◌≡◌, ◌==◌, map, length};
 ghost use Rattle.std.specs.Option.{option_map};
-ghost use Rattle.call_texts.specs.CallText.{spelling_of, form_of, call_word_of, given_count, has_timeout};
+ghost use Rattle.call_texts.specs.CallText.{spelling_of, form_of, call_word_of, given_count, has_timeout, takes_items};
 
 use crate::fields::Field::{self, Bytes, Items, Number, Value};
 use crate::form_counts::are_counted;
@@ -134,13 +134,31 @@ impl CallWord {
         .find(|call| call.spelling() == word)
     }
 
+    /// Whether items are among its fields.
+    fn takes_items(self) -> bool
+        ensures { result ≡ takes_items self }
+    {
+        matches!(
+            self,
+            CallWord::WriteList
+                | CallWord::WriteListNotify
+                | CallWord::ReadList
+                | CallWord::ReadListNotify
+        )
+    }
+
     /// Whether these are as many words as stand behind it: its arguments, and its timeout where it takes one. None where
     /// the number of a list is not of the form of a number.
+    #[tactic(auto, using(crate::proofs::FormCounts::plain_count))]
     pub fn has_count(self, words: &[&[u8]]) -> Option<bool>
         ensures { result ≡ option_map (λ count. length words.now == count) (given_count self (map (λ word. word.now) words.now)) }
     {
         let timeouts = if self.takes_timeout() { 1 } else { 0 };
-        are_counted(self.row().form, words, timeouts)
+        let form = self.row().form;
+        if self.takes_items() {
+            return are_counted(form, words, timeouts);
+        }
+        Some(words.len() == form.len() + timeouts)
     }
 
     /// Whether its call has a timeout. (GASPI: timeouts)

@@ -47,7 +47,7 @@ fn has_room(rt: &impl Abort, machine: &Machine, room: u64) {
 }
 
 /// The only transfer that may come next is the take, or the put.
-fn lists(rt: &impl Abort, alloc: Global, machine: &Machine, put: bool) -> Result<(), Fail> {
+fn lists(rt: &impl Abort, alloc: Global, machine: &mut Machine, put: bool) -> Result<(), Fail> {
     let transfers = machine.transfers(alloc)?;
     let expected: &[Transfer] = &[transfer(put)];
     assert!(rt; transfers.as_slice() == expected);
@@ -83,9 +83,9 @@ fn transfers_are_listed_and_made(rt: HostRuntime) -> Result<(), Fail> {
     let alloc = rt.alloc();
     let mut machine = start(alloc)?;
     steps(&rt, alloc, &mut machine, &notified());
-    lists(&rt, alloc, &machine, false)?;
+    lists(&rt, alloc, &mut machine, false)?;
     makes(&rt, alloc, &mut machine, &transfer(false));
-    lists(&rt, alloc, &machine, true)?;
+    lists(&rt, alloc, &mut machine, true)?;
     makes(&rt, alloc, &mut machine, &transfer(true));
     assert_eq!(rt; machine.transfer_count(), 0);
     is_notified(&rt, alloc, &machine)?;

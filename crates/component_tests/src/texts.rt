@@ -44,7 +44,14 @@ fn words_are_written(rt: HostRuntime) -> Result<(), Fail> {
 fn call_words_have_forms(rt: HostRuntime) {
     assert_eq!(rt; CallWord::of(b"write_notify"), Some(CallWord::WriteNotify));
     assert_eq!(rt; CallWord::Waitsome.spelling(), b"waitsome".as_slice());
-    assert_eq!(rt; CallWord::WriteNotify.argument_count(), 9);
+    let words = [b"0".as_slice(); 9];
+    assert_eq!(rt; CallWord::WriteNotify.has_count(&words), Some(true));
+    assert_eq!(rt; CallWord::WriteNotify.has_count(&words[1..]), Some(false));
+    assert_eq!(rt; CallWord::WriteList.has_count(&words[..3]), Some(true));
+    assert_eq!(rt;
+        CallWord::ReadList.has_count(&[words[0], words[0], b"x".as_slice()]),
+        None
+    );
     assert!(rt; CallWord::Wait.takes_timeout() && !CallWord::Reset.takes_timeout());
 }
 

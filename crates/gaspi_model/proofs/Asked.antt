@@ -2,7 +2,7 @@
 use Rattle.std.proofs.Common.{◌≡◌, ℕ, ◌+◌, ◌≤◌, Bool, true, false, not, ◌==◌, nat_lt, nat_le, List, [], ◌∷◌, ◌++◌, length, Option, Some, Result, Ok, refl, sym, ap, subst, ◌∙◌, arith}
 use Rattle.std.proofs.lemmas.Bool.{leb-true}
 use Rattle.std.proofs.lemmas.List.{length-append}
-use Rattle.gaspi_types.specs.CallRows.{row_of, entries_of, list_entries}
+use Rattle.gaspi_types.specs.CallRows.{row_of, list_entries}
 use Rattle.gaspi_types.specs.Checks.{check_each, found}
 use Rattle.gaspi_types.specs.Posts.{range_in, slot_in, is_list_length, write_item, read_item, write_notify_item, read_notify_item, has_segments, has_size, ends_of, transfer_kind, transfers_of, checked_transfers, nothing_beside, transfers_alone, noted_writes, noted_reads, listed, call_kinds}
 use Rattle.gaspi_types.specs.SegmentBytes.{is_transfer_size, is_within}

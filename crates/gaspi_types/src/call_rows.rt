@@ -105,6 +105,7 @@ fn list_entries(length: usize, more: u32) -> u32
 
 impl Call {
     /// Its row.
+    #[inline(always)]
     pub fn row(&self) -> CallRow
         ensures row { result ≡ row_of self.now }
         ensures bound { entries_in result.posting ≤ 257 }

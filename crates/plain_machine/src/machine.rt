@@ -20,7 +20,7 @@ use crate::standing::LaneId;
 use crate::steps::{make, step};
 use gaspi_model::{Memory, StepFault, soundness};
 use gaspi_types::{Call, CallerId, Event, NoMemory, RankId, Ready, Reply, Rows, Shape, Transfer};
-use plain_calls::{Finding, is_running, purged_queue, thread_at};
+use plain_calls::{Finding, is_running, thread_at};
 use std::alloc::Global;
 use std::marker::Model;
 
@@ -54,10 +54,18 @@ impl Model for Machine {
 fn kept_count(counted: Option<usize>, call: &Call) -> Option<usize>
     ensures { result ≡ (if is_still call.now then counted else None) }
 {
-    if call.row().posting.is_none() && purged_queue(call).is_none() {
-        counted
-    } else {
-        None
+    match call {
+        Call::Write(_)
+        | Call::Read(_)
+        | Call::Notify(_)
+        | Call::WriteNotify(_)
+        | Call::ReadNotify(_)
+        | Call::WriteList(_)
+        | Call::WriteListNotify(_)
+        | Call::ReadList(_)
+        | Call::ReadListNotify(_)
+        | Call::Purge(_) => None,
+        _ => counted,
     }
 }
 

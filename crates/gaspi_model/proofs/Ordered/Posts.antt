@@ -7,7 +7,7 @@ use Rattle.gaspi_types.specs.Posts.{slot_in, write_item, read_item, write_notify
 use Rattle.gaspi_types.specs.World.{World, IsWorld}
 use Rattle.gaspi_types.specs.declared.entries.Entry.{Entry}
 use Rattle.gaspi_types.specs.declared.entries.Kind.{Kind}
-use Rattle.gaspi_types.specs.declared.entries.Kind.TheVariants.{Write, Read, Notify, ReadNote}
+use Rattle.gaspi_types.specs.declared.entries.Kind.TheVariants.{Notify, ReadNote}
 use Rattle.gaspi_types.specs.declared.entries.Phase.TheVariants as phases
 use Rattle.gaspi_types.specs.declared.shapes.CallerId.{CallerId}
 use Rattle.gaspi_types.specs.declared.calls.Call.{Call}
@@ -48,7 +48,7 @@ use Rattle.gaspi_model.specs.declared.states.Memory.{Memory}
 use Rattle.gaspi_model.specs.declared.states.State.{State}
 use Rattle.gaspi_model.specs.declared.states.Why.{Why}
 use Rattle.gaspi_model.specs.declared.states.Why.TheVariants as whys
-use Rattle.gaspi_model.proofs.Asked.{AreTransfers, near_in, far_in, transfers-length, alone-ok, AreNotedWrites, noted_writes-ok, AreNotedReads, noted_reads-ok, listed-ok}
+use Rattle.gaspi_model.proofs.Asked.{AreTransfers, near_in, far_in, transfers-length, alone-ok, noted_writes-ok, noted_reads-ok, listed-ok}
 use Rattle.gaspi_model.proofs.Made.{step-called}
 use Rattle.gaspi_model.proofs.Same.{same_reply-same}
 use Rattle.gaspi_types.proofs.Items.{slice_get-set_same, past-none, front-of-joined, behind-of-joined}

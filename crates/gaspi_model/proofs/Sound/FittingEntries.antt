@@ -1,5 +1,5 @@
 -- Entries keep their ranges within their segments.
-use Rattle.std.proofs.Common.{◌≡◌, ℕ, zero, suc, ◌+◌, Bool, true, false, not, ◌==◌, nat_lt, List, [], ◌∷◌, ◌++◌, length, remove, Option, None, Some, Result, Ok, Err, refl, sym, ap, ◌∙◌, subst, arith, ◌⊎◌, inl, inr}
+use Rattle.std.proofs.Common.{◌≡◌, ℕ, zero, suc, ◌+◌, Bool, true, false, ◌==◌, nat_lt, List, [], ◌∷◌, ◌++◌, length, remove, Option, None, Some, Result, Ok, Err, refl, sym, ap, ◌∙◌, subst, arith, ◌⊎◌, inl, inr}
 use Rattle.std.specs.List.{slice_get, slice_set}
 use Rattle.std.proofs.lemmas.Bool.{leb-true, ltb-true, eqb-true}
 use Rattle.gaspi_types.specs.Lanes.{posted_entries}
@@ -37,7 +37,7 @@ use Rattle.gaspi_types.specs.declared.entries.Queue.{Queue}
 use Rattle.gaspi_model.proofs.Sound.OpenCounts.{emptied-lane}
 use Rattle.gaspi_model.specs.declared.states.Posts.{Posts}
 use Rattle.gaspi_model.specs.declared.states.Memory.{Memory}
-use Rattle.gaspi_model.proofs.Asked.{AreEnds, IsTransfer, AreTransfers, AreNotedWrites, AreNotedReads, IsAsked, Alone, NotedWrites, NotedReads, asked-by, near_in, far_in}
+use Rattle.gaspi_model.proofs.Asked.{AreEnds, IsTransfer, AreTransfers, IsAsked, Alone, NotedWrites, NotedReads, asked-by, near_in, far_in}
 use Rattle.gaspi_types.proofs.Items.{slice_get-set, append-parts, remove-part}
 use Rattle.gaspi_types.proofs.Extents.{extent-at}
 use Rattle.gaspi_types.proofs.Written.{range_of-length, segment-behind, extent-there, there-in-generation}
