@@ -1,6 +1,6 @@
 //! The entries that a call posts. (GASPI: one-sided communication)
 
-ghost use Rattle.std.specs.Prelude.{◌≡◌, true, false};
+ghost use Rattle.std.specs.Prelude.{◌≡◌, ◌≤◌, true, false, length, IfOk};
 ghost use Rattle.gaspi_types.specs.CallRows.{row_of, is_post};
 ghost use Rattle.list_ops.specs.Builds.{lane_checks, build_finds, Builds, wants_memory};
 
@@ -39,6 +39,7 @@ pub fn build(
 ) -> Result<Entries, BuildStop>
     requires { is_post call.now ≡ true }
     ensures found { Builds result (build_finds shape.now.limits caller.rank table.now call.now) }
+    ensures few { IfOk result (λ entries. length entries ≤ 257) }
     ensures bare { (row_of call.now).takes_memory ≡ false → wants_memory result ≡ false }
 {
     check_lane(shape, call.row().posting)?;
