@@ -32,7 +32,7 @@ IsNotificationStanding w history origin queue target number = IsStanding is_noti
 abbrev pub IsReadNoteStanding : World → List Event → ℕ → ℕ → ℕ → ℕ → Type 0
 IsReadNoteStanding w history origin queue target number = IsStanding is_read_note w history origin queue target number
 
--- so many entries of that kind stand, with numbers one after another from one on
+-- so many entries of that kind stand, with numbers one after another from a first one on
 abbrev pub AreStanding : (Entry → Bool) → World → List Event → ℕ → ℕ → ℕ → ℕ → ℕ → Type 0
 AreStanding is_kind w history origin queue target number count =
     (k : ℕ) → k < count → IsStanding is_kind w history origin queue target (number + k)

@@ -156,7 +156,8 @@ pub fn corruption()
 {}
 
 /// A notification comes after the earlier writes of its lane since the queue's last purge. The entries of a post stand in
-/// their lane from the post on, those of a list in the order of its items, with its notification behind them. In a legal history, where a write stands in a lane after some events, and later a
+/// their lane from the post on: those of a list are as many as its items, with numbers one after another, and its
+/// notification has the next one. In a legal history, where a write stands in a lane after some events, and later a
 /// notification of that lane with a greater number is put, and in between no purge of that queue by a caller of that origin
 /// was done, the write was put in between. So it is with reads and their notifications. (GASPI: notification order,
 /// queue_purge)

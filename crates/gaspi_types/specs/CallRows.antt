@@ -22,8 +22,8 @@ with_memory row = record row { takes_memory = true }
 abbrev pub with_timeout : CallRow → CallRow
 with_timeout row = record row { times_out = true }
 
--- How many entries a list post asks for: one for each of its items, and so many more. One whose length is outside its
--- limits asks for none.
+-- How many entries a list post asks for: one for each of its items, and so many more. Own choice: one whose length is
+-- outside its limits asks for none.
 abbrev pub list_entries : ℕ → ℕ → ℕ
 list_entries items more = if is_list_length items then items + more else 0
 

@@ -36,7 +36,7 @@ range_in extent segment offset size = record { segment = segment; generation = e
 abbrev pub slot_in : Extent → ℕ → ℕ → NoteSlot
 slot_in extent segment note = record { segment = segment; generation = extent.generation; note = note }
 
--- how many items a list may have (GASPI: write_list)
+-- own choice: how many items a list may have
 abbrev pub is_list_length : ℕ → Bool
 is_list_length items = nat_le 1 items && nat_le items 256
 
@@ -93,8 +93,8 @@ transfers_of direction me table rank (item ∷ items) = do
   kinds ← transfers_of direction me table rank items
   Ok (transfer_kind direction ends ∷ kinds)
 
--- The transfers of a post, and what else it looks up, behind the segments of its items. Each kind of check goes through all
--- items before the next one.
+-- The transfers of a post, and what else it looks up, behind the segments of its items. Own choice: each kind of check goes
+-- through all items before the next one.
 abbrev pub checked_transfers : {A : Type 0} → Direction → ℕ → SegmentTable → ℕ → List Item → Result A Refusal → Result (A × List Kind) Refusal
 checked_transfers direction me table rank items beside = do
   there ← check_each (has_segments me table rank) items
@@ -129,7 +129,7 @@ noted_reads notes me table rank items segment note = do
   noted ← check (nat_lt note notes) BadNote
   Ok (checked.1 ++ ReadNote (slot_in checked.0 segment note) ∷ [])
 
--- a list whose length is within its limits comes first
+-- what a list asks for: its length is checked before all else
 abbrev pub listed : List Item → Result (List Kind) Refusal → Result (List Kind) Refusal
 listed items asked = do
   counted ← check (is_list_length (length items)) BadCount
