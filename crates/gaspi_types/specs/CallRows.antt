@@ -2,11 +2,11 @@
 use Rattle.std.specs.Prelude.{ℕ, ◌+◌, ◌*◌, Bool, true, false, not, ◌&&◌, length, Option, None, Some, is_some, if◌then◌else◌}
 use Rattle.gaspi_types.specs.Posts.{is_list_length}
 use Rattle.gaspi_types.specs.declared.calls.Call.{Call}
-use Rattle.gaspi_types.specs.declared.calls.Call.TheVariants.{Alloc, Register, Delete, Store, Load, Write, Read, Notify, WriteNotify, ReadNotify, WriteList, WriteListNotify, ReadList, ReadListNotify, Wait, Purge, Qsize, Waitsome, Reset, FetchAdd, CompareSwap, State, End}
+use Rattle.gaspi_types.specs.declared.calls.Call.TheVariants.{Alloc, Register, Delete, Store, Load, Write, Read, Notify, WriteNotify, ReadNotify, WriteList, WriteListNotify, ReadList, ReadListNotify, Wait, Purge, Qsize, Waitsome, Reset, PassiveSend, PassiveReceive, FetchAdd, CompareSwap, GroupCreate, GroupAdd, GroupDelete, State, End}
 use Rattle.gaspi_types.specs.declared.call_rows.Posting.{Posting}
 use Rattle.gaspi_types.specs.declared.call_rows.CallRow.{CallRow}
 use Rattle.gaspi_types.specs.declared.touches.Touch.{Touch}
-use Rattle.gaspi_types.specs.declared.touches.Touch.TheVariants.{Nothing, OwnMemory, MemoryOf, PostsOf}
+use Rattle.gaspi_types.specs.declared.touches.Touch.TheVariants.{Nothing, OwnMemory, MemoryOf, BothMemories, PostsOf}
 
 -- a call that touches that, and does no more of what rows tell
 abbrev pub row_touching : Touch → CallRow
@@ -47,8 +47,13 @@ row_of (Purge call) = row_touching Nothing
 row_of (Qsize call) = row_touching Nothing
 row_of (Waitsome call) = with_timeout (row_touching OwnMemory)
 row_of (Reset call) = row_touching OwnMemory
+row_of (PassiveSend call) = with_timeout (with_memory (row_touching (BothMemories call.rank)))
+row_of (PassiveReceive call) = with_timeout (row_touching OwnMemory)
 row_of (FetchAdd call) = row_touching (MemoryOf call.rank)
 row_of (CompareSwap call) = row_touching (MemoryOf call.rank)
+row_of GroupCreate = row_touching Nothing
+row_of (GroupAdd call) = row_touching Nothing
+row_of (GroupDelete call) = row_touching Nothing
 row_of State = row_touching Nothing
 row_of End = record (row_touching Nothing) { ends = true }
 

@@ -1,6 +1,8 @@
 pub mod CallRows
 pub mod Checks
 pub mod Copies
+pub mod Groups
+pub mod Inboxes
 pub mod Kinds
 pub mod Lanes
 pub mod Lending

@@ -5,13 +5,14 @@ use Rattle.gaspi_types.specs.declared.entries.Kind.TheVariants.{Write, Read, Not
 use Rattle.gaspi_types.specs.declared.touches.Touch.{Touch}
 use Rattle.gaspi_types.specs.declared.touches.Touch.TheVariants as touches
 use Rattle.gaspi_types.specs.declared.touches.Reach.{Reach}
-use Rattle.gaspi_types.specs.declared.touches.Reach.TheVariants.{Alone, OwnMemory, PeerMemory, PeerPosts}
+use Rattle.gaspi_types.specs.declared.touches.Reach.TheVariants.{Alone, OwnMemory, PeerMemory, BothMemories, PeerPosts}
 
 -- in a world of so many ranks, by an event of a rank; what is no rank has no part, and a peer that is the owner is none
 abbrev pub reach_of : ℕ → ℕ → Touch → Reach
 reach_of ranks me touches.Nothing = Alone
 reach_of ranks me touches.OwnMemory = OwnMemory
 reach_of ranks me (touches.MemoryOf rank) = if rank == me then OwnMemory else (if nat_lt rank ranks then PeerMemory rank else Alone)
+reach_of ranks me (touches.BothMemories rank) = if rank == me then OwnMemory else (if nat_lt rank ranks then BothMemories rank else Alone)
 reach_of ranks me (touches.PostsOf rank) = if rank == me then Alone else (if nat_lt rank ranks then PeerPosts rank else Alone)
 
 -- a write takes its bytes from its own segment, a read from its target's, and notifications take nothing

@@ -142,8 +142,15 @@ impl Call {
             Call::Qsize(_) => CallRow::touching(Touch::Nothing),
             Call::Waitsome(_) => CallRow::touching(Touch::OwnMemory).with_timeout(),
             Call::Reset(_) => CallRow::touching(Touch::OwnMemory),
+            Call::PassiveSend(call) => CallRow::touching(Touch::BothMemories(call.rank))
+                .with_memory()
+                .with_timeout(),
+            Call::PassiveReceive(_) => CallRow::touching(Touch::OwnMemory).with_timeout(),
             Call::FetchAdd(call) => CallRow::touching(Touch::MemoryOf(call.rank)),
             Call::CompareSwap(call) => CallRow::touching(Touch::MemoryOf(call.rank)),
+            Call::GroupCreate => CallRow::touching(Touch::Nothing),
+            Call::GroupAdd(_) => CallRow::touching(Touch::Nothing),
+            Call::GroupDelete(_) => CallRow::touching(Touch::Nothing),
             Call::State => CallRow::touching(Touch::Nothing),
             Call::End => CallRow {
                 ends: true,

@@ -4,16 +4,20 @@ ghost use Rattle.std.specs.Prelude.{◌≡◌, IfOk, IsOk, true};
 ghost use Rattle.gaspi_types.specs.Copies.{is_listless_call};
 
 mod atomics;
+mod groups;
 mod memory;
 mod notifications;
+mod passive;
 mod posts;
 mod queues;
 mod segments;
 
 use crate::memory::NoMemory;
 pub use atomics::{CompareSwap, FetchAdd};
+pub use groups::{GroupAdd, GroupDelete};
 pub use memory::{Load, Store};
 pub use notifications::{Reset, Waitsome};
+pub use passive::{PassiveReceive, PassiveSend};
 pub use posts::{
     Item, Notify, Read, ReadList, ReadListNotify, ReadNotify, Write, WriteList, WriteListNotify,
     WriteNotify, is_list_length,
@@ -45,8 +49,14 @@ pub enum Call {
     Qsize(Qsize),
     Waitsome(Waitsome),
     Reset(Reset),
+    PassiveSend(PassiveSend),
+    PassiveReceive(PassiveReceive),
     FetchAdd(FetchAdd),
     CompareSwap(CompareSwap),
+    /// A new group of the caller's rank. (GASPI: group_create)
+    GroupCreate,
+    GroupAdd(GroupAdd),
+    GroupDelete(GroupDelete),
     /// Which ranks are corrupt for the caller's rank. (GASPI: state_vec_get)
     State,
     /// The end of a caller. (own choice)
@@ -88,8 +98,13 @@ impl Call {
             Call::Qsize(call) => Ok(Call::Qsize(*call)),
             Call::Waitsome(call) => Ok(Call::Waitsome(*call)),
             Call::Reset(call) => Ok(Call::Reset(*call)),
+            Call::PassiveSend(call) => Ok(Call::PassiveSend(*call)),
+            Call::PassiveReceive(call) => Ok(Call::PassiveReceive(*call)),
             Call::FetchAdd(call) => Ok(Call::FetchAdd(*call)),
             Call::CompareSwap(call) => Ok(Call::CompareSwap(*call)),
+            Call::GroupCreate => Ok(Call::GroupCreate),
+            Call::GroupAdd(call) => Ok(Call::GroupAdd(*call)),
+            Call::GroupDelete(call) => Ok(Call::GroupDelete(*call)),
             Call::State => Ok(Call::State),
             Call::End => Ok(Call::End),
         }

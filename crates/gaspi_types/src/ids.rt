@@ -1,4 +1,4 @@
-//! Ranks, threads, segments, queues and notification slots by their numbers.
+//! Ranks, threads, segments, queues, notification slots and groups by their numbers.
 //!
 //! A contract sees each id as its number, which is below the limit of its kind.
 
@@ -279,6 +279,62 @@ impl NoteId {
     pub fn index(self) -> usize
         ensures value { result ≡ self }
         ensures bound { result < 1024 }
+    {
+        self.number as usize
+    }
+}
+
+/// The number of a group of a rank, from 0, which is the group of all ranks. It is below 8. (GASPI: groups)
+#[derive(Clone, Copy, Debug, PartialEq, Eq)]
+pub struct GroupId {
+    number: u32,
+}
+
+impl Model for GroupId {
+    ghost use Rattle.std.specs.Prelude.{ℕ, ◌<◌};
+
+    ghost Value = { ℕ };
+
+    ghost view = { λ id. id.number };
+
+    ghost invariant = { λ id. id.number < 8 };
+
+    ghost inverse = { λ n. record { number = n } };
+}
+
+impl GroupId {
+    /// The id with a number in its range.
+    pub fn of(number: u32) -> GroupId
+        requires { number < 8 }
+        ensures { result ≡ number }
+    {
+        GroupId { number }
+    }
+
+    /// The group with a number, exactly where it is below 8.
+    pub fn new(n: u64, shape: &Shape) -> Option<GroupId>
+        ensures { SomeIff result (n < 8) n }
+    {
+        let _ = shape;
+        if n < 8 {
+            Some(GroupId { number: n as u32 })
+        } else {
+            None
+        }
+    }
+
+    /// Its number.
+    pub fn number(self) -> u32
+        ensures value { result ≡ self }
+        ensures bound { result < 8 }
+    {
+        self.number
+    }
+
+    /// Its number, as an index.
+    pub fn index(self) -> usize
+        ensures value { result ≡ self }
+        ensures bound { result < 8 }
     {
         self.number as usize
     }

@@ -6,7 +6,9 @@ mod calls;
 mod collectives;
 mod entries;
 mod events;
+mod groups;
 mod ids;
+mod inboxes;
 mod lists;
 mod masks;
 mod memory;
@@ -17,16 +19,19 @@ mod touches;
 
 pub use call_rows::{CallRow, Posting, need};
 pub use calls::{
-    Alloc, Call, CompareSwap, Delete, FetchAdd, Item, Load, Notify, Purge, Qsize, Read, ReadList,
-    ReadListNotify, ReadNotify, Register, Reset, Store, Timeout, Wait, Waitsome, Write, WriteList,
-    WriteListNotify, WriteNotify, is_list_length,
+    Alloc, Call, CompareSwap, Delete, FetchAdd, GroupAdd, GroupDelete, Item, Load, Notify,
+    PassiveReceive, PassiveSend, Purge, Qsize, Read, ReadList, ReadListNotify, ReadNotify,
+    Register, Reset, Store, Timeout, Wait, Waitsome, Write, WriteList, WriteListNotify,
+    WriteNotify, is_list_length,
 };
 pub use collectives::{Coll, NumType, Numbers, Op, Stage, are_in_type, is_in_type};
 pub use entries::{ByteRange, Destination, Direction, Ends, Entry, Kind, NoteSlot, Phase, Queue};
 pub use events::{Event, Outcome, Transfer};
-pub use ids::{NoteId, QueueId, RankId, SegId, ThreadId};
+pub use groups::{Args, Contribution, Group, Handle, Handles, Part, Pending};
+pub use ids::{GroupId, NoteId, QueueId, RankId, SegId, ThreadId};
+pub use inboxes::{Message, Messages, is_passive_size};
 pub use lists::{Bytes, Rows};
-pub use masks::mask_of;
+pub use masks::{all_below, is_member, mask_of, with_member};
 pub use memory::NoMemory;
 pub use replies::{Ready, Refusal, Reply};
 pub use segments::{Extent, Extents, OwnSegments, Segment, SegmentTable, is_segment_size};

@@ -14,6 +14,8 @@ pub enum Touch {
     OwnMemory,
     /// The memory of a rank.
     MemoryOf(u64),
+    /// The memory of its owner's rank, to read, and that of a rank.
+    BothMemories(u64),
     /// The posts of a rank.
     PostsOf(u64),
 }
@@ -25,6 +27,7 @@ pub enum Reach {
     Alone,
     OwnMemory,
     PeerMemory(RankId),
+    BothMemories(RankId),
     PeerPosts(RankId),
 }
 
@@ -42,6 +45,15 @@ impl Touch {
                     Reach::OwnMemory
                 } else if rank < u64::from(ranks) {
                     Reach::PeerMemory(RankId::of(rank as u32))
+                } else {
+                    Reach::Alone
+                }
+            }
+            Touch::BothMemories(rank) => {
+                if rank == u64::from(me.number()) {
+                    Reach::OwnMemory
+                } else if rank < u64::from(ranks) {
+                    Reach::BothMemories(RankId::of(rank as u32))
                 } else {
                     Reach::Alone
                 }
