@@ -3,6 +3,8 @@ pub mod FoundEntries
 pub mod Made
 pub mod Same
 pub mod FoundReplies
+pub mod PassiveFinds
+pub mod GroupFinds
 pub mod Worked
 pub mod CorruptMarks
 pub mod Histories

@@ -14,7 +14,7 @@ use Rattle.gaspi_types.specs.declared.entries.Kind.TheVariants.{Write, Read, Not
 use Rattle.gaspi_types.specs.declared.touches.Touch.{Touch}
 use Rattle.gaspi_types.specs.declared.touches.Touch.TheVariants as touches
 use Rattle.gaspi_types.specs.declared.touches.Reach.{Reach}
-use Rattle.gaspi_types.specs.declared.touches.Reach.TheVariants.{Alone, OwnMemory, PeerMemory, PeerPosts}
+use Rattle.gaspi_types.specs.declared.touches.Reach.TheVariants.{Alone, OwnMemory, PeerMemory, BothMemories, PeerPosts}
 use Rattle.gaspi_types.specs.declared.shapes.Limits.{Limits}
 use Rattle.gaspi_types.specs.declared.shapes.CallerId.{CallerId}
 use Rattle.gaspi_types.specs.declared.calls.Call.{Call}
@@ -25,7 +25,8 @@ use Rattle.gaspi_model.specs.State.{owed, thread_at}
 use Rattle.gaspi_types.specs.Tables.{changed_at}
 use Rattle.gaspi_model.specs.Calls.{answer, recorded_reply, charge, posts_after, memory_after, peer_after}
 use Rattle.gaspi_model.specs.Transfers.{Found, find_entry, bytes_taken, take, put, taken_bytes, memory_with, memory_after_put, take_outcome, put_outcome, same_outcome, entry_in, Worked}
-use Rattle.gaspi_model.specs.Step.{step, called, is_there, on_parts, entry_touch}
+use Rattle.gaspi_types.specs.declared.inboxes.Message.{Message}
+use Rattle.gaspi_model.specs.Step.{step, call_brought, called, is_there, on_parts, entry_touch}
 use Rattle.gaspi_model.specs.Parts.{memory_or_none, no_memory, part_at, with_part, parts_of, with_parts, touched_of, worked_memory, with_worked_memory}
 use Rattle.gaspi_model.specs.declared.states.Posts.{Posts}
 use Rattle.gaspi_model.specs.declared.states.Memory.{Memory}
@@ -77,15 +78,15 @@ put-ok posts memory queue target number outcome after h =
     (at, record { is = is; whole = whole; permitted = permitted; fits = fits; leaves = rw (same_Ok _ _ h5) leaves }))))))
 
 -- a call that was recorded
-pub record IsCalled (limits : Limits) (me : ℕ) (posts : Posts) (memory : Memory) (thread : ℕ) (call : Call) (reply : Reply) (after : Worked) : Type 0 where
+pub record IsCalled (limits : Limits) (me : ℕ) (posts : Posts) (brought : Option Message) (memory : Memory) (thread : ℕ) (call : Call) (reply : Reply) (after : Worked) : Type 0 where
   pub there : is_there (thread_at posts thread) ≡ true
   pub answered : same_reply reply (recorded_reply (answer limits me posts memory thread call)) ≡ true
   pub room : nat_le (posts.events + owed posts + charge (thread_at posts thread) call reply) limits.events ≡ true
-  pub leaves : after ≡ record { posts = posts_after limits me posts thread call reply; memory = memory_after limits posts memory call reply }
+  pub leaves : after ≡ record { posts = posts_after limits me posts thread call reply; memory = memory_after limits posts brought memory call reply }
 
-pub called-ok : (limits : Limits) (me : ℕ) (posts : Posts) (memory : Memory) (thread : ℕ) (call : Call) (reply : Reply) (after : Worked)
-    → called limits me posts memory thread call reply ≡ Ok after → IsCalled limits me posts memory thread call reply after
-called-ok limits me posts memory thread call reply after h =
+pub called-ok : (limits : Limits) (me : ℕ) (posts : Posts) (brought : Option Message) (memory : Memory) (thread : ℕ) (call : Call) (reply : Reply) (after : Worked)
+    → called limits me posts brought memory thread call reply ≡ Ok after → IsCalled limits me posts brought memory thread call reply after
+called-ok limits me posts brought memory thread call reply after h =
     check_then (is_there (thread_at posts thread)) whys.Caller _ after h (λ there h1.
     check_then (same_reply reply (recorded_reply (answer limits me posts memory thread call))) whys.Reply _ after h1 (λ answered h2.
     check_then (nat_le (posts.events + owed posts + charge (thread_at posts thread) call reply) limits.events) whys.Limit _ after h2 (λ room h3.
@@ -96,18 +97,21 @@ abbrev pub memory_at : Reach → ℕ → List Memory → Memory
 memory_at Alone me all = no_memory
 memory_at OwnMemory me all = memory_or_none (slice_get all me)
 memory_at (PeerMemory rank) me all = memory_or_none (slice_get all rank)
+memory_at (BothMemories rank) me all = memory_or_none (slice_get all rank)
 memory_at (PeerPosts rank) me all = no_memory
 
 abbrev pub memories_at : Reach → ℕ → Memory → List Memory → List Memory
 memories_at Alone me memory all = all
 memories_at OwnMemory me memory all = slice_set all me memory
 memories_at (PeerMemory rank) me memory all = slice_set all rank memory
+memories_at (BothMemories rank) me memory all = slice_set all rank memory
 memories_at (PeerPosts rank) me memory all = all
 
 pub worked-at : (s : State) (posts : Posts) (me : ℕ) (reach : Reach) → worked_memory reach (parts_of s posts (touched_of me reach)) ≡ memory_at reach me s.memories
 worked-at s posts me Alone = refl
 worked-at s posts me OwnMemory = refl
 worked-at s posts me (PeerMemory rank) = refl
+worked-at s posts me (BothMemories rank) = refl
 worked-at s posts me (PeerPosts rank) = refl
 
 -- what stands there, or nothing, set there changes nothing
@@ -127,13 +131,24 @@ pub memories-same : (reach : Reach) (me : ℕ) (all : List Memory) → memories_
 memories-same Alone me all = refl
 memories-same OwnMemory me all = same-set all me
 memories-same (PeerMemory rank) me all = same-set all rank
+memories-same (BothMemories rank) me all = same-set all rank
 memories-same (PeerPosts rank) me all = refl
 
 pub memories-length : (reach : Reach) (me : ℕ) (memory : Memory) (all : List Memory) → length (memories_at reach me memory all) ≡ length all
 memories-length Alone me memory all = refl
 memories-length OwnMemory me memory all = length-set all me memory
 memories-length (PeerMemory rank) me memory all = length-set all rank memory
+memories-length (BothMemories rank) me memory all = length-set all rank memory
 memories-length (PeerPosts rank) me memory all = refl
+
+-- a memory that is written back as it was
+part-same : (table : List Memory) (touched : Option ℕ) → with_part table touched (part_at table touched) ≡ table
+part-same table None = refl
+part-same table (Some place) = go (slice_get table place) refl
+  where
+    go : (o : Option Memory) → slice_get table place ≡ o → with_part table (Some place) (slice_get table place) ≡ table
+    go None at = rw at refl
+    go (Some x) at = rw at (set-there table place x at)
 
 -- The state after a step on the parts of a reach: the owner's posts are replaced, those of a peer changed, and the memory
 -- that is worked on is replaced.
@@ -146,6 +161,8 @@ lifted-after : (s : State) (me : ℕ) (reach : Reach) (before after : Posts) (me
 lifted-after s me Alone before after memory change apart = refl
 lifted-after s me OwnMemory before after memory change apart = refl
 lifted-after s me (PeerMemory rank) before after memory change apart = refl
+lifted-after s me (BothMemories rank) before after memory change apart =
+    ap (λ (x : List Memory). record s { posts = slice_set s.posts me after; memories = slice_set x rank memory }) (part-same s.memories (Some me))
 lifted-after s me (PeerPosts rank) before after memory change apart = ap (λ (x : List Posts). record s { posts = x }) (go (slice_get s.posts rank) refl)
   where
     other : slice_get (slice_set s.posts me after) rank ≡ slice_get s.posts rank
@@ -171,7 +188,7 @@ peer-apart ranks me touch rank is same =
 pub record IsCalledStep (s t : State) (c : CallerId) (call : Call) (reply : Reply) (posts : Posts) (memory : Memory) (after : Worked) : Type 0 where
   pub posts_there : slice_get s.posts c.rank ≡ Some posts
   pub worked : memory ≡ memory_at (call_reach s.limits.ranks c.rank call) c.rank s.memories
-  pub is : IsCalled s.limits c.rank posts memory c.thread call reply after
+  pub is : IsCalled s.limits c.rank posts (call_brought s c.rank call) memory c.thread call reply after
   pub leaves : t ≡ record s {
     posts = told s.limits.ranks c.rank posts call reply (slice_set s.posts c.rank after.posts);
     memories = memories_at (call_reach s.limits.ranks c.rank call) c.rank after.memory s.memories;
@@ -182,7 +199,7 @@ pub step-called : (s t : State) (c : CallerId) (call : Call) (reply : Reply) →
 step-called s t c call reply h =
     found_then (slice_get s.posts c.rank) whys.Caller _ t h (λ posts hp h1.
     bind_then (on_parts s.limits reach (Called c call reply) (parts_of s posts (touched_of c.rank reach))) _ t h1 (λ parts hl h2.
-    bind_then (called s.limits c.rank posts (worked_memory reach (parts_of s posts (touched_of c.rank reach))) c.thread call reply) _ parts hl (λ after ha h3.
+    bind_then (called s.limits c.rank posts (call_brought s c.rank call) (worked_memory reach (parts_of s posts (touched_of c.rank reach))) c.thread call reply) _ parts hl (λ after ha h3.
     let worked = worked-at s posts c.rank reach in
     let ends = lifted-after s c.rank reach posts after.posts after.memory (peer_after c.rank posts call reply) (peer-apart s.limits.ranks c.rank (row_of call).touch) in
     let told_is = told-changed posts (slice_set s.posts c.rank after.posts) in
@@ -193,7 +210,7 @@ step-called s t c call reply h =
       record {
         posts_there = hp;
         worked = refl;
-        is = called-ok _ _ _ _ _ _ _ _ (subst (λ (m : Memory). called s.limits c.rank posts m c.thread call reply ≡ Ok after) worked ha);
+        is = called-ok _ _ _ _ _ _ _ _ _ (subst (λ (m : Memory). called s.limits c.rank posts (call_brought s c.rank call) m c.thread call reply ≡ Ok after) worked ha);
         leaves = state ∙ ap (with_parts s c.rank (touched_of c.rank reach)) (sym (same_Ok _ _ h3)) ∙ ends
             ∙ ap (λ (x : List Posts). record s { posts = x; memories = memories_at reach c.rank after.memory s.memories }) told_is;
       },
@@ -209,6 +226,7 @@ step-called s t c call reply h =
         go Alone = refl
         go OwnMemory = refl
         go (PeerMemory rank) = refl
+        go (BothMemories rank) = refl
         go (PeerPosts rank) = refl
 
 -- the reach of the take and of the put of an entry
@@ -236,14 +254,6 @@ pub record IsPutStep (s t : State) (origin queue target number : ℕ) (outcome :
 -- the entry that was found is the one by which the reach is told
 pub entry-found : (posts : Posts) (queue target number : ℕ) (at : Found) → IsFound posts queue target number at → entry_in posts queue target number ≡ Some at.entry
 entry-found posts queue target number at is = rw (is.in_posts, is.in_queue, is.numbered, is.in_lane) refl
-
-part-same : (table : List Memory) (touched : Option ℕ) → with_part table touched (part_at table touched) ≡ table
-part-same table None = refl
-part-same table (Some place) = go (slice_get table place) refl
-  where
-    go : (o : Option Memory) → slice_get table place ≡ o → with_part table (Some place) (slice_get table place) ≡ table
-    go None at = rw at refl
-    go (Some x) at = rw at (set-there table place x at)
 
 -- no transfer reaches a peer's posts
 take-alone : (ranks origin target : ℕ) (kind : Kind) (rank : ℕ) → take_reach ranks origin target kind ≡ PeerPosts rank → ⊥
@@ -298,6 +308,9 @@ step-take s t origin queue target number outcome h =
     leaves posts after Alone none = refl
     leaves posts after OwnMemory none = ap (λ (x : List Memory). record s { posts = slice_set s.posts origin after; memories = x }) (part-same s.memories (Some origin))
     leaves posts after (PeerMemory rank) none = ap (λ (x : List Memory). record s { posts = slice_set s.posts origin after; memories = x }) (part-same s.memories (Some rank))
+    leaves posts after (BothMemories rank) none =
+        ap (λ (x : List Memory). record s { posts = slice_set s.posts origin after; memories = with_part x (Some rank) (slice_get s.memories rank) }) (part-same s.memories (Some origin))
+        ∙ ap (λ (x : List Memory). record s { posts = slice_set s.posts origin after; memories = x }) (part-same s.memories (Some rank))
     leaves posts after (PeerPosts rank) none = absurd (none rank refl)
 
 pub step-put : (s t : State) (origin queue target number : ℕ) (outcome : Outcome) → step s (Put origin queue target number outcome) ≡ Ok t
@@ -336,4 +349,6 @@ step-put s t origin queue target number outcome h =
     leaves posts after Alone none = refl
     leaves posts after OwnMemory none = refl
     leaves posts after (PeerMemory rank) none = refl
+    leaves posts after (BothMemories rank) none =
+        ap (λ (x : List Memory). record s { posts = slice_set s.posts origin after.posts; memories = slice_set x rank after.memory }) (part-same s.memories (Some origin))
     leaves posts after (PeerPosts rank) none = absurd (none rank refl)

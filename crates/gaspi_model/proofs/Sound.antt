@@ -6,6 +6,8 @@ pub mod CallTables
 pub mod CoherentOpening
 pub mod CoherentSteps
 pub mod FittingEntries
+pub mod GroupTables
+pub mod Inboxes
 pub mod Layouts
 pub mod OpenCounts
 pub mod Opening

@@ -1,5 +1,5 @@
 -- In a sound state the memory that an event works on is there: its owner's, or that of a rank that it names.
-use Rattle.std.proofs.Common.{◌≡◌, ℕ, ◌<◌, Bool, true, false, ◌==◌, nat_lt, List, length, Some, Ok, refl, sym, ap, ◌∙◌, subst, arith, if◌then◌else◌}
+use Rattle.std.proofs.Common.{◌≡◌, ℕ, ◌<◌, Bool, true, false, ◌==◌, nat_lt, List, length, Option, Some, Ok, refl, sym, ap, ◌∙◌, subst, arith, if◌then◌else◌}
 use Rattle.std.specs.List.{slice_get, slice_set}
 use Rattle.std.proofs.lemmas.Bool.{ltb-true, lt-ltb, eqb-true}
 use Rattle.std.proofs.lemmas.Option.{slice_get_within}
@@ -9,7 +9,7 @@ use Rattle.gaspi_types.specs.Replies.{is_idle, same_reply}
 use Rattle.gaspi_types.specs.declared.shapes.Limits.{Limits}
 use Rattle.gaspi_types.specs.declared.shapes.CallerId.{CallerId}
 use Rattle.gaspi_types.specs.declared.calls.Call.{Call}
-use Rattle.gaspi_types.specs.declared.calls.Call.TheVariants.{Alloc, Delete, Store, Load, Waitsome, Reset, FetchAdd, CompareSwap}
+use Rattle.gaspi_types.specs.declared.calls.Call.TheVariants.{Alloc, Delete, Store, Load, Waitsome, Reset, PassiveSend, PassiveReceive, FetchAdd, CompareSwap}
 use Rattle.gaspi_types.specs.declared.entries.Kind.{Kind}
 use Rattle.gaspi_types.specs.declared.entries.Kind.TheVariants.{Write, Read, Notify, ReadNote}
 use Rattle.gaspi_types.specs.declared.events.Outcome.{Outcome}
@@ -18,13 +18,14 @@ use Rattle.gaspi_types.specs.declared.replies.Reply.{Reply}
 use Rattle.gaspi_types.specs.declared.touches.Touch.{Touch}
 use Rattle.gaspi_types.specs.declared.touches.Touch.TheVariants as touches
 use Rattle.gaspi_types.specs.declared.touches.Reach.{Reach}
-use Rattle.gaspi_types.specs.declared.touches.Reach.TheVariants.{Alone, OwnMemory, PeerMemory, PeerPosts}
+use Rattle.gaspi_types.specs.declared.touches.Reach.TheVariants.{Alone, OwnMemory, PeerMemory, BothMemories, PeerPosts}
 use Rattle.gaspi_model.specs.State.{thread_at, is_running}
 use Rattle.gaspi_model.specs.Calls.{call_finds, answer, recorded_reply, ready_of, memory_done, memory_after}
 use Rattle.gaspi_model.specs.Parts.{memory_or_none}
 use Rattle.gaspi_model.specs.Changes.{take_rank, put_rank}
 use Rattle.gaspi_model.specs.Transfers.{Found, Worked, taken_bytes, take_outcome, same_outcome}
-use Rattle.gaspi_model.specs.Step.{step}
+use Rattle.gaspi_types.specs.declared.inboxes.Message.{Message}
+use Rattle.gaspi_model.specs.Step.{step, call_brought}
 use Rattle.gaspi_model.specs.Sound.{IsSound}
 use Rattle.gaspi_model.specs.declared.states.Posts.{Posts}
 use Rattle.gaspi_model.specs.declared.states.Memory.{Memory}
@@ -46,6 +47,7 @@ abbrev pub memory_place : Reach → ℕ → ℕ
 memory_place Alone me = me
 memory_place OwnMemory me = me
 memory_place (PeerMemory rank) me = rank
+memory_place (BothMemories rank) me = rank
 memory_place (PeerPosts rank) me = me
 
 abbrev pub memory_rank : Limits → ℕ → Call → ℕ
@@ -61,6 +63,12 @@ place-within ranks me (touches.MemoryOf r) less = go (r == me) (nat_lt r ranks) 
     go true c is = less
     go false true is = ltb-true r ranks is
     go false false is = less
+place-within ranks me (touches.BothMemories r) less = go (r == me) (nat_lt r ranks) refl
+  where
+    go : (b c : Bool) → nat_lt r ranks ≡ c → memory_place (if b then OwnMemory else (if c then BothMemories r else Alone)) me < ranks
+    go true c is = less
+    go false true is = ltb-true r ranks is
+    go false false is = less
 place-within ranks me (touches.PostsOf r) less = go (r == me) (nat_lt r ranks)
   where
     go : (b c : Bool) → memory_place (if b then Alone else (if c then PeerPosts r else Alone)) me < ranks
@@ -73,6 +81,7 @@ abbrev is_unworked : Reach → Bool
 is_unworked Alone = true
 is_unworked OwnMemory = false
 is_unworked (PeerMemory rank) = false
+is_unworked (BothMemories rank) = false
 is_unworked (PeerPosts rank) = true
 
 -- An atomic that works on no memory names no rank.
@@ -84,27 +93,41 @@ word-unworked limits me posts m seg offset rank h = go (rank == me) (nat_lt rank
     go false true is h = absurd (let no : ⊥ = cc in no)
     go false false is h = is
 
+-- So does a send.
+send-unworked : (limits : Limits) (me rank : ℕ) → is_unworked (reach_of limits.ranks me (touches.BothMemories rank)) ≡ true → nat_lt rank limits.ranks ≡ false
+send-unworked limits me rank h = go (rank == me) (nat_lt rank limits.ranks) refl h
+  where
+    go : (b c : Bool) → nat_lt rank limits.ranks ≡ c → is_unworked (if b then OwnMemory else (if c then BothMemories rank else Alone)) ≡ true → nat_lt rank limits.ranks ≡ false
+    go true c is h = absurd (let no : ⊥ = cc in no)
+    go false true is h = absurd (let no : ⊥ = cc in no)
+    go false false is h = is
+
 -- A call that works on no memory finds the same whatever the memory is, and leaves it.
 finds-unworked : (limits : Limits) (me : ℕ) (posts : Posts) (m m' : Memory) (call : Call) → is_unworked (call_reach limits.ranks me call) ≡ true
     → call_finds limits me posts m call ≡ call_finds limits me posts m' call
 finds-unworked limits me posts m m' (Load call) h = absurd (let no : ⊥ = cc in no)
 finds-unworked limits me posts m m' (Waitsome call) h = absurd (let no : ⊥ = cc in no)
 finds-unworked limits me posts m m' (Reset call) h = absurd (let no : ⊥ = cc in no)
+finds-unworked limits me posts m m' (PassiveSend call) h = rw (send-unworked limits me call.rank h) refl
+finds-unworked limits me posts m m' (PassiveReceive call) h = absurd (let no : ⊥ = cc in no)
 finds-unworked limits me posts m m' (FetchAdd call) h = rw (word-unworked limits me posts m call.seg call.offset call.rank h) refl
 finds-unworked limits me posts m m' (CompareSwap call) h = rw (word-unworked limits me posts m call.seg call.offset call.rank h) refl
 finds-unworked limits me posts m m' other h = refl
 
-done-unworked : (limits : Limits) (me : ℕ) (posts : Posts) (m : Memory) (call : Call) (reply : Reply) → is_unworked (call_reach limits.ranks me call) ≡ true
-    → call_finds limits me posts m call ≡ Ok (Some reply) → memory_done limits posts m call ≡ m
-done-unworked limits me posts m (Alloc call) reply h finds = absurd (let no : ⊥ = cc in no)
-done-unworked limits me posts m (Delete call) reply h finds = absurd (let no : ⊥ = cc in no)
-done-unworked limits me posts m (Store call) reply h finds = absurd (let no : ⊥ = cc in no)
-done-unworked limits me posts m (Reset call) reply h finds = absurd (let no : ⊥ = cc in no)
-done-unworked limits me posts m (FetchAdd call) reply h finds =
+done-unworked : (limits : Limits) (me : ℕ) (posts : Posts) (brought : Option Message) (m : Memory) (call : Call) (reply : Reply) → is_unworked (call_reach limits.ranks me call) ≡ true
+    → call_finds limits me posts m call ≡ Ok (Some reply) → memory_done limits posts brought m call ≡ m
+done-unworked limits me posts brought m (Alloc call) reply h finds = absurd (let no : ⊥ = cc in no)
+done-unworked limits me posts brought m (Delete call) reply h finds = absurd (let no : ⊥ = cc in no)
+done-unworked limits me posts brought m (Store call) reply h finds = absurd (let no : ⊥ = cc in no)
+done-unworked limits me posts brought m (Reset call) reply h finds = absurd (let no : ⊥ = cc in no)
+done-unworked limits me posts brought m (PassiveSend call) reply h finds =
+    absurd (let refused = rw (send-unworked limits me call.rank h) at finds in let no : ⊥ = cc in no)
+done-unworked limits me posts brought m (PassiveReceive call) reply h finds = absurd (let no : ⊥ = cc in no)
+done-unworked limits me posts brought m (FetchAdd call) reply h finds =
     absurd (let refused = rw (word-unworked limits me posts m call.seg call.offset call.rank h) at finds in let no : ⊥ = cc in no)
-done-unworked limits me posts m (CompareSwap call) reply h finds =
+done-unworked limits me posts brought m (CompareSwap call) reply h finds =
     absurd (let refused = rw (word-unworked limits me posts m call.seg call.offset call.rank h) at finds in let no : ⊥ = cc in no)
-done-unworked limits me posts m other reply h finds = refl
+done-unworked limits me posts brought m other reply h finds = refl
 
 answer-unworked : (limits : Limits) (me : ℕ) (posts : Posts) (m m' : Memory) (thread : ℕ) (call : Call) → is_unworked (call_reach limits.ranks me call) ≡ true
     → answer limits me posts m thread call ≡ answer limits me posts m' thread call
@@ -114,10 +137,10 @@ answer-unworked limits me posts m m' thread call h = go (is_running (thread_at p
     go true is = rw is (ap ready_of (finds-unworked limits me posts m m' call h))
     go false is = rw is refl
 
-called-unworked : (limits : Limits) (me : ℕ) (posts : Posts) (m m' : Memory) (thread : ℕ) (call : Call) (reply : Reply) (after : Worked)
-    → is_unworked (call_reach limits.ranks me call) ≡ true → IsCalled limits me posts m thread call reply after
-    → IsCalled limits me posts m' thread call reply (record { posts = after.posts; memory = m' })
-called-unworked limits me posts m m' thread call reply after h is = record {
+called-unworked : (limits : Limits) (me : ℕ) (posts : Posts) (brought : Option Message) (m m' : Memory) (thread : ℕ) (call : Call) (reply : Reply) (after : Worked)
+    → is_unworked (call_reach limits.ranks me call) ≡ true → IsCalled limits me posts brought m thread call reply after
+    → IsCalled limits me posts brought m' thread call reply (record { posts = after.posts; memory = m' })
+called-unworked limits me posts brought m m' thread call reply after h is = record {
   there = is.there;
   answered = answered;
   room = is.room;
@@ -128,16 +151,16 @@ called-unworked limits me posts m m' thread call reply after h is = record {
     answered : same_reply reply (recorded_reply (answer limits me posts m' thread call)) ≡ true
     answered = subst (λ (r : _). same_reply reply (recorded_reply r) ≡ true) (answer-unworked limits me posts m m' thread call h) is.answered
 
-    kept : (b : Bool) → is_idle reply ≡ b → memory_after limits posts m' call reply ≡ m'
+    kept : (b : Bool) → is_idle reply ≡ b → memory_after limits posts brought m' call reply ≡ m'
     kept true idle = rw idle refl
     kept false awake =
-        rw awake (done-unworked limits me posts m' call reply h (found-reply limits me posts m' thread call reply (same_reply-same _ _ answered) awake))
+        rw awake (done-unworked limits me posts brought m' call reply h (found-reply limits me posts m' thread call reply (same_reply-same _ _ answered) awake))
 
 -- a call's step, by the place of the memory that it works on
 pub record IsCalledThere (s t : State) (c : CallerId) (call : Call) (reply : Reply) (posts : Posts) (memory : Memory) (after : Worked) : Type 0 where
   pub posts_there : slice_get s.posts c.rank ≡ Some posts
   pub memory_there : slice_get s.memories (memory_rank s.limits c.rank call) ≡ Some memory
-  pub is : IsCalled s.limits c.rank posts memory c.thread call reply after
+  pub is : IsCalled s.limits c.rank posts (call_brought s c.rank call) memory c.thread call reply after
   pub leaves : t ≡ record s {
     posts = told s.limits.ranks c.rank posts call reply (slice_set s.posts c.rank after.posts);
     memories = slice_set s.memories (memory_rank s.limits c.rank call) after.memory;
@@ -164,7 +187,7 @@ called-there s t c call reply has h =
       record {
         posts_there = made.posts_there;
         memory_there = there;
-        is = subst (λ (x : Memory). IsCalled s.limits c.rank posts x c.thread call reply after) (made.worked ∙ same) made.is;
+        is = subst (λ (x : Memory). IsCalled s.limits c.rank posts (call_brought s c.rank call) x c.thread call reply after) (made.worked ∙ same) made.is;
         leaves = made.leaves
             ∙ ap (λ (x : List Memory). record s { posts = told s.limits.ranks c.rank posts call reply (slice_set s.posts c.rank after.posts); memories = x }) sets;
       },
@@ -182,7 +205,7 @@ called-there s t c call reply has h =
       record {
         posts_there = made.posts_there;
         memory_there = there;
-        is = called-unworked s.limits c.rank posts m memory c.thread call reply after none made.is;
+        is = called-unworked s.limits c.rank posts (call_brought s c.rank call) m memory c.thread call reply after none made.is;
         leaves = made.leaves
             ∙ ap (λ (x : List Memory). record s { posts = told s.limits.ranks c.rank posts call reply (slice_set s.posts c.rank after.posts); memories = x })
             (same ∙ sym (set-there s.memories (memory_rank s.limits c.rank call) memory there));
@@ -199,6 +222,9 @@ called-there s t c call reply has h =
     by-reach (PeerMemory rank) is posts m after made memory there =
         let here : slice_get s.memories rank ≡ Some memory = rw is at there in
         worked posts m after made memory there (rw (is, here) refl) (rw is refl)
+    by-reach (BothMemories rank) is posts m after made memory there =
+        let here : slice_get s.memories rank ≡ Some memory = rw is at there in
+        worked posts m after made memory there (rw (is, here) refl) (rw is refl)
     by-reach (PeerPosts rank) is posts m after made memory there = unworked posts m after made memory there (rw is refl) (rw is refl)
 
 -- The memory that an event of some reach works on is there.
@@ -213,12 +239,14 @@ worked-there s me touch has less worked =
     go Alone works m at = absurd (let none : ⊥ = cc in none)
     go OwnMemory works m at = at ∙ ap (λ (x : Memory). Some x) (sym (ap memory_or_none at))
     go (PeerMemory rank) works m at = at ∙ ap (λ (x : Memory). Some x) (sym (ap memory_or_none at))
+    go (BothMemories rank) works m at = at ∙ ap (λ (x : Memory). Some x) (sym (ap memory_or_none at))
     go (PeerPosts rank) works m at = absurd (let none : ⊥ = cc in none)
 
 worked-set : (r : Reach) (me : ℕ) (memory : Memory) (all : List Memory) → is_unworked r ≡ false → memories_at r me memory all ≡ slice_set all (memory_place r me) memory
 worked-set Alone me memory all works = absurd (let none : ⊥ = cc in none)
 worked-set OwnMemory me memory all works = refl
 worked-set (PeerMemory rank) me memory all works = refl
+worked-set (BothMemories rank) me memory all works = refl
 worked-set (PeerPosts rank) me memory all works = absurd (let none : ⊥ = cc in none)
 
 -- that of a rank is worked on

@@ -1,6 +1,7 @@
 -- What a call answers, and what it leaves. A call of a rank `me` reads and changes that rank's posts and at most one memory:
--- that of its rank or, for an atomic, of the rank that it names. A segment made known is also told to the rank that it
--- names. What each call finds and leaves stands with its chapter.
+-- that of its rank or, for an atomic and a send, of the rank that it names. A send brings a message besides, which it takes
+-- from the own memory. A segment made known is also told to the rank that it names. What each call finds and leaves stands
+-- with its chapter.
 use Rattle.std.specs.Prelude.{ℕ, ◌+◌, ◌*◌, ◌&&◌, List, Option, None, Some, Result, Ok, Err, if◌then◌else◌, slice_set}
 use Rattle.gaspi_types.specs.CallRows.{row_of, entries_of, is_end}
 use Rattle.gaspi_types.specs.Posts.{call_kinds}
@@ -10,7 +11,7 @@ use Rattle.gaspi_types.specs.declared.call_rows.Posting.{Posting}
 use Rattle.gaspi_types.specs.declared.entries.Kind.{Kind}
 use Rattle.gaspi_types.specs.declared.shapes.Limits.{Limits}
 use Rattle.gaspi_types.specs.declared.calls.Call.{Call}
-use Rattle.gaspi_types.specs.declared.calls.Call.TheVariants.{Alloc, Register, Delete, Store, Load, Wait, Purge, Qsize, Waitsome, Reset, FetchAdd, CompareSwap, State, End}
+use Rattle.gaspi_types.specs.declared.calls.Call.TheVariants.{Alloc, Register, Delete, Store, Load, Wait, Purge, Qsize, Waitsome, Reset, PassiveSend, PassiveReceive, FetchAdd, CompareSwap, GroupCreate, GroupAdd, GroupDelete, State, End}
 use Rattle.gaspi_types.specs.declared.replies.Refusal.{Refusal}
 use Rattle.gaspi_types.specs.declared.replies.Refusal.TheVariants.{CallerEnded}
 use Rattle.gaspi_types.specs.declared.replies.Reply.{Reply}
@@ -25,6 +26,9 @@ use Rattle.gaspi_model.specs.PostCalls.{asked_finds}
 use Rattle.gaspi_model.specs.QueueCalls.{wait_finds, purge_finds, qsize_finds, state_finds, closed, purged}
 use Rattle.gaspi_model.specs.NotificationCalls.{waitsome_finds, reset_finds, reset_leaves}
 use Rattle.gaspi_model.specs.AtomicCalls.{word_finds, fetch_add_leaves, compare_swap_leaves}
+use Rattle.gaspi_model.specs.PassiveCalls.{send_finds, send_leaves, receive_finds, receive_leaves}
+use Rattle.gaspi_model.specs.GroupCalls.{group_create_finds, group_create_leaves, group_add_finds, group_add_leaves, group_delete_finds, group_delete_leaves}
+use Rattle.gaspi_types.specs.declared.inboxes.Message.{Message}
 use Rattle.gaspi_model.specs.declared.states.ThreadState.{ThreadState}
 use Rattle.gaspi_model.specs.declared.states.ThreadState.TheVariants as threads
 use Rattle.gaspi_model.specs.declared.states.Posts.{Posts}
@@ -42,8 +46,13 @@ plain_finds limits me posts memory (Purge call) = purge_finds posts call
 plain_finds limits me posts memory (Qsize call) = qsize_finds posts call
 plain_finds limits me posts memory (Waitsome call) = waitsome_finds limits posts memory call
 plain_finds limits me posts memory (Reset call) = reset_finds limits posts memory call
+plain_finds limits me posts memory (PassiveSend call) = send_finds limits posts memory call
+plain_finds limits me posts memory (PassiveReceive call) = receive_finds posts memory call
 plain_finds limits me posts memory (FetchAdd call) = word_finds limits me posts memory call.seg call.offset call.rank
 plain_finds limits me posts memory (CompareSwap call) = word_finds limits me posts memory call.seg call.offset call.rank
+plain_finds limits me posts memory GroupCreate = group_create_finds posts
+plain_finds limits me posts memory (GroupAdd call) = group_add_finds limits posts call
+plain_finds limits me posts memory (GroupDelete call) = group_delete_finds posts call
 plain_finds limits me posts memory State = state_finds posts
 plain_finds limits me posts memory call = Ok (Some replies.Done)
 
@@ -84,6 +93,9 @@ plain_done posts thread (Alloc call) = with_own posts call.seg call.size
 plain_done posts thread (Delete call) = without_own posts call.seg
 plain_done posts thread (Wait call) = closed posts call.queue
 plain_done posts thread (Purge call) = purged posts call.queue
+plain_done posts thread GroupCreate = group_create_leaves posts
+plain_done posts thread (GroupAdd call) = group_add_leaves posts call
+plain_done posts thread (GroupDelete call) = group_delete_leaves posts call
 plain_done posts thread End = record posts { threads = slice_set posts.threads thread threads.Ended }
 plain_done posts thread call = posts
 
@@ -94,16 +106,18 @@ posts_done limits me posts thread call = done_by (row_of call).posting
     done_by None = plain_done posts thread call
     done_by (Some to) = with_post posts to.queue to.rank (call_asks limits me posts call)
 
--- In the memory that it works on, where the posts were so before it. The bytes of a segment are changed by the words that
--- say what a store and an atomic change.
-abbrev pub memory_done : Limits → Posts → Memory → Call → Memory
-memory_done limits posts memory (Alloc call) = alloc_leaves limits posts memory call
-memory_done limits posts memory (Delete call) = delete_leaves memory call
-memory_done limits posts memory (Store call) = store_leaves memory call
-memory_done limits posts memory (Reset call) = reset_leaves memory call
-memory_done limits posts memory (FetchAdd call) = fetch_add_leaves memory call
-memory_done limits posts memory (CompareSwap call) = compare_swap_leaves memory call
-memory_done limits posts memory call = memory
+-- In the memory that it works on, where the posts were so before it, and with the message that it brings. The bytes of a
+-- segment are changed by the words that say what a store and an atomic change.
+abbrev pub memory_done : Limits → Posts → Option Message → Memory → Call → Memory
+memory_done limits posts brought memory (Alloc call) = alloc_leaves limits posts memory call
+memory_done limits posts brought memory (Delete call) = delete_leaves memory call
+memory_done limits posts brought memory (Store call) = store_leaves memory call
+memory_done limits posts brought memory (Reset call) = reset_leaves memory call
+memory_done limits posts brought memory (PassiveSend call) = send_leaves brought memory
+memory_done limits posts brought memory (PassiveReceive call) = receive_leaves memory call
+memory_done limits posts brought memory (FetchAdd call) = fetch_add_leaves memory call
+memory_done limits posts brought memory (CompareSwap call) = compare_swap_leaves memory call
+memory_done limits posts brought memory call = memory
 
 -- in the posts of a peer that it reaches, where its own were so before it (segments: segment_register)
 abbrev pub peer_done : ℕ → Posts → Call → Posts → Posts
@@ -115,8 +129,8 @@ abbrev pub posts_after : Limits → ℕ → Posts → ℕ → Call → Reply →
 posts_after limits me posts thread call reply =
     counted (if is_idle reply then posts else posts_done limits me posts thread call)
 
-abbrev pub memory_after : Limits → Posts → Memory → Call → Reply → Memory
-memory_after limits posts memory call reply = if is_idle reply then memory else memory_done limits posts memory call
+abbrev pub memory_after : Limits → Posts → Option Message → Memory → Call → Reply → Memory
+memory_after limits posts brought memory call reply = if is_idle reply then memory else memory_done limits posts brought memory call
 
 abbrev pub peer_after : ℕ → Posts → Call → Reply → Posts → Posts
 peer_after me posts call reply peer = if is_idle reply then peer else peer_done me posts call peer

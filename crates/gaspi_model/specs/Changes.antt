@@ -297,7 +297,7 @@ pub record IsMade (s t : State) (me segment size : ℕ) : Type 0 where
         next_generations = slice_set posts.segments.next_generations segment (generation + 1);
       };
     });
-    memories = slice_set s.memories me (record {
+    memories = slice_set s.memories me (record memory {
       segments = slice_set memory.segments segment (Some (record { generation = generation; bytes = replicate size 0 }));
       slots = slice_set memory.slots segment (Some (replicate s.limits.notes 0));
     });
@@ -315,5 +315,5 @@ pub record IsGone (s t : State) (me segment : ℕ) : Type 0 where
   pub unused : user_of posts.queues segment ≡ None
   pub after : t ≡ record s {
     posts = slice_set s.posts me (record (counted posts) { segments = record posts.segments { own = slice_set posts.segments.own segment None } });
-    memories = slice_set s.memories me (record { segments = slice_set memory.segments segment None; slots = slice_set memory.slots segment None });
+    memories = slice_set s.memories me (record memory { segments = slice_set memory.segments segment None; slots = slice_set memory.slots segment None });
   }

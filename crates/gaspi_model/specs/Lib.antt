@@ -7,6 +7,8 @@ pub mod PostCalls
 pub mod QueueCalls
 pub mod NotificationCalls
 pub mod AtomicCalls
+pub mod PassiveCalls
+pub mod GroupCalls
 pub mod Calls
 pub mod Transfers
 pub mod Parts

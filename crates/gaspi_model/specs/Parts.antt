@@ -2,7 +2,7 @@
 use Rattle.std.specs.Prelude.{ℕ, List, [], Option, None, Some, Result, Ok, slice_get, slice_set}
 use Rattle.gaspi_types.specs.Checks.{◌>>=◌, found}
 use Rattle.gaspi_types.specs.declared.touches.Reach.{Reach}
-use Rattle.gaspi_types.specs.declared.touches.Reach.TheVariants.{Alone, OwnMemory, PeerMemory, PeerPosts}
+use Rattle.gaspi_types.specs.declared.touches.Reach.TheVariants.{Alone, OwnMemory, PeerMemory, BothMemories, PeerPosts}
 use Rattle.gaspi_model.specs.declared.states.Posts.{Posts}
 use Rattle.gaspi_model.specs.declared.states.Memory.{Memory}
 use Rattle.gaspi_model.specs.declared.states.State.{State}
@@ -18,6 +18,7 @@ abbrev pub touched_of : ℕ → Reach → Touched
 touched_of me Alone = record { memory = None; peer_posts = None; peer_memory = None }
 touched_of me OwnMemory = record { memory = Some me; peer_posts = None; peer_memory = None }
 touched_of me (PeerMemory rank) = record { memory = None; peer_posts = None; peer_memory = Some rank }
+touched_of me (BothMemories rank) = record { memory = Some me; peer_posts = None; peer_memory = Some rank }
 touched_of me (PeerPosts rank) = record { memory = None; peer_posts = Some rank; peer_memory = None }
 
 -- the owner's posts, and of the others those that are touched
@@ -61,21 +62,23 @@ lifted s me missing touched local = do
 
 -- a memory with no segment, and a memory that may be missing
 abbrev pub no_memory : Memory
-no_memory = record { segments = []; slots = [] }
+no_memory = record { segments = []; slots = []; inbox = [] }
 
 abbrev pub memory_or_none : Option Memory → Memory
 memory_or_none None = no_memory
 memory_or_none (Some memory) = memory
 
--- the memory that an event of that reach works on; where it works on none, one with no segment
+-- the memory that an event of that reach works on; where it works on none, one with no segment; of two it reads the own one
 abbrev pub worked_memory : Reach → Parts → Memory
 worked_memory Alone parts = no_memory
 worked_memory OwnMemory parts = memory_or_none parts.memory
 worked_memory (PeerMemory rank) parts = memory_or_none parts.peer_memory
+worked_memory (BothMemories rank) parts = memory_or_none parts.peer_memory
 worked_memory (PeerPosts rank) parts = no_memory
 
 abbrev pub with_worked_memory : Reach → Parts → Memory → Parts
 with_worked_memory Alone parts memory = parts
 with_worked_memory OwnMemory parts memory = record parts { memory = Some memory }
 with_worked_memory (PeerMemory rank) parts memory = record parts { peer_memory = Some memory }
+with_worked_memory (BothMemories rank) parts memory = record parts { peer_memory = Some memory }
 with_worked_memory (PeerPosts rank) parts memory = parts

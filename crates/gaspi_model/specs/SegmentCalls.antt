@@ -30,7 +30,7 @@ abbrev pub with_own : Posts → ℕ → ℕ → Posts
 with_own posts seg size = record posts { segments = tables.with_own posts.segments seg size }
 
 abbrev pub alloc_leaves : Limits → Posts → Memory → alloc.Alloc → Memory
-alloc_leaves limits posts memory call = record {
+alloc_leaves limits posts memory call = record memory {
   segments = slice_set memory.segments call.seg (Some (new_segment (next_generation posts.segments.next_generations call.seg) call.size));
   slots = slice_set memory.slots call.seg (Some (new_slots limits.notes));
 }
@@ -57,4 +57,4 @@ abbrev pub without_own : Posts → ℕ → Posts
 without_own posts seg = record posts { segments = tables.without_own posts.segments seg }
 
 abbrev pub delete_leaves : Memory → delete.Delete → Memory
-delete_leaves memory call = record { segments = slice_set memory.segments call.seg None; slots = slice_set memory.slots call.seg None }
+delete_leaves memory call = record memory { segments = slice_set memory.segments call.seg None; slots = slice_set memory.slots call.seg None }

@@ -1,11 +1,11 @@
--- The shards of an event: the parts of the state that it reads and changes. A shard is the posts of a rank or the memory of
--- a rank. (own choice)
+-- The shards of an event: the parts of the state that it reads and changes. A shard is the posts of a rank, the memory of a
+-- rank, or a group. (own choice)
 use Rattle.std.specs.Prelude.{◌≡◌, ℕ, Bool, true, false, ◌==◌, List, [], ◌∷◌, map, Option, None, Some, Result, Ok, Err, if◌then◌else◌, slice_get}
 use Rattle.std.specs.List.{list_any}
 use Rattle.gaspi_types.specs.declared.entries.Entry.{Entry}
 use Rattle.gaspi_types.specs.declared.events.Event.{Event}
 use Rattle.gaspi_types.specs.declared.touches.Reach.{Reach}
-use Rattle.gaspi_types.specs.declared.touches.Reach.TheVariants.{Alone, OwnMemory, PeerMemory, PeerPosts}
+use Rattle.gaspi_types.specs.declared.touches.Reach.TheVariants.{Alone, OwnMemory, PeerMemory, BothMemories, PeerPosts}
 use Rattle.gaspi_model.specs.Transfers.{entry_in}
 use Rattle.gaspi_model.specs.Step.{owner_of, event_reach}
 use Rattle.gaspi_model.specs.declared.states.Posts.{Posts}
@@ -27,6 +27,7 @@ abbrev pub reach_shards : ℕ → Reach → List Shard
 reach_shards me Alone = shards.Posts me ∷ []
 reach_shards me OwnMemory = shards.Posts me ∷ shards.Memory me ∷ []
 reach_shards me (PeerMemory rank) = shards.Posts me ∷ shards.Memory rank ∷ []
+reach_shards me (BothMemories rank) = shards.Posts me ∷ shards.Memory me ∷ shards.Memory rank ∷ []
 reach_shards me (PeerPosts rank) = shards.Posts me ∷ shards.Posts rank ∷ []
 
 -- The footprint of an event: its shards, told by its owner's posts and the event without its reply.
@@ -39,9 +40,9 @@ footprint s e = by_posts (slice_get s.posts (owner_of e))
 
 abbrev pub same_shard : Shard → Shard → Bool
 same_shard (shards.Posts a) (shards.Posts b) = a == b
-same_shard (shards.Posts a) (shards.Memory b) = false
-same_shard (shards.Memory a) (shards.Posts b) = false
 same_shard (shards.Memory a) (shards.Memory b) = a == b
+same_shard (shards.Group a) (shards.Group b) = a == b
+same_shard _ _ = false
 
 abbrev pub is_shard : List Shard → Shard → Bool
 is_shard list shard = list_any (λ x. same_shard x shard) list
@@ -50,6 +51,7 @@ is_shard list shard = list_any (λ x. same_shard x shard) list
 abbrev pub HaveSamePart : State → State → Shard → Type 0
 HaveSamePart s s' (shards.Posts rank) = slice_get s.posts rank ≡ slice_get s'.posts rank
 HaveSamePart s s' (shards.Memory rank) = slice_get s.memories rank ≡ slice_get s'.memories rank
+HaveSamePart s s' (shards.Group group) = slice_get s.groups group ≡ slice_get s'.groups group
 
 -- the limits, and those shards for which a test holds, are the same in two states
 pub record AgreeOn (is_in : Shard → Bool) (s s' : State) : Type 0 where

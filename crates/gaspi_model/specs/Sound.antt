@@ -3,12 +3,19 @@ use Rattle.std.specs.Prelude.{◌≡◌, ℕ, ◌+◌, ◌-◌, ◌*◌, ◌<◌
 use Rattle.gaspi_types.specs.Lanes.{is_posted, is_failed, carried_count}
 use Rattle.gaspi_types.specs.declared.entries.Entry.{Entry}
 use Rattle.gaspi_types.specs.declared.segments.Extent.{Extent}
+use Rattle.gaspi_types.specs.Groups.{handle_at, handle_of_all}
+use Rattle.gaspi_types.specs.Inboxes.{is_passive_size}
+use Rattle.gaspi_types.specs.Masks.{is_member}
+use Rattle.gaspi_types.specs.declared.groups.Handle.{Handle}
+use Rattle.gaspi_types.specs.declared.groups.Handles.{Handles}
+use Rattle.gaspi_types.specs.declared.inboxes.Message.{Message}
 use Rattle.gaspi_types.specs.World.{are_limits}
 use Rattle.gaspi_types.specs.declared.shapes.Limits.{Limits}
 use Rattle.gaspi_model.specs.State.{owed}
 use Rattle.gaspi_model.specs.Coherence.{IsCoherent}
 use Rattle.gaspi_types.specs.declared.entries.Queue.{Queue}
 use Rattle.gaspi_model.specs.declared.states.Posts.{Posts}
+use Rattle.gaspi_model.specs.declared.states.Memory.{Memory}
 use Rattle.gaspi_model.specs.declared.states.State.{State}
 
 -- each number is above n
@@ -49,7 +56,22 @@ pub record IsSoundQueue (depth : ℕ) (q : Queue) : Type 0 where
   pub opened : q.open_count ≤ depth
   pub failed : queue_failed q ≡ failures q.broken
 
--- Every table of the posts of a rank has its length: one item for each queue, rank, thread and number of a segment.
+-- The groups of a rank: group 0 has every rank and is committed; the others that were made have the first numbers, at most up
+-- to 7, and there is no further one; and who is in a group is a rank of the world.
+pub record AreSoundGroups (ranks : ℕ) (groups : Handles) : Type 0 where
+  pub table : length groups.table ≡ 8
+  pub made : groups.made ≤ 7
+  pub all : handle_at groups 0 ≡ Some (handle_of_all ranks)
+  pub unmade : (id : ℕ) → groups.made < id → handle_at groups id ≡ None
+  pub members : (id : ℕ) (h : Handle) → handle_at groups id ≡ Some h → (rank : ℕ) → is_member h.members rank ≡ true → rank < ranks
+
+-- An inbox: it has at most INBOX messages, each from a rank of the world and of a message's size.
+pub record IsSoundInbox (limits : Limits) (inbox : List Message) : Type 0 where
+  pub few : length inbox ≤ limits.inbox
+  pub senders : (place : ℕ) (m : Message) → slice_get inbox place ≡ Some m → m.sender < limits.ranks
+  pub sizes : (place : ℕ) (m : Message) → slice_get inbox place ≡ Some m → is_passive_size (length m.bytes) ≡ true
+
+-- Every table of the posts of a rank has its length: one item for each queue, rank, thread, number of a segment and group.
 pub record HasTables (limits : Limits) (posts : Posts) : Type 0 where
   pub queues : length posts.queues ≡ limits.queues
   pub corrupt : length posts.corrupt ≡ limits.ranks
@@ -57,6 +79,7 @@ pub record HasTables (limits : Limits) (posts : Posts) : Type 0 where
   pub known : length posts.segments.known ≡ limits.ranks
   pub known_segments : (rank : ℕ) (table : List (Option Extent)) → slice_get posts.segments.known rank ≡ Some table → length table ≡ 32
   pub threads : length posts.threads ≡ 4
+  pub pending : length posts.pending ≡ 8
 
 -- The posts of a rank: every table has its length; each queue has a lane to each rank, and is sound; what is recorded and owed has room; no event
 -- gave more than 256 numbers to entries, nor a number of a segment more than one generation; and the numbers of each lane
@@ -70,12 +93,14 @@ pub record IsSoundPosts (limits : Limits) (posts : Posts) : Type 0 where
   pub generations : (segment n : ℕ) → slice_get posts.segments.next_generations segment ≡ Some n → n ≤ posts.events + 1
   pub rising : (queue : ℕ) (q : Queue) → slice_get posts.queues queue ≡ Some q → (target : ℕ) (lane : List Entry) → slice_get q.lanes target ≡ Some lane → AreRising posts.next lane
   pub queues : (queue : ℕ) (q : Queue) → slice_get posts.queues queue ≡ Some q → IsSoundQueue limits.depth q
+  pub groups : AreSoundGroups limits.ranks posts.groups
 
 pub record IsSound (s : State) : Type 0 where
   pub limits : are_limits s.limits ≡ true
   pub ranks : length s.posts ≡ s.limits.ranks
   pub memories : length s.memories ≡ s.limits.ranks
   pub posts : (rank : ℕ) (posts : Posts) → slice_get s.posts rank ≡ Some posts → IsSoundPosts s.limits posts
+  pub inboxes : (rank : ℕ) (memory : Memory) → slice_get s.memories rank ≡ Some memory → IsSoundInbox s.limits memory.inbox
   pub coherent : IsCoherent s
 
 -- the events that may still be recorded, in all ranks

@@ -1,10 +1,14 @@
 -- The state of the machine: what a rank has at the start, and what is read of it.
-use Rattle.std.specs.Prelude.{ℕ, ◌+◌, Bool, true, false, List, [], replicate, map, find, sum_by, count_by, Option, None, Some, if◌then◌else◌, slice_get}
+use Rattle.std.specs.Prelude.{ℕ, ◌+◌, ◌==◌, Bool, true, false, List, [], replicate, map, find, sum_by, count_by, Option, None, Some, if◌then◌else◌, slice_get}
 use Rattle.std.specs.List.{list_any, range_with_len}
 use Rattle.std.specs.Option.{option_map}
 use Rattle.gaspi_types.specs.World.{World, is_segment, is_caller}
 use Rattle.gaspi_types.specs.Queues.{queue_owed}
 use Rattle.gaspi_types.specs.Segments.{segment_in, new_segment}
+use Rattle.gaspi_types.specs.Groups.{opening_handles}
+use Rattle.gaspi_types.specs.Masks.{all_below}
+use Rattle.gaspi_types.specs.declared.groups.Part.{Part}
+use Rattle.gaspi_types.specs.declared.groups.Group.{Group}
 use Rattle.gaspi_types.specs.declared.segments.Extent.{Extent}
 use Rattle.gaspi_types.specs.declared.entries.Queue.{Queue}
 use Rattle.gaspi_model.specs.declared.states.ThreadState.{ThreadState}
@@ -52,6 +56,8 @@ opening_posts w rank = record {
   queues = replicate w.limits.queues (opening_queue w.limits.ranks);
   corrupt = replicate w.limits.ranks false;
   segments = opening_table w rank;
+  groups = opening_handles w.limits.ranks;
+  pending = replicate 8 None;
   threads = map (opening_thread w rank) (range_with_len 0 4);
   events = 0;
   next = 0;
@@ -69,7 +75,14 @@ abbrev pub opening_slots : World → ℕ → List (Option (List ℕ))
 opening_slots w rank = map (λ segment. option_map (λ size. new_slots w.limits.notes) (declared_size w rank segment)) (range_with_len 0 32)
 
 abbrev pub opening_memory : World → ℕ → Memory
-opening_memory w rank = record { segments = opening_segments w rank; slots = opening_slots w rank }
+opening_memory w rank = record { segments = opening_segments w rank; slots = opening_slots w rank; inbox = [] }
+
+-- a group to which no rank has contributed: of group 0 every rank is a member, and the members of another are not fixed
+abbrev pub opening_part : Part
+opening_part = record { contributions = []; completed = 0 }
+
+abbrev pub opening_group : ℕ → ℕ → Group
+opening_group ranks group = record { members = (if group == 0 then Some (all_below ranks) else None); parts = replicate ranks opening_part }
 
 -- the state at the start: the shape's, all else zero or empty
 abbrev pub opening : World → State
@@ -77,6 +90,7 @@ opening w = record {
   limits = w.limits;
   posts = map (opening_posts w) (range_with_len 0 w.limits.ranks);
   memories = map (opening_memory w) (range_with_len 0 w.limits.ranks);
+  groups = map (opening_group w.limits.ranks) (range_with_len 0 8);
 }
 
 -- the state of a thread; one that is over the threads of a rank has no section

@@ -22,7 +22,9 @@ use Rattle.gaspi_types.specs.declared.events.Event.{Event}
 use Rattle.gaspi_types.specs.declared.events.Event.TheVariants.{Called, Take, Put}
 use Rattle.gaspi_model.specs.State.{opening, owed, thread_at, is_running}
 use Rattle.gaspi_model.specs.Calls.{answer, recorded_reply, charge, posts_after, memory_after, peer_after}
-use Rattle.gaspi_model.specs.Parts.{Parts, touched_of, parts_of, lifted, memory_or_none, worked_memory, with_worked_memory}
+use Rattle.gaspi_model.specs.PassiveCalls.{brought_by}
+use Rattle.gaspi_types.specs.declared.inboxes.Message.{Message}
+use Rattle.gaspi_model.specs.Parts.{Parts, touched_of, parts_of, part_at, lifted, memory_or_none, worked_memory, with_worked_memory}
 use Rattle.gaspi_model.specs.Transfers.{take, put, Worked, Found, find_entry, entry_in, take_outcome, put_outcome}
 use Rattle.gaspi_model.specs.declared.states.ThreadState.{ThreadState}
 use Rattle.gaspi_model.specs.declared.states.ThreadState.TheVariants.{Absent, Running, Ended}
@@ -39,14 +41,14 @@ is_there Absent = false
 is_there Running = true
 is_there Ended = true
 
--- A call with its reply, on its caller's posts and the memory that it works on: the caller has a section, the reply is the
--- one that may be recorded, and the rank has room.
-abbrev pub called : Limits → ℕ → Posts → Memory → ℕ → Call → Reply → Result Worked Why
-called limits me posts memory thread call reply = do
+-- A call with its reply, on its caller's posts and the memory that it works on, with the message that it brings: the caller
+-- has a section, the reply is the one that may be recorded, and the rank has room.
+abbrev pub called : Limits → ℕ → Posts → Option Message → Memory → ℕ → Call → Reply → Result Worked Why
+called limits me posts brought memory thread call reply = do
   there ← check (is_there (thread_at posts thread)) whys.Caller
   answered ← check (same_reply reply (recorded_reply (answer limits me posts memory thread call))) whys.Reply
   room ← check (nat_le (posts.events + owed posts + charge (thread_at posts thread) call reply) limits.events) whys.Limit
-  Ok (record { posts = posts_after limits me posts thread call reply; memory = memory_after limits posts memory call reply })
+  Ok (record { posts = posts_after limits me posts thread call reply; memory = memory_after limits posts brought memory call reply })
 
 -- the rank that records an event: its caller's, or its origin
 abbrev pub owner_of : Event → ℕ
@@ -76,7 +78,7 @@ missing (Put origin queue target number outcome) = whys.Put
 -- The local step: an event of that reach on the parts that it touches.
 abbrev pub on_parts : Limits → Reach → Event → Parts → Result Parts Why
 on_parts limits reach (Called c call reply) parts = do
-  after ← called limits c.rank parts.posts (worked_memory reach parts) c.thread call reply
+  after ← called limits c.rank parts.posts (brought_by c.rank (memory_or_none parts.memory) call) (worked_memory reach parts) c.thread call reply
   Ok (record (with_worked_memory reach parts after.memory) {
     posts = after.posts;
     peer_posts = option_map (peer_after c.rank parts.posts call reply) parts.peer_posts;
@@ -129,6 +131,10 @@ call_memory s rank posts call = memory_at (reach_of s.limits.ranks rank (row_of 
   where
     memory_at : Reach → Memory
     memory_at reach = worked_memory reach (parts_of s posts (touched_of rank reach))
+
+-- the message that a call of a rank brings in a state: a send takes it from the own memory
+abbrev pub call_brought : State → ℕ → Call → Option Message
+call_brought s rank call = brought_by rank (memory_or_none (part_at s.memories (touched_of rank (reach_of s.limits.ranks rank (row_of call).touch)).memory)) call
 
 -- what a look at a call of a caller answers in a state; of a rank that is not there, nothing
 abbrev pub answer_in : State → ℕ → ℕ → Call → Option Ready

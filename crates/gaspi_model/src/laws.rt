@@ -230,7 +230,7 @@ pub fn locality()
     ensures owner { (s : State) (e : Event) → is_shard (footprint s e) (shards.Posts (owner_of e)) ≡ true }
     ensures footprint { (s s' : State) (e : Event) → s.limits ≡ s'.limits → HaveSamePart s s' (shards.Posts (owner_of e)) → footprint s e ≡ footprint s' e }
     ensures reply { (s : State) (c : CallerId) (call : Call) (reply reply' : Reply) → footprint s (Called c call reply) ≡ footprint s (Called c call reply') }
-    ensures few { (s : State) (e : Event) → length (footprint s e) ≤ 2 }
+    ensures few { (s : State) (e : Event) → length (footprint s e) ≤ 3 }
     ensures posting { (s : State) (c : CallerId) (call : Call) (reply : Reply) (to : Posting) → (row_of call).posting ≡ Some to
         → footprint s (Called c call reply) ≡ shards.Posts c.rank ∷ [] }
     ensures waiting { (s : State) (c : CallerId) (call : wait.Wait) (reply : Reply) → footprint s (Called c (Wait call) reply) ≡ shards.Posts c.rank ∷ [] }

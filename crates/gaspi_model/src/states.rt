@@ -1,6 +1,8 @@
 //! The state of the machine.
 
-use gaspi_types::{Limits, OwnSegments, Queue, RankId, Rows, SegmentTable};
+use gaspi_types::{
+    Group, GroupId, Handles, Limits, Messages, OwnSegments, Pending, Queue, RankId, Rows, SegmentTable,
+};
 
 /// Whether a thread of a rank has a script, and has ended.
 #[derive(Clone, Copy, Debug, PartialEq, Eq)]
@@ -10,7 +12,7 @@ pub enum ThreadState {
     Ended,
 }
 
-/// The posts of a rank: all that is known of it but the bytes and slots of its segments.
+/// The posts of a rank: all that is known of it but the bytes and slots of its segments, and its inbox.
 #[derive(Debug, PartialEq, Eq, Drop)]
 pub struct Posts {
     pub queues: Rows<Queue>,
@@ -18,6 +20,10 @@ pub struct Posts {
     pub corrupt: Rows<bool>,
     /// What it has and knows of segments.
     pub segments: SegmentTable,
+    /// Its groups. (GASPI: groups)
+    pub groups: Handles,
+    /// Its collective that is pending on each group, by the numbers of the groups. (GASPI: collectives, timeouts)
+    pub pending: Rows<Option<Pending>>,
     /// Its threads, by their numbers.
     pub threads: Rows<ThreadState>,
     /// How many events it has recorded.
@@ -26,20 +32,24 @@ pub struct Posts {
     pub next: u32,
 }
 
-/// The memory of a rank: two tables, by the numbers of its segments.
+/// The memory of a rank: two tables, by the numbers of its segments, and its inbox.
 #[derive(Debug, PartialEq, Eq, Drop)]
 pub struct Memory {
     pub segments: OwnSegments,
     /// The notification slots of each segment. (GASPI: notifications)
     pub slots: Rows<Option<Rows<u32>>>,
+    /// The messages that it has not received, the earliest first. (GASPI: passive communication)
+    pub inbox: Messages,
 }
 
-/// The state of the machine: the limits, and the posts and the memory of each rank.
+/// The state of the machine: the limits, the posts and the memory of each rank, and each group.
 #[derive(Debug, PartialEq, Eq, Drop)]
 pub struct State {
     pub limits: Limits,
     pub posts: Rows<Posts>,
     pub memories: Rows<Memory>,
+    /// By their numbers. (GASPI: groups, collectives)
+    pub groups: Rows<Group>,
 }
 
 /// A part of the state that an event reads or changes as a whole. (own choice)
@@ -49,6 +59,8 @@ pub enum Shard {
     Posts(RankId),
     /// The memory of a rank.
     Memory(RankId),
+    /// A group.
+    Group(GroupId),
 }
 
 /// Why an event is no step.

@@ -36,7 +36,7 @@ use Rattle.gaspi_model.specs.NotificationCalls.{waitsome_finds, reset_finds}
 use Rattle.gaspi_model.specs.QueueCalls.{wait_finds}
 use Rattle.gaspi_model.specs.SegmentCalls.{alloc_finds, delete_finds}
 use Rattle.gaspi_types.specs.Queues.{user_of}
-use Rattle.gaspi_model.specs.Step.{step}
+use Rattle.gaspi_model.specs.Step.{step, call_brought}
 use Rattle.gaspi_model.specs.Sound.{IsSound}
 use Rattle.gaspi_model.specs.Changes.{IsOnlyCounted, IsRead, IsReset, IsWaited, IsMade, IsGone, AreSlotsRead}
 use Rattle.gaspi_model.specs.declared.states.Posts.{Posts}
@@ -61,7 +61,7 @@ record IsOwnWorked (s t : State) (c : CallerId) (call : Call) (reply : Reply) (p
   finds : call_finds s.limits c.rank posts memory call ≡ Ok (Some reply)
   leaves : t ≡ record s {
     posts = slice_set s.posts c.rank (posts_after s.limits c.rank posts c.thread call reply);
-    memories = slice_set s.memories c.rank (memory_after s.limits posts memory call reply);
+    memories = slice_set s.memories c.rank (memory_after s.limits posts (call_brought s c.rank call) memory call reply);
   }
 
 own-worked : (s t : State) (c : CallerId) (call : Call) (reply : Reply) → (row_of call).touch ≡ touches.OwnMemory → is_idle reply ≡ false → IsSound s → step s (Called c call reply) ≡ Ok t
@@ -268,7 +268,7 @@ segment-made s t c call sound h =
             next_generations = slice_set made.0.segments.next_generations call.seg (n + 1);
           };
         });
-        memories = slice_set s.memories c.rank (record {
+        memories = slice_set s.memories c.rank (record made.1 {
           segments = slice_set made.1.segments call.seg (Some (record { generation = n; bytes = replicate call.size 0 }));
           slots = slice_set made.1.slots call.seg (Some (replicate s.limits.notes 0));
         });

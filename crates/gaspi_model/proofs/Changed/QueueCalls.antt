@@ -23,7 +23,8 @@ use Rattle.gaspi_model.specs.Changes.{IsPurged, IsSizeAnswered, IsStateAnswered,
 use Rattle.gaspi_model.specs.Posting.{counted}
 use Rattle.gaspi_model.specs.QueueCalls.{purge_finds, qsize_finds, emptied, without_entries}
 use Rattle.gaspi_model.specs.Sound.{IsSound}
-use Rattle.gaspi_model.specs.Step.{step}
+use Rattle.gaspi_model.specs.Step.{step, call_brought}
+use Rattle.gaspi_types.specs.declared.inboxes.Message.{Message}
 use Rattle.gaspi_model.specs.Transfers.{Worked}
 use Rattle.gaspi_model.specs.declared.states.Posts.{Posts}
 use Rattle.gaspi_model.specs.declared.states.Memory.{Memory}
@@ -45,7 +46,7 @@ record IsPostsWorked (s t : State) (c : CallerId) (call : Call) (reply : Reply) 
   leaves : t ≡ record s { posts = slice_set s.posts c.rank (posts_after s.limits c.rank posts c.thread call reply) }
 
 posts-worked : (s t : State) (c : CallerId) (call : Call) (reply : Reply) → (row_of call).touch ≡ touches.Nothing → is_idle reply ≡ false
-    → ((posts : Posts) (memory : Memory) → memory_done s.limits posts memory call ≡ memory) → IsSound s → step s (Called c call reply) ≡ Ok t
+    → ((posts : Posts) (brought : Option Message) (memory : Memory) → memory_done s.limits posts brought memory call ≡ memory) → IsSound s → step s (Called c call reply) ≡ Ok t
     → (posts : Posts) × (memory : Memory) × IsPostsWorked s t c call reply posts memory
 posts-worked s t c call reply alone awake unmoved sound h =
     let made = sound-called s t c call reply sound h in
@@ -53,7 +54,7 @@ posts-worked s t c call reply alone awake unmoved sound h =
     let place = memory_rank s.limits c.rank call in
     let same : told s.limits.ranks c.rank made.0 call reply (slice_set s.posts c.rank made.2.posts) ≡ slice_set s.posts c.rank made.2.posts =
     ap (λ (touch : Touch). told_at (reach_of s.limits.ranks c.rank touch) c.rank made.0 call reply (slice_set s.posts c.rank made.2.posts)) alone in
-    let left : memory_after s.limits made.0 made.1 call reply ≡ made.1 = rw awake (unmoved made.0 made.1) in
+    let left : memory_after s.limits made.0 (call_brought s c.rank call) made.1 call reply ≡ made.1 = rw awake (unmoved made.0 (call_brought s c.rank call) made.1) in
     let kept : made.2.memory ≡ made.1 = ap (λ (w : Worked). w.memory) m.is.leaves ∙ left in
     let memories : slice_set s.memories place made.2.memory ≡ s.memories = ap (slice_set s.memories place) kept ∙ set-there s.memories place made.1 m.memory_there in (
       made.0,
@@ -73,7 +74,7 @@ purge-found posts call h = found_then (slice_get posts.queues call.queue) _ _ (S
 
 pub purge-done : (s t : State) (c : CallerId) (call : purge.Purge) → IsSound s → step s (Called c (calls.Purge call) replies.Done) ≡ Ok t → IsPurged s t c.rank call.queue
 purge-done s t c call sound h =
-    let made = posts-worked s t c (calls.Purge call) replies.Done refl refl (λ posts memory. refl) sound h in
+    let made = posts-worked s t c (calls.Purge call) replies.Done refl refl (λ posts brought memory. refl) sound h in
     let m = made.2 in
     let found = purge-found made.0 call m.finds in
     record {
@@ -98,7 +99,7 @@ qsize-found posts call value h =
 pub sized : (s t : State) (c : CallerId) (call : qsize.Qsize) (value : ℕ) → IsSound s → step s (Called c (calls.Qsize call) (replies.Value value)) ≡ Ok t
     → IsSizeAnswered s t c.rank call.queue value
 sized s t c call value sound h =
-    let made = posts-worked s t c (calls.Qsize call) (replies.Value value) refl refl (λ posts memory. refl) sound h in
+    let made = posts-worked s t c (calls.Qsize call) (replies.Value value) refl refl (λ posts brought memory. refl) sound h in
     let m = made.2 in
     let found = qsize-found made.0 call value m.finds in
     record {
@@ -115,7 +116,7 @@ same-mask a b h = cc
 
 pub state-answered : (s t : State) (c : CallerId) (mask : ℕ) → IsSound s → step s (Called c calls.State (replies.Mask mask)) ≡ Ok t → IsStateAnswered s t c.rank mask
 state-answered s t c mask sound h =
-    let made = posts-worked s t c calls.State (replies.Mask mask) refl refl (λ posts memory. refl) sound h in
+    let made = posts-worked s t c calls.State (replies.Mask mask) refl refl (λ posts brought memory. refl) sound h in
     let m = made.2 in
     let is : mask ≡ mask_of made.0.corrupt = same-mask (mask_of made.0.corrupt) mask (same_Ok _ _ m.finds) in (
       (λ rank. ap (λ (n : ℕ). bit_at n rank) is ∙ mask-bit made.0.corrupt rank ∙ marks made.0 m.posts_there rank),

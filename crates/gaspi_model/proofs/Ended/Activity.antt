@@ -32,10 +32,10 @@ use Rattle.gaspi_model.proofs.Made.{IsTake, IsPut, memories_at, call_reach, put_
 -- of a state with the posts of a rank replaced
 pub active-changed : (s : State) (table : List Posts) (o : ℕ) (posts after : Posts) → slice_get s.posts o ≡ Some posts → (memories : List Memory) (rank thread : ℕ)
     → ((o == rank) ≡ true → thread_at after thread ≡ thread_at posts thread)
-    → is_active (record { limits = s.limits; posts = slice_set s.posts o after; memories = memories }) rank thread ≡ is_active s rank thread
+    → is_active (record s { posts = slice_set s.posts o after; memories = memories }) rank thread ≡ is_active s rank thread
 active-changed s table o posts after at memories rank thread same = go (o == rank) refl
   where
-    go : (b : Bool) → (o == rank) ≡ b → is_active (record { limits = s.limits; posts = slice_set s.posts o after; memories = memories }) rank thread ≡ is_active s rank thread
+    go : (b : Bool) → (o == rank) ≡ b → is_active (record s { posts = slice_set s.posts o after; memories = memories }) rank thread ≡ is_active s rank thread
     go true is =
         let here : o ≡ rank = eqb-true o rank is in
         let before = subst (λ (n : ℕ). slice_get s.posts n ≡ Some posts) here at in
@@ -45,11 +45,11 @@ active-changed s table o posts after at memories rank thread same = go (o == ran
 
 -- of a state with a segment told to a rank
 active-told : (s : State) (ranks me : ℕ) (p : Posts) (call : Call) (reply : Reply) (all : List Posts) (memories : List Memory) (rank thread : ℕ)
-    → is_active (record { limits = s.limits; posts = told ranks me p call reply all; memories = memories }) rank thread ≡ is_active (record { limits = s.limits; posts = all; memories = memories }) rank thread
+    → is_active (record s { posts = told ranks me p call reply all; memories = memories }) rank thread ≡ is_active (record s { posts = all; memories = memories }) rank thread
 active-told s ranks me p call reply all memories rank thread = go (told-get ranks me p call reply all rank)
   where
     go : IsTold all (told ranks me p call reply all) rank
-        → is_active (record { limits = s.limits; posts = told ranks me p call reply all; memories = memories }) rank thread ≡ is_active (record { limits = s.limits; posts = all; memories = memories }) rank thread
+        → is_active (record s { posts = told ranks me p call reply all; memories = memories }) rank thread ≡ is_active (record s { posts = all; memories = memories }) rank thread
     go (inl same) = rw same refl
     go (inr (x, known, before, now)) = rw (before, now) refl
 

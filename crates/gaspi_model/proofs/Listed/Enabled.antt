@@ -34,7 +34,8 @@ use Rattle.gaspi_types.specs.Touches.{reach_of}
 use Rattle.gaspi_types.specs.declared.touches.Reach.{Reach}
 use Rattle.std.specs.Option.{option_map}
 use Rattle.gaspi_model.specs.Transfers.{find_entry, entry_in, take, put, Worked, outcome_at, take_outcome, put_outcome, same_outcome, transfer_of, lane_transfers, queue_transfers, rank_transfers, transfers}
-use Rattle.gaspi_model.specs.Step.{step, called, is_there, call_memory, event_reach, answer_in, is_active, room_taken, transfer_event}
+use Rattle.gaspi_types.specs.declared.inboxes.Message.{Message}
+use Rattle.gaspi_model.specs.Step.{call_brought, step, called, is_there, call_memory, event_reach, answer_in, is_active, room_taken, transfer_event}
 use Rattle.gaspi_model.specs.Sound.{IsSound}
 use Rattle.gaspi_types.specs.declared.entries.Queue.{Queue}
 use Rattle.gaspi_model.specs.declared.states.ThreadState.{ThreadState}
@@ -98,10 +99,10 @@ charge-need t call reply running = go (is_end call) refl
     go false goes = rw goes (done-charge (entries_of call) (is_done reply))
 
 -- a call of a running thread with the reply that may be recorded, where there is room for it
-called-enabled : (limits : Limits) (me : ℕ) (posts : Posts) (memory : Memory) (thread : ℕ) (call : Call) → is_running (thread_at posts thread) ≡ true
+called-enabled : (limits : Limits) (me : ℕ) (posts : Posts) (brought : Option Message) (memory : Memory) (thread : ℕ) (call : Call) → is_running (thread_at posts thread) ≡ true
     → posts.events + owed posts + need_of call false false ≤ limits.events
-    → IsOk (called limits me posts memory thread call (recorded_reply (answer limits me posts memory thread call)))
-called-enabled limits me posts memory thread call running room =
+    → IsOk (called limits me posts brought memory thread call (recorded_reply (answer limits me posts memory thread call)))
+called-enabled limits me posts brought memory thread call running room =
     let reply = recorded_reply (answer limits me posts memory thread call) in
     let there = running-there (thread_at posts thread) running in
     let same = same_reply-refl reply in
@@ -138,9 +139,9 @@ called-step s rank thread call posts hp running room =
     let reach = reach_of s.limits.ranks rank (row_of call).touch in
     let parts = parts_of s posts (touched_of rank reach) in
     let leave = λ (after : Worked). (let left : Parts = record (with_worked_memory reach parts after.memory) { posts = after.posts; peer_posts = option_map (peer_after rank posts call reply) parts.peer_posts } in left) in
-    let recorded = called-enabled s.limits rank posts memory thread call running room in
-    rw hp (ok-then (called s.limits rank posts memory thread call reply >>= λ after. Ok (leave after)) (with_parts s rank (touched_of rank reach))
-    (ok-then (called s.limits rank posts memory thread call reply) leave recorded))
+    let recorded = called-enabled s.limits rank posts (call_brought s rank call) memory thread call running room in
+    rw hp (ok-then (called s.limits rank posts (call_brought s rank call) memory thread call reply >>= λ after. Ok (leave after)) (with_parts s rank (touched_of rank reach))
+    (ok-then (called s.limits rank posts (call_brought s rank call) memory thread call reply) leave recorded))
 
 pub called-is_step : (s : State) (rank thread : ℕ) (call : Call) (ready : Ready) → IsSound s → is_active s rank thread ≡ true
     → room_taken s rank + need_of call false false ≤ s.limits.events → answer_in s rank thread call ≡ Some ready

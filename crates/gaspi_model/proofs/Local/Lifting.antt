@@ -3,7 +3,7 @@ use Rattle.std.proofs.Common.{◌≡◌, ℕ, zero, suc, Bool, true, false, ◌=
 use Rattle.std.specs.List.{slice_get, slice_set}
 use Rattle.std.proofs.lemmas.Bool.{eq-eqb, eqb-true, eqb-false}
 use Rattle.gaspi_types.specs.declared.touches.Reach.{Reach}
-use Rattle.gaspi_types.specs.declared.touches.Reach.TheVariants.{Alone, OwnMemory, PeerMemory, PeerPosts}
+use Rattle.gaspi_types.specs.declared.touches.Reach.TheVariants.{Alone, OwnMemory, PeerMemory, BothMemories, PeerPosts}
 use Rattle.gaspi_model.specs.Parts.{Parts, touched_of, with_part, parts_of, with_parts, lifted}
 use Rattle.gaspi_model.specs.Shards.{reach_shards, is_shard, same_shard, HaveSamePart, AgreeOn, ComeToSame}
 use Rattle.gaspi_model.specs.declared.states.Posts.{Posts}
@@ -23,6 +23,7 @@ neither true b h = absurd (let no : ⊥ = cc in no)
 pub same-shard : (a : Shard) → same_shard a a ≡ true
 same-shard (shards.Posts n) = eq-eqb n n refl
 same-shard (shards.Memory n) = eq-eqb n n refl
+same-shard (shards.Group n) = eq-eqb n n refl
 
 pub first-is-shard : (a : Shard) (rest : List Shard) → is_shard (a ∷ rest) a ≡ true
 first-is-shard a rest = rw (same-shard a) refl
@@ -38,6 +39,7 @@ pub owner-is-shard : (me : ℕ) (reach : Reach) → is_shard (reach_shards me re
 owner-is-shard me Alone = first-is-shard (shards.Posts me) []
 owner-is-shard me OwnMemory = first-is-shard (shards.Posts me) (shards.Memory me ∷ [])
 owner-is-shard me (PeerMemory rank) = first-is-shard (shards.Posts me) (shards.Memory rank ∷ [])
+owner-is-shard me (BothMemories rank) = first-is-shard (shards.Posts me) (shards.Memory me ∷ shards.Memory rank ∷ [])
 owner-is-shard me (PeerPosts rank) = first-is-shard (shards.Posts me) (shards.Posts rank ∷ [])
 
 -- Frame.
@@ -57,11 +59,17 @@ frame-parts s me OwnMemory parts (shards.Posts k) out = slice_get-set_other s.po
 frame-parts s me OwnMemory parts (shards.Memory k) out = part-elsewhere s.memories me k parts.memory (neither (me == k) false out).0
 frame-parts s me (PeerMemory rank) parts (shards.Posts k) out = slice_get-set_other s.posts me k parts.posts (apart me k (neither (me == k) false out).0)
 frame-parts s me (PeerMemory rank) parts (shards.Memory k) out = part-elsewhere s.memories rank k parts.peer_memory (neither (rank == k) false out).0
+frame-parts s me (BothMemories rank) parts (shards.Posts k) out = slice_get-set_other s.posts me k parts.posts (apart me k (neither (me == k) false out).0)
+frame-parts s me (BothMemories rank) parts (shards.Memory k) out =
+    let first = neither (me == k) ((rank == k) || false) out in
+    part-elsewhere (with_part s.memories (Some me) parts.memory) rank k parts.peer_memory (neither (rank == k) false first.1).0
+    ∙ part-elsewhere s.memories me k parts.memory first.0
 frame-parts s me (PeerPosts rank) parts (shards.Posts k) out =
     let first = neither (me == k) ((rank == k) || false) out in
     part-elsewhere (slice_set s.posts me parts.posts) rank k parts.peer_posts (neither (rank == k) false first.1).0
     ∙ slice_get-set_other s.posts me k parts.posts (apart me k first.0)
 frame-parts s me (PeerPosts rank) parts (shards.Memory k) out = refl
+frame-parts s me reach parts (shards.Group k) out = refl
 
 pub lifted-frame : (s t : State) (me : ℕ) (missing : Why) (reach : Posts → Reach) (local : Parts → Result Parts Why) (posts : Posts) (shard : Shard)
     → lifted s me missing (λ x. touched_of me (reach x)) local ≡ Ok t → slice_get s.posts me ≡ Some posts → is_shard (reach_shards me (reach posts)) shard ≡ false → HaveSamePart t s shard
@@ -107,6 +115,11 @@ same-parts s s' me OwnMemory posts agree =
 same-parts s s' me (PeerMemory rank) posts agree =
     ap (λ (m : Option Memory). let x : Parts = record { posts = posts; memory = None; peer_posts = None; peer_memory = m } in x)
     (agree.parts (shards.Memory rank) (second-is-shard (shards.Posts me) (shards.Memory rank)))
+same-parts s s' me (BothMemories rank) posts agree =
+    ap (λ (m : Option Memory). let x : Parts = record { posts = posts; memory = m; peer_posts = None; peer_memory = slice_get s.memories rank } in x)
+    (agree.parts (shards.Memory me) (first-is-shard (shards.Memory me) (shards.Memory rank ∷ [])))
+    ∙ ap (λ (m : Option Memory). let x : Parts = record { posts = posts; memory = slice_get s'.memories me; peer_posts = None; peer_memory = m } in x)
+    (agree.parts (shards.Memory rank) (second-is-shard (shards.Memory me) (shards.Memory rank)))
 same-parts s s' me (PeerPosts rank) posts agree =
     ap (λ (p : Option Posts). let x : Parts = record { posts = posts; memory = None; peer_posts = p; peer_memory = None } in x)
     (agree.parts (shards.Posts rank) (second-is-shard (shards.Posts me) (shards.Posts rank)))
@@ -122,12 +135,19 @@ same-after s s' me OwnMemory parts agree (shards.Memory k) here =
 same-after s s' me (PeerMemory rank) parts agree (shards.Posts k) here = set-agree s.posts s'.posts me k parts.posts (agree.parts (shards.Posts me) (owner-is-shard me (PeerMemory rank))) here
 same-after s s' me (PeerMemory rank) parts agree (shards.Memory k) here =
     part-agree s.memories s'.memories rank k parts.peer_memory (agree.parts (shards.Memory rank) (second-is-shard (shards.Posts me) (shards.Memory rank))) here
+same-after s s' me (BothMemories rank) parts agree (shards.Posts k) here = set-agree s.posts s'.posts me k parts.posts (agree.parts (shards.Posts me) (owner-is-shard me (BothMemories rank))) here
+same-after s s' me (BothMemories rank) parts agree (shards.Memory k) here =
+    let mine = agree.parts (shards.Memory me) (first-is-shard (shards.Memory me) (shards.Memory rank ∷ [])) in
+    let theirs = agree.parts (shards.Memory rank) (second-is-shard (shards.Memory me) (shards.Memory rank)) in
+    part-agree (with_part s.memories (Some me) parts.memory) (with_part s'.memories (Some me) parts.memory) rank k parts.peer_memory
+    (part-agree s.memories s'.memories me rank parts.memory mine theirs) (part-agree s.memories s'.memories me k parts.memory mine here)
 same-after s s' me (PeerPosts rank) parts agree (shards.Posts k) here =
     let mine = agree.parts (shards.Posts me) (owner-is-shard me (PeerPosts rank)) in
     let theirs = agree.parts (shards.Posts rank) (second-is-shard (shards.Posts me) (shards.Posts rank)) in
     part-agree (slice_set s.posts me parts.posts) (slice_set s'.posts me parts.posts) rank k parts.peer_posts
     (set-agree s.posts s'.posts me rank parts.posts mine theirs) (set-agree s.posts s'.posts me k parts.posts mine here)
 same-after s s' me (PeerPosts rank) parts agree (shards.Memory k) here = here
+same-after s s' me reach parts agree (shards.Group k) here = here
 
 pub lifted-determined : (s s' : State) (me : ℕ) (missing : Why) (reach : Posts → Reach) (local : Parts → Result Parts Why) → s.limits ≡ s'.limits
     → slice_get s.posts me ≡ slice_get s'.posts me

@@ -20,7 +20,7 @@ use Rattle.gaspi_types.specs.declared.events.Event.TheVariants.{Called}
 use Rattle.gaspi_types.specs.declared.touches.Touch.{Touch}
 use Rattle.gaspi_types.specs.declared.touches.Touch.TheVariants as touches
 use Rattle.gaspi_types.specs.declared.touches.Reach.{Reach}
-use Rattle.gaspi_types.specs.declared.touches.Reach.TheVariants.{Alone, OwnMemory, PeerMemory, PeerPosts}
+use Rattle.gaspi_types.specs.declared.touches.Reach.TheVariants.{Alone, OwnMemory, PeerMemory, BothMemories, PeerPosts}
 use Rattle.gaspi_model.specs.Parts.{touched_of, lifted}
 use Rattle.gaspi_model.specs.Step.{step, owner_of, event_touch, event_reach, local_step, missing}
 use Rattle.gaspi_model.specs.Shards.{footprint, reach_shards, is_shard, same_shard, HaveSamePart, AgreeOn, ComeToSame, numbers_of, is_among, without_repeats}
@@ -30,7 +30,7 @@ use Rattle.gaspi_model.specs.declared.states.Shard.{Shard}
 use Rattle.gaspi_model.specs.declared.states.Shard.TheVariants as shards
 use Rattle.gaspi_types.proofs.Chains.{found_then}
 use Rattle.gaspi_model.proofs.Local.Lifting.{first-is-shard, owner-is-shard, lifted-frame, lifted-determined}
-use Rattle.gaspi_model.proofs.Sound.Told.{peer-touched}
+use Rattle.gaspi_model.proofs.Sound.Told.{peer-touched, both-touched}
 
 pub frame : (s t : State) (e : Event) (shard : Shard) → step s e ≡ Ok t → is_shard (footprint s e) shard ≡ false → HaveSamePart t s shard
 frame s t e shard h out =
@@ -73,34 +73,45 @@ either : {P : Type 0} (b : Bool) → (b ≡ true → P) → (b ≡ false → P) 
 either true same other = same refl
 either false same other = other refl
 
-reach-once : (me : ℕ) (reach : Reach) → ((rank : ℕ) → reach ≡ PeerPosts rank → (rank == me) ≡ false) → (shard : Shard) → count_by (λ x. same_shard x shard) (reach_shards me reach) ≤ 1
-reach-once me Alone other (shards.Posts k) = either (me == k) (λ is. rw is (omega arith)) (λ is. rw is (omega arith))
-reach-once me Alone other (shards.Memory k) = omega arith
-reach-once me OwnMemory other (shards.Posts k) = either (me == k) (λ is. rw is (omega arith)) (λ is. rw is (omega arith))
-reach-once me OwnMemory other (shards.Memory k) = either (me == k) (λ is. rw is (omega arith)) (λ is. rw is (omega arith))
-reach-once me (PeerMemory rank) other (shards.Posts k) = either (me == k) (λ is. rw is (omega arith)) (λ is. rw is (omega arith))
-reach-once me (PeerMemory rank) other (shards.Memory k) = either (rank == k) (λ is. rw is (omega arith)) (λ is. rw is (omega arith))
-reach-once me (PeerPosts rank) other (shards.Posts k) = let two = once-of-two me rank k (other rank refl) in omega arith
-reach-once me (PeerPosts rank) other (shards.Memory k) = omega arith
+reach-once : (me : ℕ) (reach : Reach) → ((rank : ℕ) → reach ≡ PeerPosts rank → (rank == me) ≡ false) → ((rank : ℕ) → reach ≡ BothMemories rank → (rank == me) ≡ false)
+    → (shard : Shard) → count_by (λ x. same_shard x shard) (reach_shards me reach) ≤ 1
+reach-once me Alone other both (shards.Posts k) = either (me == k) (λ is. rw is (omega arith)) (λ is. rw is (omega arith))
+reach-once me Alone other both (shards.Memory k) = omega arith
+reach-once me OwnMemory other both (shards.Posts k) = either (me == k) (λ is. rw is (omega arith)) (λ is. rw is (omega arith))
+reach-once me OwnMemory other both (shards.Memory k) = either (me == k) (λ is. rw is (omega arith)) (λ is. rw is (omega arith))
+reach-once me (PeerMemory rank) other both (shards.Posts k) = either (me == k) (λ is. rw is (omega arith)) (λ is. rw is (omega arith))
+reach-once me (PeerMemory rank) other both (shards.Memory k) = either (rank == k) (λ is. rw is (omega arith)) (λ is. rw is (omega arith))
+reach-once me (BothMemories rank) other both (shards.Posts k) = either (me == k) (λ is. rw is (omega arith)) (λ is. rw is (omega arith))
+reach-once me (BothMemories rank) other both (shards.Memory k) = let two = once-of-two me rank k (both rank refl) in omega arith
+reach-once me (PeerPosts rank) other both (shards.Posts k) = let two = once-of-two me rank k (other rank refl) in omega arith
+reach-once me (PeerPosts rank) other both (shards.Memory k) = omega arith
+reach-once me Alone other both (shards.Group k) = omega arith
+reach-once me OwnMemory other both (shards.Group k) = omega arith
+reach-once me (PeerMemory rank) other both (shards.Group k) = omega arith
+reach-once me (BothMemories rank) other both (shards.Group k) = omega arith
+reach-once me (PeerPosts rank) other both (shards.Group k) = omega arith
 
 pub once : (s : State) (e : Event) (shard : Shard) → count_by (λ x. same_shard x shard) (footprint s e) ≤ 1
 once s e shard = go (slice_get s.posts (owner_of e)) refl
   where
     go : (o : Option Posts) → slice_get s.posts (owner_of e) ≡ o → count_by (λ x. same_shard x shard) (footprint s e) ≤ 1
-    go None at = rw at (reach-once (owner_of e) Alone (λ rank is. (let no : ⊥ = cc in absurd no)) shard)
-    go (Some posts) at = rw at (reach-once (owner_of e) (event_reach s.limits posts e) (λ rank is. (peer-touched s.limits.ranks (owner_of e) rank (event_touch posts e) is).1) shard)
+    go None at = rw at (reach-once (owner_of e) Alone (λ rank is. (let no : ⊥ = cc in absurd no)) (λ rank is. (let no : ⊥ = cc in absurd no)) shard)
+    go (Some posts) at =
+        rw at (reach-once (owner_of e) (event_reach s.limits posts e) (λ rank is. (peer-touched s.limits.ranks (owner_of e) rank (event_touch posts e) is).1)
+        (λ rank is. (both-touched s.limits.ranks (owner_of e) rank (event_touch posts e) is).1) shard)
 
--- an event has at most one shard beside its owner's posts
-reach-few : (me : ℕ) (r : Reach) → length (reach_shards me r) ≤ 2
+-- an event has at most two shards beside its owner's posts
+reach-few : (me : ℕ) (r : Reach) → length (reach_shards me r) ≤ 3
 reach-few me Alone = omega arith
 reach-few me OwnMemory = omega arith
 reach-few me (PeerMemory rank) = omega arith
+reach-few me (BothMemories rank) = omega arith
 reach-few me (PeerPosts rank) = omega arith
 
-pub few : (s : State) (e : Event) → length (footprint s e) ≤ 2
+pub few : (s : State) (e : Event) → length (footprint s e) ≤ 3
 few s e = go (slice_get s.posts (owner_of e)) refl
   where
-    go : (o : Option Posts) → slice_get s.posts (owner_of e) ≡ o → length (footprint s e) ≤ 2
+    go : (o : Option Posts) → slice_get s.posts (owner_of e) ≡ o → length (footprint s e) ≤ 3
     go None at = rw at (omega arith)
     go (Some posts) at = rw at (reach-few (owner_of e) (event_reach s.limits posts e))
 
@@ -146,6 +157,11 @@ same-shards (shards.Posts m) (shards.Posts n) h = ap shards.Posts (eqb-true m n 
 same-shards (shards.Posts m) (shards.Memory n) h = absurd (let no : ⊥ = cc in no)
 same-shards (shards.Memory m) (shards.Posts n) h = absurd (let no : ⊥ = cc in no)
 same-shards (shards.Memory m) (shards.Memory n) h = ap shards.Memory (eqb-true m n h)
+same-shards (shards.Group m) (shards.Group n) h = ap shards.Group (eqb-true m n h)
+same-shards (shards.Posts m) (shards.Group n) h = absurd (let no : ⊥ = cc in no)
+same-shards (shards.Memory m) (shards.Group n) h = absurd (let no : ⊥ = cc in no)
+same-shards (shards.Group m) (shards.Posts n) h = absurd (let no : ⊥ = cc in no)
+same-shards (shards.Group m) (shards.Memory n) h = absurd (let no : ⊥ = cc in no)
 
 -- what is a shard of a list has its number among theirs
 pub numbered-among : (number : Shard → ℕ) (list : List Shard) (shard : Shard) → is_shard list shard ≡ true → is_among (map number list) (number shard) ≡ true

@@ -38,6 +38,7 @@ use Rattle.gaspi_model.specs.Shards.{standing}
 use Rattle.gaspi_types.specs.declared.entries.Queue.{Queue}
 use Rattle.gaspi_model.specs.declared.states.Posts.{Posts}
 use Rattle.gaspi_model.specs.declared.states.Memory.{Memory}
+use Rattle.gaspi_types.specs.declared.groups.Group.{Group}
 use Rattle.gaspi_model.specs.declared.states.State.{State}
 use Rattle.gaspi_model.specs.declared.states.Why.{Why}
 use Rattle.gaspi_model.specs.declared.states.Why.TheVariants as whys
@@ -244,8 +245,8 @@ posts-replaced s rank posts posts' origin queue target m at t is keeps h = same-
     (λ apart. record { posts = h.posts; posts_there = rw is (slice_get-set_other s.posts rank origin posts' apart ∙ h.posts_there); in_queues = h.in_queues })
 
 -- a segment told to a rank leaves what stands in lanes
-told-stands : {K : Kind → Bool} (t : State) (ranks me : ℕ) (p : Posts) (call : Call) (reply : Reply) (all : List Posts) (origin queue target m : ℕ) → t.posts ≡ told ranks me p call reply all → {limits : Limits} {memories : List Memory}
-    → Stands K (record { limits = limits; posts = all; memories = memories }) origin queue target m → Stands K t origin queue target m
+told-stands : {K : Kind → Bool} (t : State) (ranks me : ℕ) (p : Posts) (call : Call) (reply : Reply) (all : List Posts) (origin queue target m : ℕ) → t.posts ≡ told ranks me p call reply all → {limits : Limits} {memories : List Memory} {groups : List Group}
+    → Stands K (record { limits = limits; posts = all; memories = memories; groups = groups }) origin queue target m → Stands K t origin queue target m
 told-stands {K} t ranks me p call reply all origin queue target m is h = go (told-get ranks me p call reply all origin)
   where
     go : IsTold all (told ranks me p call reply all) origin → Stands K t origin queue target m

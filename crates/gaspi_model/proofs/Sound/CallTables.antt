@@ -14,7 +14,7 @@ use Rattle.gaspi_types.specs.declared.segments.Extent.{Extent}
 use Rattle.gaspi_types.specs.declared.entries.Kind.{Kind}
 use Rattle.gaspi_types.specs.declared.shapes.Limits.{Limits}
 use Rattle.gaspi_types.specs.declared.calls.Call.{Call}
-use Rattle.gaspi_types.specs.declared.calls.Call.TheVariants.{Alloc, Delete, Store, Wait, Purge, Reset, FetchAdd, CompareSwap, End}
+use Rattle.gaspi_types.specs.declared.calls.Call.TheVariants.{Alloc, Delete, Store, Wait, Purge, Reset, PassiveSend, PassiveReceive, FetchAdd, CompareSwap, GroupCreate, GroupAdd, GroupDelete, End}
 use Rattle.gaspi_types.specs.declared.calls.segments.Alloc as alloc
 use Rattle.gaspi_types.specs.declared.calls.segments.Delete as delete
 use Rattle.gaspi_types.specs.CallRows.{row_of}
@@ -28,6 +28,9 @@ use Rattle.gaspi_model.specs.Memories.{bytes_of}
 use Rattle.gaspi_model.specs.Posting.{with_post, counted}
 use Rattle.gaspi_model.specs.SegmentCalls.{alloc_finds, delete_finds, with_known}
 use Rattle.gaspi_types.specs.Queues.{user_of}
+use Rattle.gaspi_types.specs.Groups.{with_group, with_added, without_group}
+use Rattle.gaspi_types.specs.declared.groups.Handles.{Handles}
+use Rattle.gaspi_types.specs.declared.inboxes.Message.{Message}
 use Rattle.gaspi_model.specs.QueueCalls.{emptied}
 use Rattle.gaspi_model.specs.Calls.{posts_done, plain_done, posts_after, memory_done, memory_after, call_finds, plain_finds, call_asks, answer, recorded_reply}
 use Rattle.gaspi_model.specs.Coherence.{counts_of, HasSlots, Tables, tables_of, AreMade, AllFit, Knows}
@@ -36,7 +39,7 @@ use Rattle.gaspi_model.specs.declared.states.Posts.{Posts}
 use Rattle.gaspi_types.specs.declared.segments.Segment.{Segment}
 use Rattle.gaspi_model.specs.declared.states.Memory.{Memory}
 use Rattle.gaspi_types.proofs.Chains.{bind_then, check_then, found_then, absent_then}
-use Rattle.gaspi_model.proofs.Sound.Layouts.{HaveSameLayout, same-layout, bytes-layout, slots-layout, replaced-layout}
+use Rattle.gaspi_model.proofs.Sound.Layouts.{HaveSameLayout, same-layout, bytes-layout, slots-layout, replaced-layout, send-layout, receive-layout}
 use Rattle.gaspi_types.proofs.Written.{with_range-length, with_swap-length, set-extents}
 use Rattle.gaspi_model.proofs.Sound.Told.{changed_at-get, told, told-cases}
 use Rattle.gaspi_model.proofs.Worked.{memory_rank}
@@ -133,6 +136,16 @@ post-fits notes tables me posts queue rank (Ok kinds) may fit all = record {
   owns = λ queue q hq target lane hl place e he owns. owns;
 }
 
+-- the groups are no matter of the entries
+regrouped-fits : (notes : ℕ) (tables : List Tables) (me : ℕ) (posts : Posts) (groups : Handles) → MayPost tables me (tables_of posts) posts.segments.known → AllFit notes tables me posts.queues
+    → KeepsFit notes tables me posts (record posts { groups = groups })
+regrouped-fits notes tables me posts groups may all = record {
+  succeeds = succeeds-itself (tables_of posts);
+  known = may.knows;
+  entries = all;
+  owns = λ queue q hq target lane hl place e he owns. owns;
+}
+
 plain-fits : (limits : Limits) (tables : List Tables) (me : ℕ) (posts : Posts) (memory : Memory) (thread : ℕ) (call : Call) (reply : Reply) → MayPost tables me (tables_of posts) posts.segments.known
     → length posts.segments.next_generations ≡ 32 → AllFit limits.notes tables me posts.queues → plain_finds limits me posts memory call ≡ Ok (Some reply)
     → KeepsFit limits.notes tables me posts (plain_done posts thread call)
@@ -160,6 +173,9 @@ plain-fits limits tables me posts memory thread (Wait call) reply may many all f
     (fits-queue limits.notes tables me posts.queues call.queue (λ (q : Queue). record q { open_count = 0 }) (λ q. refl) all)
 plain-fits limits tables me posts memory thread (Purge call) reply may many all finds =
     fits-requeued limits.notes tables me posts (changed_at posts.queues call.queue emptied) may.knows (fits-emptied limits.notes tables me posts.queues call.queue all)
+plain-fits limits tables me posts memory thread GroupCreate reply may many all finds = regrouped-fits limits.notes tables me posts (with_group posts.groups) may all
+plain-fits limits tables me posts memory thread (GroupAdd call) reply may many all finds = regrouped-fits limits.notes tables me posts (with_added posts.groups call.group call.rank) may all
+plain-fits limits tables me posts memory thread (GroupDelete call) reply may many all finds = regrouped-fits limits.notes tables me posts (without_group posts.groups call.group) may all
 plain-fits limits tables me posts memory thread End reply may many all finds = record {
   succeeds = succeeds-itself (tables_of posts);
   known = may.knows;
@@ -207,7 +223,7 @@ with_post-own posts queue target (Err refusal) = refl
 
 -- a segment set in a memory, with its slots
 set-slots : (notes : ℕ) (memory : Memory) (seg : ℕ) (o : Option Segment) (slots : Option (List ℕ)) → option_map length slots ≡ option_map (λ (x : Extent). notes) (option_map extent_of o)
-    → HasSlots notes memory → HasSlots notes (record { segments = slice_set memory.segments seg o; slots = slice_set memory.slots seg slots })
+    → HasSlots notes memory → HasSlots notes (record memory { segments = slice_set memory.segments seg o; slots = slice_set memory.slots seg slots })
 set-slots notes memory seg o slots fresh all =
     let count = option_map (λ (x : Extent). notes) in
     map-set (option_map length) memory.slots seg slots
@@ -216,9 +232,9 @@ set-slots notes memory seg o slots fresh all =
     ∙ sym (map-set count (extents_of memory.segments) seg (option_map extent_of o))
     ∙ ap (counts_of notes) (sym (map-set (option_map extent_of) memory.segments seg o))
 
-plain-tables : (limits : Limits) (me : ℕ) (posts : Posts) (memory : Memory) (thread : ℕ) (call : Call)
-    → KeepsTables limits.notes me (memory_rank limits me call) posts (plain_done posts thread call) memory (memory_done limits posts memory call)
-plain-tables limits me posts memory thread (Alloc call) =
+plain-tables : (limits : Limits) (me : ℕ) (posts : Posts) (brought : Option Message) (memory : Memory) (thread : ℕ) (call : Call)
+    → KeepsTables limits.notes me (memory_rank limits me call) posts (plain_done posts thread call) memory (memory_done limits posts brought memory call)
+plain-tables limits me posts brought memory thread (Alloc call) =
     let generation = next_generation posts.segments.next_generations call.seg in
     let new = new_segment generation call.size in
     let extent : ◌≡◌ {A = Extent} (extent_of new) (record { generation = generation; size = call.size }) = (let many = length-replicate {A = ℕ} call.size 0 in rw many refl) in
@@ -228,40 +244,44 @@ plain-tables limits me posts memory thread (Alloc call) =
           ap (λ (e : Extent). slice_set posts.segments.own call.seg (Some e)) (sym extent) ∙ set-extents memory.segments call.seg (Some new) posts.segments.own agrees),
       set-slots limits.notes memory call.seg (Some new) (Some (new_slots limits.notes)) (ap (λ (n : ℕ). Some n) (length-replicate limits.notes 0)),
     )
-plain-tables limits me posts memory thread (Delete call) =
+plain-tables limits me posts brought memory thread (Delete call) =
     inr (refl, (λ agrees. set-extents memory.segments call.seg None posts.segments.own agrees), set-slots limits.notes memory call.seg None None refl)
-plain-tables limits me posts memory thread (Store call) = inl (refl, bytes-layout memory call.seg call.offset call.bytes)
-plain-tables limits me posts memory thread (Reset call) = inl (refl, slots-layout memory call.seg call.note 0)
-plain-tables limits me posts memory thread (FetchAdd call) =
+plain-tables limits me posts brought memory thread (Store call) = inl (refl, bytes-layout memory call.seg call.offset call.bytes)
+plain-tables limits me posts brought memory thread (Reset call) = inl (refl, slots-layout memory call.seg call.note 0)
+plain-tables limits me posts brought memory thread (PassiveSend call) = inl (refl, send-layout brought memory)
+plain-tables limits me posts brought memory thread (PassiveReceive call) = inl (refl, receive-layout memory call)
+plain-tables limits me posts brought memory thread (FetchAdd call) =
     inl (refl, replaced-layout memory call.seg (with_sum (bytes_of memory call.seg) call.offset call.value) (with_range-length (bytes_of memory call.seg) call.offset (little_bytes 8 ((word_at (bytes_of memory call.seg) call.offset + call.value) % 2 ^ 64))))
-plain-tables limits me posts memory thread (CompareSwap call) =
+plain-tables limits me posts brought memory thread (CompareSwap call) =
     inl (refl, replaced-layout memory call.seg (with_swap (bytes_of memory call.seg) call.offset call.comparator call.new) (with_swap-length (bytes_of memory call.seg) call.offset call.comparator call.new))
-plain-tables limits me posts memory thread other = inl (refl, same-layout memory)
+plain-tables limits me posts brought memory thread other = inl (refl, same-layout memory)
 
 -- a post leaves the memory
-pub post-leaves : (limits : Limits) (posts : Posts) (memory : Memory) (call : Call) (to : Posting) → (row_of call).posting ≡ Some to → memory_done limits posts memory call ≡ memory
-post-leaves limits posts memory (Alloc call) to is = absurd (let no : ⊥ = cc in no)
-post-leaves limits posts memory (Delete call) to is = absurd (let no : ⊥ = cc in no)
-post-leaves limits posts memory (Store call) to is = absurd (let no : ⊥ = cc in no)
-post-leaves limits posts memory (Reset call) to is = absurd (let no : ⊥ = cc in no)
-post-leaves limits posts memory (FetchAdd call) to is = absurd (let no : ⊥ = cc in no)
-post-leaves limits posts memory (CompareSwap call) to is = absurd (let no : ⊥ = cc in no)
-post-leaves limits posts memory other to is = refl
+pub post-leaves : (limits : Limits) (posts : Posts) (brought : Option Message) (memory : Memory) (call : Call) (to : Posting) → (row_of call).posting ≡ Some to → memory_done limits posts brought memory call ≡ memory
+post-leaves limits posts brought memory (Alloc call) to is = absurd (let no : ⊥ = cc in no)
+post-leaves limits posts brought memory (Delete call) to is = absurd (let no : ⊥ = cc in no)
+post-leaves limits posts brought memory (Store call) to is = absurd (let no : ⊥ = cc in no)
+post-leaves limits posts brought memory (Reset call) to is = absurd (let no : ⊥ = cc in no)
+post-leaves limits posts brought memory (PassiveSend call) to is = absurd (let no : ⊥ = cc in no)
+post-leaves limits posts brought memory (PassiveReceive call) to is = absurd (let no : ⊥ = cc in no)
+post-leaves limits posts brought memory (FetchAdd call) to is = absurd (let no : ⊥ = cc in no)
+post-leaves limits posts brought memory (CompareSwap call) to is = absurd (let no : ⊥ = cc in no)
+post-leaves limits posts brought memory other to is = refl
 
-done-tables : (limits : Limits) (me : ℕ) (posts : Posts) (memory : Memory) (thread : ℕ) (call : Call)
-    → KeepsTables limits.notes me (memory_rank limits me call) posts (posts_done limits me posts thread call) memory (memory_done limits posts memory call)
-done-tables limits me posts memory thread call = go (row_of call).posting refl
+done-tables : (limits : Limits) (me : ℕ) (posts : Posts) (brought : Option Message) (memory : Memory) (thread : ℕ) (call : Call)
+    → KeepsTables limits.notes me (memory_rank limits me call) posts (posts_done limits me posts thread call) memory (memory_done limits posts brought memory call)
+done-tables limits me posts brought memory thread call = go (row_of call).posting refl
   where
-    go : (o : Option Posting) → (row_of call).posting ≡ o → KeepsTables limits.notes me (memory_rank limits me call) posts (posts_done limits me posts thread call) memory (memory_done limits posts memory call)
-    go None none = rw none (plain-tables limits me posts memory thread call)
-    go (Some to) post = rw (post, post-leaves limits posts memory call to post) (inl (with_post-own posts to.queue to.rank (call_asks limits me posts call), same-layout memory))
+    go : (o : Option Posting) → (row_of call).posting ≡ o → KeepsTables limits.notes me (memory_rank limits me call) posts (posts_done limits me posts thread call) memory (memory_done limits posts brought memory call)
+    go None none = rw none (plain-tables limits me posts brought memory thread call)
+    go (Some to) post = rw (post, post-leaves limits posts brought memory call to post) (inl (with_post-own posts to.queue to.rank (call_asks limits me posts call), same-layout memory))
 
-pub called-tables : (limits : Limits) (me : ℕ) (posts : Posts) (memory : Memory) (thread : ℕ) (call : Call) (reply : Reply)
-    → KeepsTables limits.notes me (memory_rank limits me call) posts (posts_after limits me posts thread call reply) memory (memory_after limits posts memory call reply)
-called-tables limits me posts memory thread call reply = go (is_idle reply) refl (done-tables limits me posts memory thread call)
+pub called-tables : (limits : Limits) (me : ℕ) (posts : Posts) (brought : Option Message) (memory : Memory) (thread : ℕ) (call : Call) (reply : Reply)
+    → KeepsTables limits.notes me (memory_rank limits me call) posts (posts_after limits me posts thread call reply) memory (memory_after limits posts brought memory call reply)
+called-tables limits me posts brought memory thread call reply = go (is_idle reply) refl (done-tables limits me posts brought memory thread call)
   where
-    go : (b : Bool) → is_idle reply ≡ b → KeepsTables limits.notes me (memory_rank limits me call) posts (posts_done limits me posts thread call) memory (memory_done limits posts memory call)
-        → KeepsTables limits.notes me (memory_rank limits me call) posts (posts_after limits me posts thread call reply) memory (memory_after limits posts memory call reply)
+    go : (b : Bool) → is_idle reply ≡ b → KeepsTables limits.notes me (memory_rank limits me call) posts (posts_done limits me posts thread call) memory (memory_done limits posts brought memory call)
+        → KeepsTables limits.notes me (memory_rank limits me call) posts (posts_after limits me posts thread call reply) memory (memory_after limits posts brought memory call reply)
     go true idle done = rw idle (inl (refl, same-layout memory))
     go false awake done = rw awake done
 

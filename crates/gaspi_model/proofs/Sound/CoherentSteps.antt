@@ -21,7 +21,7 @@ use Rattle.gaspi_model.specs.State.{segment_at}
 use Rattle.gaspi_model.specs.Posting.{counted}
 use Rattle.gaspi_model.specs.Changes.{take_rank, put_rank}
 use Rattle.gaspi_model.specs.Transfers.{Found, Worked, taken_bytes, outcome_at, take_outcome, same_outcome}
-use Rattle.gaspi_model.specs.Step.{step}
+use Rattle.gaspi_model.specs.Step.{step, call_brought}
 use Rattle.gaspi_model.specs.Coherence.{counts_of, HasSlots, Tables, tables_of, all_tables, LiesIn, LiesInIfThere, HasOwn, FitsTarget, AreMade, AllFit, Knows, IsCoherent}
 use Rattle.gaspi_types.specs.Segments.{extents_of, is_generation}
 use Rattle.gaspi_model.specs.Sound.{IsSound}
@@ -265,7 +265,7 @@ steps-coherent s t (Called c call reply) sound h =
     } in
     let keeps : KeepsFit s.limits.notes tables c.rank made.0 made.2.posts =
     rw m.is.leaves (called-fits s.limits tables c.rank made.0 made.1 c.thread call reply may (sound.posts c.rank made.0 m.posts_there).numbered (coherent.entries c.rank made.0 m.posts_there) (same_reply-same _ _ m.is.answered)) in
-    let kept : KeepsTables s.limits.notes c.rank worked made.0 made.2.posts made.1 made.2.memory = rw m.is.leaves (called-tables s.limits c.rank made.0 made.1 c.thread call reply) in
+    let kept : KeepsTables s.limits.notes c.rank worked made.0 made.2.posts made.1 made.2.memory = rw m.is.leaves (called-tables s.limits c.rank made.0 (call_brought s c.rank call) made.1 c.thread call reply) in
     let all = slice_set s.posts c.rank made.2.posts in
     let memories = slice_set s.memories worked made.2.memory in
     rw m.leaves (keeps-coherent s (record s { posts = told s.limits.ranks c.rank made.0 call reply all; memories = memories }) coherent (record {

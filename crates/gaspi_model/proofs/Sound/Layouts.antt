@@ -1,6 +1,6 @@
 -- Which segments a memory has, their generations, and how many bytes and slots they have: no event changes it but the calls
 -- that make a segment and delete one.
-use Rattle.std.proofs.Common.{◌≡◌, ℕ, List, length, refl}
+use Rattle.std.proofs.Common.{◌≡◌, ℕ, List, [], ◌∷◌, Option, None, Some, length, refl}
 use Rattle.std.specs.List.{slice_set}
 use Rattle.std.proofs.lemmas.List.{length-set}
 use Rattle.gaspi_types.specs.SegmentBytes.{with_range}
@@ -12,6 +12,9 @@ use Rattle.gaspi_types.specs.declared.entries.Destination.TheVariants.{Range, Sl
 use Rattle.gaspi_types.proofs.Written.{with_range-length, extents_of-with_bytes, counts-with_slots}
 use Rattle.gaspi_model.specs.Memories.{bytes_of, slots_of, with_bytes, with_slots}
 use Rattle.gaspi_model.specs.Transfers.{memory_put, memory_with_put, carried_bytes}
+use Rattle.gaspi_model.specs.PassiveCalls.{send_leaves, receive_leaves}
+use Rattle.gaspi_types.specs.declared.inboxes.Message.{Message}
+use Rattle.gaspi_types.specs.declared.calls.passive.PassiveReceive as receive
 use Rattle.gaspi_model.specs.Coherence.{slot_counts}
 use Rattle.gaspi_model.specs.declared.states.Memory.{Memory}
 
@@ -42,3 +45,17 @@ put-layout m e = go (destination_of e.kind)
     go : (d : Destination) → HaveSameLayout m (memory_with_put m d (carried_bytes e.phase))
     go (Range range) = bytes-layout m range.segment range.offset (carried_bytes e.phase)
     go (Slot slot value) = slots-layout m slot.segment slot.note value
+
+-- messages come and go, and layouts stay
+pub send-layout : (brought : Option Message) (m : Memory) → HaveSameLayout m (send_leaves brought m)
+send-layout None m = same-layout m
+send-layout (Some message) m = record { extents = refl; counts = refl }
+
+pub receive-layout : (m : Memory) (call : receive.PassiveReceive) → HaveSameLayout m (receive_leaves m call)
+receive-layout m call = go m.inbox refl
+  where
+    go : (inbox : List Message) → m.inbox ≡ inbox → HaveSameLayout m (receive_leaves m call)
+    go [] is = rw is (record { extents = refl; counts = refl })
+    go (message ∷ rest) is =
+        let same = bytes-layout m call.seg call.offset message.bytes in
+        rw is (record { extents = same.extents; counts = same.counts })

@@ -20,6 +20,8 @@ use Rattle.gaspi_types.specs.declared.entries.Entry.{Entry}
 use Rattle.gaspi_types.specs.declared.segments.Extent.{Extent}
 use Rattle.gaspi_types.specs.declared.entries.Queue.{Queue}
 use Rattle.gaspi_model.specs.declared.states.ThreadState.TheVariants.{Absent, Running}
+use Rattle.gaspi_model.proofs.Sound.GroupTables.{opening-groups}
+use Rattle.gaspi_model.proofs.Sound.Inboxes.{empty-inbox}
 
 option_map-some : {A B : Type 0} (f : A → B) (o : Option A) (y : B) → option_map f o ≡ Some y → (x : A) × (y ≡ f x)
 option_map-some f None y h = absurd (let no : ⊥ = cc in no)
@@ -115,6 +117,7 @@ opening-sound w rank world = record {
         let from = map-at (opening_extents w) (range_with_len 0 w.limits.ranks) k table at in
         ap length from.2 ∙ length-map-range_with_len (λ (segment : ℕ). option_map declared_extent (declared_size w from.0 segment)) 0 32;
     threads = length-map-range_with_len (opening_thread w rank) 0 4;
+    pending = refl;
   };
   lanes = λ queue q at. rw (slice_get-replicate w.limits.queues (opening_queue w.limits.ranks) q queue at) (length-replicate w.limits.ranks []);
   room =
@@ -135,6 +138,7 @@ opening-sound w rank world = record {
       rw none tt;
   queues = λ queue q at.
       rw (slice_get-replicate w.limits.queues (opening_queue w.limits.ranks) q queue at) (empty-queue w.limits.ranks w.limits.depth);
+  groups = opening-groups w.limits.ranks;
 }
 
 pub opens : (w : World) → IsWorld w → IsSound (opening w)
@@ -145,5 +149,8 @@ opens w world = record {
   posts = λ rank posts at.
       let here = option_map-some (opening_posts w) (slice_get (range_with_len 0 w.limits.ranks) rank) posts (sym (slice_get-map (opening_posts w) (range_with_len 0 w.limits.ranks) rank) ∙ at) in
       rw here.1 (opening-sound w here.0 world);
+  inboxes = λ rank memory at.
+      let from = map-at (opening_memory w) (range_with_len 0 w.limits.ranks) rank memory at in
+      rw from.2 (empty-inbox w.limits);
   coherent = opens-coherent w;
 }

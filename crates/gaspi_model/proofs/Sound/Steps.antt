@@ -12,7 +12,7 @@ use Rattle.gaspi_types.specs.declared.entries.Kind.{Kind}
 use Rattle.gaspi_types.specs.declared.entries.Phase.TheVariants as phases
 use Rattle.gaspi_types.specs.declared.shapes.Limits.{Limits}
 use Rattle.gaspi_types.specs.declared.calls.Call.{Call}
-use Rattle.gaspi_types.specs.declared.calls.Call.TheVariants.{Alloc, Delete, Wait, Purge, End}
+use Rattle.gaspi_types.specs.declared.calls.Call.TheVariants.{Alloc, Delete, Wait, Purge, GroupCreate, GroupAdd, GroupDelete, End}
 use Rattle.gaspi_types.specs.CallRows.{row_of}
 use Rattle.gaspi_types.specs.declared.call_rows.Posting.{Posting}
 use Rattle.gaspi_types.specs.declared.replies.Reply.{Reply}
@@ -31,7 +31,12 @@ use Rattle.gaspi_model.specs.QueueCalls.{emptied, without_entries}
 use Rattle.gaspi_model.specs.PostCalls.{asked_finds}
 use Rattle.gaspi_model.specs.Calls.{posts_done, plain_done, call_asks, call_finds}
 use Rattle.gaspi_model.specs.Transfers.{Found, taken_bytes, Worked}
-use Rattle.gaspi_model.specs.Step.{step}
+use Rattle.gaspi_types.specs.Groups.{with_group, with_added, without_group}
+use Rattle.gaspi_types.specs.declared.groups.Handles.{Handles}
+use Rattle.gaspi_types.specs.declared.inboxes.Message.{Message}
+use Rattle.gaspi_model.specs.Step.{step, call_brought}
+use Rattle.gaspi_model.proofs.Sound.GroupTables.{called-groups}
+use Rattle.gaspi_model.proofs.Sound.Inboxes.{inboxes-set, called-inbox, put-inbox}
 use Rattle.gaspi_model.specs.Coherence.{IsCoherent}
 use Rattle.gaspi_model.specs.Sound.{failures, HasTables, IsSoundPosts, IsSound, AreRising, events_left}
 use Rattle.gaspi_model.proofs.Sound.Rising.{AreRising-more, AreRising-phase, AreRising-remove, AreRising-post}
@@ -178,6 +183,11 @@ post-keeps ranks posts queue target asked counts all rise few = record {
   rising = rise-post posts queue target asked rise;
 }
 
+-- one that changes the groups alone
+regrouped-keeps : (ranks : ℕ) (posts : Posts) (groups : Handles) → HasLanes ranks posts → RiseBelow posts.next posts.queues → HasFewGenerations (posts.events + 1) posts
+    → Keeps ranks posts (record posts { groups = groups })
+regrouped-keeps ranks posts groups all rise few = record { lanes = all; events = refl; numbers = omega arith; numbered = refl; generations = generations-more posts few; rising = rise }
+
 plain-keeps : (ranks : ℕ) (posts : Posts) (thread : ℕ) (call : Call) → HasLanes ranks posts → RiseBelow posts.next posts.queues → HasFewGenerations (posts.events + 1) posts
     → Keeps ranks posts (plain_done posts thread call)
 plain-keeps ranks posts thread (Alloc call) all rise few = record {
@@ -206,6 +216,9 @@ plain-keeps ranks posts thread (Purge call) all rise few = record {
   rising = rise-changed posts.next posts.queues call.queue emptied
       (λ q at target lane is. subst (λ (l : List Entry). AreRising posts.next l) (sym (emptied-lane q.lanes target lane is)) tt) rise;
 }
+plain-keeps ranks posts thread GroupCreate all rise few = regrouped-keeps ranks posts (with_group posts.groups) all rise few
+plain-keeps ranks posts thread (GroupAdd call) all rise few = regrouped-keeps ranks posts (with_added posts.groups call.group call.rank) all rise few
+plain-keeps ranks posts thread (GroupDelete call) all rise few = regrouped-keeps ranks posts (without_group posts.groups call.group) all rise few
 plain-keeps ranks posts thread End all rise few = record { lanes = all; events = refl; numbers = omega arith; numbered = refl; generations = generations-more posts few; rising = rise }
 plain-keeps ranks posts thread other all rise few = same-keeps ranks posts all rise few
 
@@ -241,18 +254,18 @@ after-keeps : (ranks : ℕ) (b : Bool) (before done : Posts) → HasLanes ranks 
 after-keeps ranks true before done all rise few keeps = same-keeps ranks before all rise few
 after-keeps ranks false before done all rise few keeps = keeps refl
 
-call-keeps : (limits : Limits) (me : ℕ) (posts : Posts) (memory : Memory) (thread : ℕ) (call : Call) (reply : Reply) (after : Worked) → limits.depth ≤ 256
-    → IsSoundPosts limits posts → IsCalled limits me posts memory thread call reply after → Keeps limits.ranks posts (if is_idle reply then posts else posts_done limits me posts thread call)
-call-keeps limits me posts memory thread call reply after depth sound h =
+call-keeps : (limits : Limits) (me : ℕ) (posts : Posts) (brought : Option Message) (memory : Memory) (thread : ℕ) (call : Call) (reply : Reply) (after : Worked) → limits.depth ≤ 256
+    → IsSoundPosts limits posts → IsCalled limits me posts brought memory thread call reply after → Keeps limits.ranks posts (if is_idle reply then posts else posts_done limits me posts thread call)
+call-keeps limits me posts brought memory thread call reply after depth sound h =
     after-keeps limits.ranks (is_idle reply) posts (posts_done limits me posts thread call) sound.lanes sound.rising sound.generations
     (λ busy. done-keeps limits.ranks limits me posts thread call sound.lanes sound.rising sound.generations
     (λ to kinds post asks. accepted-few limits me posts memory call reply to kinds depth
     (found-reply limits me posts memory thread call reply (same_reply-same _ _ h.answered) busy) post asks))
 
-called-sound : (limits : Limits) (me : ℕ) (posts : Posts) (memory : Memory) (thread : ℕ) (call : Call) (reply : Reply) (after : Worked) → limits.depth ≤ 256
-    → IsSoundPosts limits posts → IsCalled limits me posts memory thread call reply after → IsSoundPosts limits after.posts
-called-sound limits me posts memory thread call reply after depth sound h =
-    let keeps = call-keeps limits me posts memory thread call reply after depth sound h in
+called-sound : (limits : Limits) (me : ℕ) (posts : Posts) (brought : Option Message) (memory : Memory) (thread : ℕ) (call : Call) (reply : Reply) (after : Worked) → limits.depth ≤ 256
+    → IsSoundPosts limits posts → IsCalled limits me posts brought memory thread call reply after → IsSoundPosts limits after.posts
+called-sound limits me posts brought memory thread call reply after depth sound h =
+    let keeps = call-keeps limits me posts brought memory thread call reply after depth sound h in
     let grows = call-grows limits me posts memory thread call reply sound.lanes (same_reply-same _ _ h.answered) in
     let room = leb-true _ _ h.room in
     let numbers = sound.numbers in
@@ -265,6 +278,7 @@ called-sound limits me posts memory thread call reply after depth sound h =
       generations = λ segment n at. (let events = keeps.events in let less = keeps.generations segment n at in omega arith);
       rising = keeps.rising;
       queues = called-queues limits me posts memory thread call reply (same_reply-same _ _ h.answered) sound.queues sound.rising;
+      groups = called-groups limits me posts memory thread call reply (same_reply-same _ _ h.answered) sound.groups;
     })
 
 lanes-with_lane : (ranks : ℕ) (posts : Posts) (queue target : ℕ) (lane : List Entry) → HasLanes ranks posts → HasLanes ranks (with_lane posts queue target lane)
@@ -307,6 +321,7 @@ failed-sound limits posts queue target number at sound is whole stood tables roo
           rw (sym same) (queue-phase limits.depth at.queue (change at.queue) target at.lane at.place at.entry phases.Failed s0 is.in_queue is.in_lane refl refl refl
           (carried-failed limits.depth at.lane at.place at.entry is.in_lane (s0.carried target at.lane is.in_queue))
           (rw (stood, whole-unmarked at.queue.broken whole) refl)));
+      groups = sound.groups;
     }
 
 take-sound : (limits : Limits) (posts : Posts) (memory : Memory) (queue target number : ℕ) (outcome : Outcome) (after : Posts) (at : Found)
@@ -332,6 +347,7 @@ take-sound limits posts memory queue target number Applied after at sound h =
           (phases.Carried (taken_bytes memory at.entry.kind)) (sound.queues queue at.queue h.is.in_posts) h.is.in_queue h.is.in_lane refl refl refl
           (carried-more limits.depth at.lane at.place at.entry (phases.Carried (taken_bytes memory at.entry.kind)) h.is.in_lane (both (is_posted at.entry) _ h.permitted).1)
           (rw (posted-unfailed at.entry.phase (both (is_posted at.entry) _ h.permitted).0) refl)));
+      groups = sound.groups;
     } in
     rw h.leaves made
 take-sound limits posts memory queue target number Failed after at sound h =
@@ -363,6 +379,7 @@ put-sound limits posts memory queue target number Applied after at sound h =
           let same : at.queue ≡ q = (let some : ◌≡◌ {A = Option Queue} (Some at.queue) (Some q) = sym h.is.in_posts ∙ here in cc) in
           rw (sym same) (queue-remove limits.depth at.queue (record at.queue { lanes = slice_set at.queue.lanes target lane }) target at.lane at.place at.entry
           (sound.queues queue at.queue h.is.in_posts) h.is.in_queue h.is.in_lane refl refl refl (carried-unfailed at.entry.phase (both (is_carried at.entry) _ h.permitted).0)));
+      groups = sound.groups;
     } in
     rw h.leaves made
 put-sound limits posts memory queue target number Failed after at sound h =
@@ -401,19 +418,21 @@ told-sound limits ranks me p call reply all sound r x h =
       generations = is.generations;
       rising = is.rising;
       queues = is.queues;
+      groups = is.groups;
     }
 
 pub steps : (s t : State) (e : Event) → IsSound s → step s e ≡ Ok t → IsSound t
 steps s t (Called c call reply) sound h =
     let made = sound-called s t c call reply sound h in
     let m = made.3 in
-    let after = called-sound s.limits c.rank made.0 made.1 c.thread call reply made.2 (depth-few s.limits sound.limits) (sound.posts c.rank made.0 m.posts_there) m.is in
+    let after = called-sound s.limits c.rank made.0 (call_brought s c.rank call) made.1 c.thread call reply made.2 (depth-few s.limits sound.limits) (sound.posts c.rank made.0 m.posts_there) m.is in
     let coherent = steps-coherent s t (Called c call reply) sound h in
     rw m.leaves (record {
       limits = sound.limits;
       ranks = told-length s.limits.ranks c.rank made.0 call reply (slice_set s.posts c.rank made.2.posts) ∙ length-set s.posts c.rank made.2.posts ∙ sound.ranks;
       memories = length-set s.memories (memory_rank s.limits c.rank call) made.2.memory ∙ sound.memories;
       posts = told-sound s.limits s.limits.ranks c.rank made.0 call reply (slice_set s.posts c.rank made.2.posts) (posts-sound s.limits s.posts c.rank made.2.posts after sound.posts);
+      inboxes = inboxes-set s.limits s.memories (memory_rank s.limits c.rank call) made.2.memory sound.inboxes (called-inbox s t c call reply made.0 made.1 made.2 sound m);
       coherent = subst IsCoherent m.leaves coherent;
     })
 steps s t (Take origin queue target number outcome) sound h =
@@ -426,6 +445,7 @@ steps s t (Take origin queue target number outcome) sound h =
       ranks = length-set s.posts origin made.2 ∙ sound.ranks;
       memories = sound.memories;
       posts = posts-sound s.limits s.posts origin made.2 after sound.posts;
+      inboxes = sound.inboxes;
       coherent = subst IsCoherent m.leaves coherent;
     })
 steps s t (Put origin queue target number outcome) sound h =
@@ -438,15 +458,17 @@ steps s t (Put origin queue target number outcome) sound h =
       ranks = length-set s.posts origin made.2.posts ∙ sound.ranks;
       memories = length-set s.memories (put_rank origin target made.3.entry.kind) made.2.memory ∙ sound.memories;
       posts = posts-sound s.limits s.posts origin made.2.posts after sound.posts;
+      inboxes = inboxes-set s.limits s.memories (put_rank origin target made.3.entry.kind) made.2.memory sound.inboxes
+          (put-inbox s.limits made.0 made.1 queue target number outcome made.2 made.3 m.is (sound.inboxes (put_rank origin target made.3.entry.kind) made.1 m.memory_there));
       coherent = subst IsCoherent m.leaves coherent;
     })
 
 -- each event adds one to the events of its owner
 
-called-events : (limits : Limits) (me : ℕ) (posts : Posts) (memory : Memory) (thread : ℕ) (call : Call) (reply : Reply) (after : Worked) → limits.depth ≤ 256
-    → IsSoundPosts limits posts → IsCalled limits me posts memory thread call reply after → after.posts.events ≡ posts.events + 1
-called-events limits me posts memory thread call reply after depth sound h =
-    let keeps = call-keeps limits me posts memory thread call reply after depth sound h in
+called-events : (limits : Limits) (me : ℕ) (posts : Posts) (brought : Option Message) (memory : Memory) (thread : ℕ) (call : Call) (reply : Reply) (after : Worked) → limits.depth ≤ 256
+    → IsSoundPosts limits posts → IsCalled limits me posts brought memory thread call reply after → after.posts.events ≡ posts.events + 1
+called-events limits me posts brought memory thread call reply after depth sound h =
+    let keeps = call-keeps limits me posts brought memory thread call reply after depth sound h in
     rw h.leaves (ap (λ (n : ℕ). n + 1) keeps.events)
 
 take-events : (limits : Limits) (posts : Posts) (memory : Memory) (queue target number : ℕ) (outcome : Outcome) (after : Posts) (at : Found)
@@ -470,8 +492,8 @@ counts s t (Called c call reply) sound h =
     let made = sound-called s t c call reply sound h in
     let m = made.3 in
     let before = sound.posts c.rank made.0 m.posts_there in
-    let after = called-sound s.limits c.rank made.0 made.1 c.thread call reply made.2 (depth-few s.limits sound.limits) before m.is in
-    let more = called-events s.limits c.rank made.0 made.1 c.thread call reply made.2 (depth-few s.limits sound.limits) before m.is in
+    let after = called-sound s.limits c.rank made.0 (call_brought s c.rank call) made.1 c.thread call reply made.2 (depth-few s.limits sound.limits) before m.is in
+    let more = called-events s.limits c.rank made.0 (call_brought s c.rank call) made.1 c.thread call reply made.2 (depth-few s.limits sound.limits) before m.is in
     let left = left-set s.limits s.posts c.rank made.0 made.2.posts m.posts_there more (let room = after.room in omega arith) in
     let told_left = told-sum (λ (p : Posts). s.limits.events - p.events) (λ x known. refl) s.limits.ranks c.rank made.0 call reply (slice_set s.posts c.rank made.2.posts) in
     rw m.leaves (ap (λ (n : ℕ). n + 1) told_left ∙ left)

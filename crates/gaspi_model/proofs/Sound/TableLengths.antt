@@ -8,7 +8,9 @@ use Rattle.gaspi_types.specs.CallRows.{row_of}
 use Rattle.gaspi_types.specs.SegmentTables.{extent_in}
 use Rattle.gaspi_types.specs.declared.call_rows.Posting.{Posting}
 use Rattle.gaspi_types.specs.declared.calls.Call.{Call}
-use Rattle.gaspi_types.specs.declared.calls.Call.TheVariants.{Alloc, Delete, Wait, Purge, End}
+use Rattle.gaspi_types.specs.declared.calls.Call.TheVariants.{Alloc, Delete, Wait, Purge, GroupCreate, GroupAdd, GroupDelete, End}
+use Rattle.gaspi_types.specs.Groups.{with_group, with_added, without_group}
+use Rattle.gaspi_types.specs.declared.groups.Handles.{Handles}
 use Rattle.gaspi_types.specs.declared.entries.Entry.{Entry}
 use Rattle.gaspi_types.specs.declared.segments.Extent.{Extent}
 use Rattle.gaspi_types.specs.declared.entries.Kind.{Kind}
@@ -41,6 +43,19 @@ requeued-tables limits posts queues next same has = record {
   known = has.known;
   known_segments = has.known_segments;
   threads = has.threads;
+  pending = has.pending;
+}
+
+-- or with the groups
+regrouped-tables : (limits : Limits) (posts : Posts) (groups : Handles) → HasTables limits posts → HasTables limits (record posts { groups = groups })
+regrouped-tables limits posts groups has = record {
+  queues = has.queues;
+  corrupt = has.corrupt;
+  own = has.own;
+  known = has.known;
+  known_segments = has.known_segments;
+  threads = has.threads;
+  pending = has.pending;
 }
 
 post-tables : (limits : Limits) (posts : Posts) (queue target : ℕ) (asked : Result (List Kind) Refusal) → HasTables limits posts → HasTables limits (with_post posts queue target asked)
@@ -55,6 +70,7 @@ plain-tables limits posts thread (Alloc call) has = record {
   known = has.known;
   known_segments = has.known_segments;
   threads = has.threads;
+  pending = has.pending;
 }
 plain-tables limits posts thread (Delete call) has = record {
   queues = has.queues;
@@ -63,9 +79,13 @@ plain-tables limits posts thread (Delete call) has = record {
   known = has.known;
   known_segments = has.known_segments;
   threads = has.threads;
+  pending = has.pending;
 }
 plain-tables limits posts thread (Wait call) has = requeued-tables limits posts _ posts.next (length-changed_at posts.queues call.queue _) has
 plain-tables limits posts thread (Purge call) has = requeued-tables limits posts _ posts.next (length-changed_at posts.queues call.queue _) has
+plain-tables limits posts thread GroupCreate has = regrouped-tables limits posts (with_group posts.groups) has
+plain-tables limits posts thread (GroupAdd call) has = regrouped-tables limits posts (with_added posts.groups call.group call.rank) has
+plain-tables limits posts thread (GroupDelete call) has = regrouped-tables limits posts (without_group posts.groups call.group) has
 plain-tables limits posts thread End has = record {
   queues = has.queues;
   corrupt = has.corrupt;
@@ -73,6 +93,7 @@ plain-tables limits posts thread End has = record {
   known = has.known;
   known_segments = has.known_segments;
   threads = length-set posts.threads thread _ ∙ has.threads;
+  pending = has.pending;
 }
 plain-tables limits posts thread other has = has
 
@@ -91,6 +112,7 @@ counted-tables limits posts has = record {
   known = has.known;
   known_segments = has.known_segments;
   threads = has.threads;
+  pending = has.pending;
 }
 
 -- after a call, idle or not
@@ -112,6 +134,7 @@ failed-tables limits posts queue target at has = record {
   known = has.known;
   known_segments = has.known_segments;
   threads = has.threads;
+  pending = has.pending;
 }
 
 pub take-tables : (limits : Limits) (posts : Posts) (memory : Memory) (queue target number : ℕ) (outcome : Outcome) (after : Posts) (at : Found)
@@ -134,6 +157,7 @@ known-tables limits owner seg extent posts has = record {
   known_segments = λ rank table at.
       by-rank rank table (owner == rank) refl (slice_get posts.segments.known rank) refl (sym (changed_at-get posts.segments.known owner rank (λ t. slice_set t seg extent)) ∙ at);
   threads = has.threads;
+  pending = has.pending;
 }
   where
     by-rank : (rank : ℕ) (table : List (Option Extent)) (b : Bool) → (owner == rank) ≡ b → (o : Option (List (Option Extent))) → slice_get posts.segments.known rank ≡ o

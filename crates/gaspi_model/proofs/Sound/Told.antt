@@ -13,7 +13,7 @@ use Rattle.gaspi_types.specs.declared.calls.segments.Register as register
 use Rattle.gaspi_types.specs.declared.touches.Touch.{Touch}
 use Rattle.gaspi_types.specs.declared.touches.Touch.TheVariants as touches
 use Rattle.gaspi_types.specs.declared.touches.Reach.{Reach}
-use Rattle.gaspi_types.specs.declared.touches.Reach.TheVariants.{Alone, OwnMemory, PeerMemory, PeerPosts}
+use Rattle.gaspi_types.specs.declared.touches.Reach.TheVariants.{Alone, OwnMemory, PeerMemory, BothMemories, PeerPosts}
 use Rattle.gaspi_types.specs.CallRows.{row_of}
 use Rattle.gaspi_types.specs.Touches.{reach_of}
 use Rattle.gaspi_model.specs.Calls.{peer_after}
@@ -60,6 +60,7 @@ abbrev pub changed_peer : Reach → List Posts → (Posts → Posts) → List Po
 changed_peer Alone all change = all
 changed_peer OwnMemory all change = all
 changed_peer (PeerMemory rank) all change = all
+changed_peer (BothMemories rank) all change = all
 changed_peer (PeerPosts rank) all change = changed_at all rank change
 
 -- the posts of all ranks after a call of that reach: of a peer that it reaches what it leaves there
@@ -67,6 +68,7 @@ abbrev pub told_at : Reach → ℕ → Posts → Call → Reply → List Posts �
 told_at Alone me p call reply all = all
 told_at OwnMemory me p call reply all = all
 told_at (PeerMemory rank) me p call reply all = all
+told_at (BothMemories rank) me p call reply all = all
 told_at (PeerPosts rank) me p call reply all = changed_at all rank (peer_after me p call reply)
 
 abbrev pub told : ℕ → ℕ → Posts → Call → Reply → List Posts → List Posts
@@ -82,6 +84,12 @@ peer-touched ranks me rank (touches.MemoryOf r) h = absurd (mine (r == me) (nat_
     mine true c h = cc
     mine false true h = cc
     mine false false h = cc
+peer-touched ranks me rank (touches.BothMemories r) h = absurd (mine (r == me) (nat_lt r ranks) h)
+  where
+    mine : (b c : Bool) → (if b then OwnMemory else (if c then BothMemories r else Alone)) ≡ PeerPosts rank → ⊥
+    mine true c h = cc
+    mine false true h = cc
+    mine false false h = cc
 peer-touched ranks me rank (touches.PostsOf r) h = go (r == me) refl (nat_lt r ranks) refl
   where
     go : (b : Bool) → (r == me) ≡ b → (c : Bool) → nat_lt r ranks ≡ c → (touches.PostsOf r ≡ touches.PostsOf rank) × ((rank == me) ≡ false) × (nat_lt rank ranks ≡ true)
@@ -91,6 +99,32 @@ peer-touched ranks me rank (touches.PostsOf r) h = go (r == me) refl (nat_lt r r
         let some : PeerPosts r ≡ PeerPosts rank = rw (is, less) at h in
         let same : r ≡ rank = cc in
         (ap touches.PostsOf same, subst (λ (n : ℕ). (n == me) ≡ false) same is, subst (λ (n : ℕ). nat_lt n ranks ≡ true) same less)
+
+-- and one of both memories from a touch of those
+pub both-touched : (ranks me rank : ℕ) (touch : Touch) → reach_of ranks me touch ≡ BothMemories rank → (touch ≡ touches.BothMemories rank) × ((rank == me) ≡ false) × (nat_lt rank ranks ≡ true)
+both-touched ranks me rank touches.Nothing h = absurd (let no : ⊥ = cc in no)
+both-touched ranks me rank touches.OwnMemory h = absurd (let no : ⊥ = cc in no)
+both-touched ranks me rank (touches.MemoryOf r) h = absurd (mine (r == me) (nat_lt r ranks) h)
+  where
+    mine : (b c : Bool) → (if b then OwnMemory else (if c then PeerMemory r else Alone)) ≡ BothMemories rank → ⊥
+    mine true c h = cc
+    mine false true h = cc
+    mine false false h = cc
+both-touched ranks me rank (touches.PostsOf r) h = absurd (mine (r == me) (nat_lt r ranks) h)
+  where
+    mine : (b c : Bool) → (if b then Alone else (if c then PeerPosts r else Alone)) ≡ BothMemories rank → ⊥
+    mine true c h = cc
+    mine false true h = cc
+    mine false false h = cc
+both-touched ranks me rank (touches.BothMemories r) h = go (r == me) refl (nat_lt r ranks) refl
+  where
+    go : (b : Bool) → (r == me) ≡ b → (c : Bool) → nat_lt r ranks ≡ c → (touches.BothMemories r ≡ touches.BothMemories rank) × ((rank == me) ≡ false) × (nat_lt rank ranks ≡ true)
+    go true is c less = absurd (let none : OwnMemory ≡ BothMemories rank = rw is at h in let no : ⊥ = cc in no)
+    go false is false less = absurd (let none : Alone ≡ BothMemories rank = rw (is, less) at h in let no : ⊥ = cc in no)
+    go false is true less =
+        let some : BothMemories r ≡ BothMemories rank = rw (is, less) at h in
+        let same : r ≡ rank = cc in
+        (ap touches.BothMemories same, subst (λ (n : ℕ). (n == me) ≡ false) same is, subst (λ (n : ℕ). nat_lt n ranks ≡ true) same less)
 
 -- a call that touches a rank's posts makes a segment known to it
 pub touching-registers : (call : Call) (rank : ℕ) → (row_of call).touch ≡ touches.PostsOf rank → (x : register.Register) × (call ≡ Register x) × (x.rank ≡ rank)
@@ -119,6 +153,7 @@ told-cases {P} ranks me p call reply same tells = by-reach (reach_of ranks me (r
     by-reach Alone is = same (λ all. rw is refl)
     by-reach OwnMemory is = same (λ all. rw is refl)
     by-reach (PeerMemory rank) is = same (λ all. rw is refl)
+    by-reach (BothMemories rank) is = same (λ all. rw is refl)
     by-reach (PeerPosts rank) is =
         let touched = peer-touched ranks me rank (row_of call).touch is in
         let registers = touching-registers call rank touched.0 in
@@ -132,6 +167,7 @@ told-idle ranks me p call reply all idle = go (reach_of ranks me (row_of call).t
     go Alone = refl
     go OwnMemory = refl
     go (PeerMemory rank) = refl
+    go (BothMemories rank) = refl
     go (PeerPosts rank) = changed_at-same all rank (peer_after me p call reply) (λ q. rw idle refl)
 
 -- the posts of a rank are the same, but for what it knows
