@@ -5,7 +5,7 @@ use Rattle.gaspi_types.specs.Replies.{is_idle, same_reply}
 use Rattle.gaspi_types.specs.World.{are_limits}
 use Rattle.gaspi_types.specs.declared.call_rows.Posting.{Posting}
 use Rattle.gaspi_types.specs.declared.calls.Call.{Call}
-use Rattle.gaspi_types.specs.declared.calls.Call.TheVariants.{Write, Read, Notify, WriteNotify, ReadNotify, WriteList, WriteListNotify, ReadList, ReadListNotify}
+use Rattle.gaspi_types.specs.declared.calls.Call.TheVariants.{Write, Read, Notify, WriteNotify, ReadNotify, WriteList, WriteListNotify, ReadList, ReadListNotify, PassiveSend}
 use Rattle.gaspi_types.specs.declared.entries.Kind.{Kind}
 use Rattle.gaspi_types.specs.declared.shapes.Limits.{Limits}
 use Rattle.gaspi_types.specs.declared.replies.Ready.{Ready}
@@ -15,6 +15,7 @@ use Rattle.gaspi_model.specs.Posting.{with_post, counted}
 use Rattle.gaspi_model.specs.Sound.{IsSoundPosts}
 use Rattle.gaspi_model.specs.Step.{called, Steps, is_there}
 use Rattle.gaspi_types.specs.declared.inboxes.Message.{Message}
+use Rattle.gaspi_model.specs.PassiveCalls.{brought_by}
 use Rattle.gaspi_model.specs.declared.states.Posts.{Posts}
 use Rattle.gaspi_model.specs.declared.states.Memory.{Memory}
 use Rattle.gaspi_model.specs.declared.states.StepFault.{StepFault}
@@ -23,7 +24,7 @@ use Rattle.gaspi_model.specs.declared.states.Why.{Why}
 use Rattle.gaspi_model.specs.declared.states.Why.TheVariants as whys
 use Rattle.gaspi_model.proofs.Listed.Enabled.{same_reply-refl}
 use Rattle.segment_tables.specs.PostKinds.{kinds_of}
-use Rattle.plain_calls.specs.Looks.{IsFinding, found_done, found_after, made_of}
+use Rattle.plain_calls.specs.Looks.{IsFinding, found_done, found_after, made_of, BringsMessage}
 use Rattle.plain_calls.specs.Room.{HasCallRoom, freed}
 use Rattle.plain_calls.specs.declared.looks.Finding.{Finding}
 use Rattle.plain_calls.proofs.CallRoom.{found_by, room_by, taken_by}
@@ -40,6 +41,21 @@ plain_asks limits me posts (WriteListNotify call) is = absurd (let no : ⊥ = cc
 plain_asks limits me posts (ReadList call) is = absurd (let no : ⊥ = cc in no)
 plain_asks limits me posts (ReadListNotify call) is = absurd (let no : ⊥ = cc in no)
 plain_asks limits me posts call is = refl
+
+-- and brings no message
+pub posting_brings : (me : ℕ) (own : Memory) (call : Call) (to : Posting) → (row_of call).posting ≡ Some to → brought_by me own call ≡ None
+posting_brings me own (PassiveSend call) to is = absurd (let no : ⊥ = cc in no)
+posting_brings me own call to is = refl
+
+-- what a look brought, or nothing, is the same to a call that is idle
+pub brought_same : (look : Finding) (brought : Option Message) (limits : Limits) (me : ℕ) (posts : Posts) (memory : Memory) (thread : ℕ) (call : Call) → BringsMessage look brought
+    → called limits me posts look.message memory thread call (recorded_reply look.ready) ≡ called limits me posts brought memory thread call (recorded_reply look.ready)
+brought_same look brought limits me posts memory thread call brings = by_idle (is_idle (recorded_reply look.ready)) refl
+  where
+    by_idle : (idle : Bool) → is_idle (recorded_reply look.ready) ≡ idle
+        → called limits me posts look.message memory thread call (recorded_reply look.ready) ≡ called limits me posts brought memory thread call (recorded_reply look.ready)
+    by_idle true idle = rw idle refl
+    by_idle false busy = ap (λ (m : Option Message). called limits me posts m memory thread call (recorded_reply look.ready)) (brings busy)
 
 -- a call that posts changes no memory
 pub posting_memory : (limits : Limits) (posts : Posts) (brought : Option Message) (memory : Memory) (call : Call) (to : Posting) → (row_of call).posting ≡ Some to → memory_done limits posts brought memory call ≡ memory

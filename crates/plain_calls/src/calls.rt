@@ -1,6 +1,6 @@
 //! What a call answers and what it leaves, by the kinds of calls.
 
-ghost use Rattle.std.specs.Prelude.{◌≡◌, ◌≤◌, List, Option, Result, length, IfOk, IsOk, OnOk, OnErr, true, false};
+ghost use Rattle.std.specs.Prelude.{◌≡◌, ◌≤◌, List, Option, Result, length, IfOk, IsOk, OnOk, OnErr, None, true, false};
 ghost use Rattle.gaspi_types.specs.declared.entries.Kind.{Kind};
 ghost use Rattle.gaspi_types.specs.declared.replies.Refusal.{Refusal};
 ghost use Rattle.gaspi_types.specs.declared.replies.Reply.{Reply};
@@ -27,7 +27,7 @@ use crate::passive_calls::{
 use crate::post_calls::posting_finds;
 use crate::posting::post;
 use crate::queue_calls::{closed, purge_finds, purged, qsize_finds, state_finds, wait_finds};
-use crate::replies::ready_of;
+use crate::replies::{is_idle_ready, ready_of};
 use crate::segment_calls::{
     News, alloc_finds, alloc_leaves, delete_finds, delete_leaves, register_finds, register_news,
     tell_known,
@@ -94,7 +94,8 @@ fn plain_finds(
 
 /// The look at a call that posts.
 fn posting_finding(finds: Result<Kinds, Refusal>) -> Finding
-    ensures { (asked : Result (List Kind) Refusal) (answers : Result (Option Reply) Refusal) → Accepts finds asked answers → IsPostFinding result asked answers }
+    ensures message { result.message ≡ None }
+    ensures finding { (asked : Result (List Kind) Refusal) (answers : Result (Option Reply) Refusal) → Accepts finds asked answers → IsPostFinding result asked answers }
 {
     match finds {
         Ok(kinds) => Finding {
@@ -118,12 +119,12 @@ fn brought(
     ensures ample { is_send call.now ≡ false → IsOk result }
     ensures idle { is_idle (recorded_reply ready.now) ≡ true → IsOk result }
 {
-    match (call, ready) {
-        (Call::PassiveSend(call), Ready::Reply(Reply::Done)) => {
-            Ok(Some(message_of(alloc, me, own, call)?))
+    if let Call::PassiveSend(call) = call {
+        if !is_idle_ready(ready) {
+            return Ok(Some(message_of(alloc, me, own, call)?));
         }
-        _ => Ok(None),
     }
+    Ok(None)
 }
 
 /// Looks at a call. The memory is that which the call works on: its rank's or, of an atomic and a send, that of the rank that

@@ -5,7 +5,7 @@ ghost use Rattle.segment_tables.specs.declared.kinds.Kinds.TheVariants as kinds;
 ghost use Rattle.gaspi_types.specs.Replies.{same_reply, is_idle};
 ghost use Rattle.gaspi_model.specs.Calls.{recorded_reply};
 
-use crate::replies::is_idle;
+use crate::replies::is_idle_ready;
 use gaspi_types::{Message, Ready, Reply};
 use reply_comparison::same_reply;
 use segment_tables::Kinds;
@@ -35,10 +35,7 @@ impl Finding {
     pub fn is_idle(&self) -> bool
         ensures { result ≡ is_idle (recorded_reply self.now.ready) }
     {
-        match &self.ready {
-            Ready::Reply(reply) => is_idle(reply),
-            Ready::NotReady => true,
-        }
+        is_idle_ready(&self.ready)
     }
 
     /// Whether a reply is the one with which the call may be recorded. (GASPI: timeouts)

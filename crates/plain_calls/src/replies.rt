@@ -33,3 +33,13 @@ pub fn is_idle(reply: &Reply) -> bool
 {
     matches!(reply, Reply::Timeout | Reply::Refused(_))
 }
+
+/// Whether a call that was looked at is recorded as a refusal or a timeout.
+pub fn is_idle_ready(ready: &Ready) -> bool
+    ensures { result ≡ is_idle (recorded_reply ready.now) }
+{
+    match ready {
+        Ready::Reply(reply) => is_idle(reply),
+        Ready::NotReady => true,
+    }
+}
