@@ -146,6 +146,8 @@ pub fn look(
     ensures look { IfOk result (λ look. IsFinding look limits.now me posts.now memory.now thread call.now) }
     ensures message { IfOk result (λ look. BringsMessage look (brought_by me own.now call.now)) }
     ensures ample { looks_with_memory call.now ≡ false → IsOk result }
+    // A look at a send that is not done takes none.
+    ensures idle { is_send call.now ≡ true → is_idle (recorded_reply (answer limits.now me posts.now memory.now thread call.now)) ≡ true → IsOk result }
 {
     if !is_running(thread_at(posts, thread)) {
         return Ok(Finding::plain(Ready::Reply(Reply::Refused(

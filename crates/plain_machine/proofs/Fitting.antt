@@ -18,7 +18,8 @@ use Rattle.gaspi_model.specs.Calls.{call_asks, answer, recorded_reply, charge, p
 use Rattle.gaspi_model.specs.Posting.{with_post}
 use Rattle.gaspi_types.specs.Tables.{changed_at}
 use Rattle.gaspi_model.specs.Sound.{IsSound}
-use Rattle.gaspi_model.specs.Step.{step, called, is_there}
+use Rattle.gaspi_types.specs.declared.inboxes.Message.{Message}
+use Rattle.gaspi_model.specs.Step.{call_brought, step, called, is_there}
 use Rattle.gaspi_model.specs.Transfers.{Worked}
 use Rattle.gaspi_model.specs.declared.states.Posts.{Posts}
 use Rattle.gaspi_model.specs.declared.states.Memory.{Memory}
@@ -72,23 +73,23 @@ queues-after limits me posts thread call reply = by_idle (is_idle reply) refl
     by_idle true idle = rw idle refl
     by_idle false idle = rw idle (queues-done limits me posts thread call)
 
-queues-called : (limits : Limits) (me : ℕ) (posts : Posts) (memory : Memory) (thread : ℕ) (call : Call) (reply : Reply) (after : Worked)
-    → called limits me posts memory thread call reply ≡ Ok after → length after.posts.queues ≡ length posts.queues
-queues-called limits me posts memory thread call reply after is =
+queues-called : (limits : Limits) (me : ℕ) (posts : Posts) (brought : Option Message) (memory : Memory) (thread : ℕ) (call : Call) (reply : Reply) (after : Worked)
+    → called limits me posts brought memory thread call reply ≡ Ok after → length after.posts.queues ≡ length posts.queues
+queues-called limits me posts brought memory thread call reply after is =
     bind_then (check (is_there (thread_at posts thread)) _) _ _ is (λ u there more.
     bind_then (check (same_reply reply (recorded_reply (answer limits me posts memory thread call))) _) _ _ more (λ u answered more.
     bind_then (check (nat_le (posts.events + owed posts + charge (thread_at posts thread) call reply) limits.events) _) _ _ more (λ u room more.
     done after more)))
   where
-    done : (after : Worked) → ◌≡◌ {A = Result Worked Why} (Ok (record { posts = posts_after limits me posts thread call reply; memory = memory_after limits posts memory call reply })) (Ok after)
+    done : (after : Worked) → ◌≡◌ {A = Result Worked Why} (Ok (record { posts = posts_after limits me posts thread call reply; memory = memory_after limits posts brought memory call reply })) (Ok after)
         → length after.posts.queues ≡ length posts.queues
     done after is =
-        let same : record { posts = posts_after limits me posts thread call reply; memory = memory_after limits posts memory call reply } ≡ after = cc in
+        let same : record { posts = posts_after limits me posts thread call reply; memory = memory_after limits posts brought memory call reply } ≡ after = cc in
         rw (← same) (queues-after limits me posts thread call reply)
 
 -- one rank's posts replaced by some with as many queues
 fitting_with : (s : State) (rank : ℕ) (p p' : Posts) (memories : List Memory) → IsFitting s → length memories ≡ length s.memories → slice_get s.posts rank ≡ Some p → length p'.queues ≡ length p.queues
-    → IsFitting (record { limits = s.limits; posts = slice_set s.posts rank p'; memories = memories })
+    → IsFitting (record s { posts = slice_set s.posts rank p'; memories = memories })
 fitting_with s rank p p' memories fits all there same = record {
   memories = all ∙ (fits.memories ∙ sym (length-set s.posts rank p'));
   ranks = rw (length-set s.posts rank p') fits.ranks;
@@ -100,15 +101,15 @@ fitting_with s rank p p' memories fits all there same = record {
 
 -- a rank's posts changed so that its queues stay
 fitting_changed : (s : State) (rank : ℕ) (change : Posts → Posts) (posts : List Posts) (memories : List Memory) → ((peer : Posts) → (change peer).queues ≡ peer.queues)
-    → IsFitting (record { limits = s.limits; posts = posts; memories = memories })
-    → IsFitting (record { limits = s.limits; posts = changed_at posts rank change; memories = memories })
+    → IsFitting (record s { posts = posts; memories = memories })
+    → IsFitting (record s { posts = changed_at posts rank change; memories = memories })
 fitting_changed s rank change posts memories kept fits = by_item (slice_get posts rank) refl
   where
-    by_item : (o : Option Posts) → slice_get posts rank ≡ o → IsFitting (record { limits = s.limits; posts = changed_at posts rank change; memories = memories })
+    by_item : (o : Option Posts) → slice_get posts rank ≡ o → IsFitting (record s { posts = changed_at posts rank change; memories = memories })
     by_item None there = rw there fits
     by_item (Some q) there =
         rw (changed_at-found posts rank q change there)
-        (fitting_with (record { limits = s.limits; posts = posts; memories = memories }) rank q (change q) memories fits refl there (ap length (kept q)))
+        (fitting_with (record s { posts = posts; memories = memories }) rank q (change q) memories fits refl there (ap length (kept q)))
 
 -- a state vector has a mark for each rank, and so few
 pub few_marks : (s : State) → IsSound s → (rank : ℕ) (p : Posts) → slice_get s.posts rank ≡ Some p → length p.corrupt ≤ 32
@@ -118,7 +119,7 @@ few_marks s sound rank p there =
     grind (arith, nat_tests, marks, limited)
 
 -- the same posts
-fitting_at : (s t : State) (posts : List Posts) → posts ≡ t.posts → IsFitting (record { limits = s.limits; posts = posts; memories = t.memories }) → IsFitting t
+fitting_at : (s t : State) (posts : List Posts) → posts ≡ t.posts → IsFitting (record s { posts = posts; memories = t.memories }) → IsFitting t
 fitting_at s t posts same fits =
     let ranks = fits.ranks in
     let memories = fits.memories in
@@ -129,10 +130,10 @@ fitting_at s t posts same fits =
 pub fitting_by : (s t : State) (e : Event) → IsFitting s → step s e ≡ Ok t → IsFitting t
 fitting_by s t (Called c call reply) fits is =
     let b = called_back s t c call reply is in
-    let same = queues-called s.limits c.rank b.p b.memory c.thread call reply b.after b.steps in
+    let same = queues-called s.limits c.rank b.p (call_brought s c.rank call) b.memory c.thread call reply b.after b.steps in
     let recorded = fitting_with s c.rank b.p b.after.posts t.memories fits b.memories b.there same in
     let told =
-    told_by (λ (ps : List Posts). IsFitting (record { limits = s.limits; posts = ps; memories = t.memories })) (call_reach s.limits c.rank call) c.rank b.p call reply (slice_set s.posts c.rank b.after.posts) recorded
+    told_by (λ (ps : List Posts). IsFitting (record s { posts = ps; memories = t.memories })) (call_reach s.limits c.rank call) c.rank b.p call reply (slice_set s.posts c.rank b.after.posts) recorded
     (λ rank change kept. fitting_changed s rank change (slice_set s.posts c.rank b.after.posts) t.memories kept recorded) in
     fitting_at s t _ b.posts told
 fitting_by s t (Take origin queue target number outcome) fits is =

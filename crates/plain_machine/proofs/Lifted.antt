@@ -14,7 +14,7 @@ use Rattle.gaspi_model.specs.Calls.{peer_after}
 use Rattle.gaspi_model.specs.Parts.{no_memory}
 use Rattle.gaspi_types.specs.Tables.{changed_at}
 use Rattle.gaspi_model.specs.Sound.{IsSoundPosts}
-use Rattle.gaspi_model.specs.Step.{step, Steps}
+use Rattle.gaspi_model.specs.Step.{step, Steps, call_brought}
 use Rattle.gaspi_model.specs.Transfers.{Worked}
 use Rattle.gaspi_model.specs.declared.states.Posts.{Posts}
 use Rattle.gaspi_model.specs.declared.states.Memory.{Memory}
@@ -61,28 +61,28 @@ lent_steps (Err faults.NoMemory) all me p p' m m' why local there steps =
 pub called_steps : (s : State) (c : CallerId) (call : Call) (reply : Reply) (reach : Reach) (result : Result (Unit {0}) StepFault) (m : Memory) (posts' : List Posts) (m' : Memory)
     → c.rank < length s.posts → call_reach s.limits c.rank call ≡ reach → memory_at s.memories c.rank reach ≡ m → with_memory_at s.memories c.rank reach m ≡ s.memories
     → ((change : Posts → Posts) (all : List Posts) → with_peer_at reach change all ≡ all)
-    → Steps {S = Lent} result (record { posts = s.posts; memory = m }) (record { posts = posts'; memory = m' }) (call_lent s.limits s.posts m c call reply)
+    → Steps {S = Lent} result (record { posts = s.posts; memory = m }) (record { posts = posts'; memory = m' }) (call_lent s.limits s.posts (call_brought s c.rank call) m c call reply)
     → Steps result s (record s { posts = posts'; memories = with_memory_at s.memories c.rank reach m' }) (step s (Called c call reply))
 called_steps s c call reply reach result m posts' m' within is memory kept silent steps =
     let item = there-within s.posts c.rank within in
     let whole : Lent → State = λ w. record s { posts = with_peer_at reach (peer_after c.rank item.0 call reply) w.posts; memories = with_memory_at s.memories c.rank reach w.memory } in
-    let is_step : step s (Called c call reply) ≡ (call_lent s.limits s.posts m c call reply >>= (λ w. Ok (whole w))) = rw memory at (called_as s c call reply item.0 reach item.1 is) in
+    let is_step : step s (Called c call reply) ≡ (call_lent s.limits s.posts (call_brought s c.rank call) m c call reply >>= (λ w. Ok (whole w))) = rw memory at (called_as s c call reply item.0 reach item.1 is) in
     let old : whole (record { posts = s.posts; memory = m }) ≡ s =
     ap (λ (ps : List Posts). record s { posts = ps; memories = with_memory_at s.memories c.rank reach m }) (silent (peer_after c.rank item.0 call reply) s.posts)
     ∙ ap (λ (ms : List Memory). record s { memories = ms }) kept in
     let new : whole (record { posts = posts'; memory = m' }) ≡ record s { posts = posts'; memories = with_memory_at s.memories c.rank reach m' } =
     ap (λ (ps : List Posts). record s { posts = ps; memories = with_memory_at s.memories c.rank reach m' }) (silent (peer_after c.rank item.0 call reply) posts') in
     subst (λ (o : Result State Why). Steps result s (record s { posts = posts'; memories = with_memory_at s.memories c.rank reach m' }) o) (sym is_step)
-    (subst (λ (t : State). Steps result s t (call_lent s.limits s.posts m c call reply >>= (λ w. Ok (whole w)))) new
-    (lift_steps result (record { posts = s.posts; memory = m }) (record { posts = posts'; memory = m' }) (call_lent s.limits s.posts m c call reply) s whole old steps))
+    (subst (λ (t : State). Steps result s t (call_lent s.limits s.posts (call_brought s c.rank call) m c call reply >>= (λ w. Ok (whole w)))) new
+    (lift_steps result (record { posts = s.posts; memory = m }) (record { posts = posts'; memory = m' }) (call_lent s.limits s.posts (call_brought s c.rank call) m c call reply) s whole old steps))
 
 -- a call that tells a peer, and one that would have
 pub called_telling : (s : State) (c : CallerId) (call : Call) (reply : Reply) (rank : ℕ) (p q q' : Posts) (m m' : Memory) (posts' : List Posts)
     → slice_get s.posts c.rank ≡ Some p → call_reach s.limits c.rank call ≡ PeerPosts rank → m ≡ no_memory → slice_get posts' rank ≡ Some q → q' ≡ peer_after c.rank p call reply q
-    → call_lent s.limits s.posts m c call reply ≡ Ok (record { posts = posts'; memory = m' })
+    → call_lent s.limits s.posts (call_brought s c.rank call) m c call reply ≡ Ok (record { posts = posts'; memory = m' })
     → step s (Called c call reply) ≡ Ok (record s { posts = slice_set posts' rank q' })
 called_telling s c call reply rank p q q' m m' posts' there is none peer_there told steps =
-    let lent : call_lent s.limits s.posts no_memory c call reply ≡ Ok (record { posts = posts'; memory = m' }) = rw none at steps in
+    let lent : call_lent s.limits s.posts (call_brought s c.rank call) no_memory c call reply ≡ Ok (record { posts = posts'; memory = m' }) = rw none at steps in
     called_as s c call reply p (PeerPosts rank) there is
     ∙ (ap (λ (r : Result Lent Why). r >>= (λ w. Ok (record s { posts = changed_at w.posts rank (peer_after c.rank p call reply) }))) lent
     ∙ (ap (λ (ps : List Posts). Ok (record s { posts = ps })) (changed_at-found posts' rank q (peer_after c.rank p call reply) peer_there)
@@ -90,13 +90,13 @@ called_telling s c call reply rank p q q' m m' posts' there is none peer_there t
 
 pub called_untold : (s : State) (c : CallerId) (call : Call) (reply : Reply) (rank : ℕ) (p : Posts) (m m' : Memory) (posts' : List Posts) (fault : StepFault)
     → slice_get s.posts c.rank ≡ Some p → call_reach s.limits c.rank call ≡ PeerPosts rank → m ≡ no_memory
-    → Steps {S = Lent} (Err fault) (record { posts = s.posts; memory = m }) (record { posts = posts'; memory = m' }) (call_lent s.limits s.posts m c call reply)
+    → Steps {S = Lent} (Err fault) (record { posts = s.posts; memory = m }) (record { posts = posts'; memory = m' }) (call_lent s.limits s.posts (call_brought s c.rank call) m c call reply)
     → Steps (Err fault) s (record s { posts = posts' }) (step s (Called c call reply))
 called_untold s c call reply rank p m m' posts' fault there is none steps =
-    let is_step : step s (Called c call reply) ≡ (call_lent s.limits s.posts m c call reply >>= (λ w. Ok (record s { posts = changed_at w.posts rank (peer_after c.rank p call reply) }))) =
+    let is_step : step s (Called c call reply) ≡ (call_lent s.limits s.posts (call_brought s c.rank call) m c call reply >>= (λ w. Ok (record s { posts = changed_at w.posts rank (peer_after c.rank p call reply) }))) =
     rw none (called_as s c call reply p (PeerPosts rank) there is) in
     subst (λ (o : Result State Why). Steps (Err fault) s (record s { posts = posts' }) o) (sym is_step)
-    (lift_fault fault (record { posts = s.posts; memory = m }) (record { posts = posts'; memory = m' }) (call_lent s.limits s.posts m c call reply) s
+    (lift_fault fault (record { posts = s.posts; memory = m }) (record { posts = posts'; memory = m' }) (call_lent s.limits s.posts (call_brought s c.rank call) m c call reply) s
     (λ w. record s { posts = w.posts }) (λ w. record s { posts = changed_at w.posts rank (peer_after c.rank p call reply) }) refl steps)
 
 -- what a peer is told takes no room

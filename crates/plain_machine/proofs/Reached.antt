@@ -13,11 +13,12 @@ use Rattle.gaspi_types.specs.declared.shapes.CallerId.{CallerId}
 use Rattle.gaspi_types.specs.declared.touches.Touch.{Touch}
 use Rattle.gaspi_types.specs.declared.touches.Touch.TheVariants as touches
 use Rattle.gaspi_types.specs.declared.touches.Reach.{Reach}
-use Rattle.gaspi_types.specs.declared.touches.Reach.TheVariants.{Alone, OwnMemory, PeerMemory, PeerPosts}
+use Rattle.gaspi_types.specs.declared.touches.Reach.TheVariants.{Alone, OwnMemory, PeerMemory, BothMemories, PeerPosts}
 use Rattle.gaspi_model.specs.Calls.{peer_after}
 use Rattle.gaspi_model.specs.Parts.{touched_of, parts_of, part_at, with_part, worked_memory}
 use Rattle.gaspi_types.specs.Tables.{changed_at}
-use Rattle.gaspi_model.specs.Step.{step, called}
+use Rattle.gaspi_model.specs.Step.{step, called, call_brought}
+use Rattle.gaspi_model.proofs.Sound.Told.{both-touched}
 use Rattle.gaspi_model.specs.Transfers.{take, put, Worked}
 use Rattle.gaspi_model.specs.declared.states.Posts.{Posts}
 use Rattle.gaspi_model.specs.declared.states.Memory.{Memory}
@@ -43,12 +44,22 @@ memory_peer ranks me rank (touches.MemoryOf named) is = by_tests (named == me) (
     by_tests true less a b is = absurd (let no : ⊥ = cc in no)
     by_tests false false a b is = absurd (let no : ⊥ = cc in no)
     by_tests false true a b is = let same : named ≡ rank = cc in rw (← same) (record { apart = a; within = ltb-true named ranks b })
+memory_peer ranks me rank (touches.BothMemories named) is = by_tests (named == me) (nat_lt named ranks) is
+  where
+    by_tests : (same less : Bool) → (if same then OwnMemory else (if less then BothMemories named else Alone)) ≡ PeerMemory rank → IsPeer ranks me rank
+    by_tests true less is = absurd (let no : ⊥ = cc in no)
+    by_tests false false is = absurd (let no : ⊥ = cc in no)
+    by_tests false true is = absurd (let no : ⊥ = cc in no)
 memory_peer ranks me rank (touches.PostsOf named) is = by_tests (named == me) (nat_lt named ranks) is
   where
     by_tests : (same less : Bool) → (if same then Alone else (if less then PeerPosts named else Alone)) ≡ PeerMemory rank → IsPeer ranks me rank
     by_tests true less is = absurd (let no : ⊥ = cc in no)
     by_tests false false is = absurd (let no : ⊥ = cc in no)
     by_tests false true is = absurd (let no : ⊥ = cc in no)
+
+-- a peer whose memory is reached beside the own one
+pub both_peer : (ranks me rank : ℕ) (touch : Touch) → reach_of ranks me touch ≡ BothMemories rank → IsPeer ranks me rank
+both_peer ranks me rank touch is = let touched = both-touched ranks me rank touch is in record { apart = touched.1; within = ltb-true rank ranks touched.2 }
 
 -- a peer whose posts are reached
 pub posts_peer : (ranks me rank : ℕ) (touch : Touch) → reach_of ranks me touch ≡ PeerPosts rank → IsPeer ranks me rank
@@ -57,6 +68,12 @@ posts_peer ranks me rank touches.OwnMemory is = absurd (let no : ⊥ = cc in no)
 posts_peer ranks me rank (touches.MemoryOf named) is = by_tests (named == me) (nat_lt named ranks) is
   where
     by_tests : (same less : Bool) → (if same then OwnMemory else (if less then PeerMemory named else Alone)) ≡ PeerPosts rank → IsPeer ranks me rank
+    by_tests true less is = absurd (let no : ⊥ = cc in no)
+    by_tests false false is = absurd (let no : ⊥ = cc in no)
+    by_tests false true is = absurd (let no : ⊥ = cc in no)
+posts_peer ranks me rank (touches.BothMemories named) is = by_tests (named == me) (nat_lt named ranks) is
+  where
+    by_tests : (same less : Bool) → (if same then OwnMemory else (if less then BothMemories named else Alone)) ≡ PeerPosts rank → IsPeer ranks me rank
     by_tests true less is = absurd (let no : ⊥ = cc in no)
     by_tests false false is = absurd (let no : ⊥ = cc in no)
     by_tests false true is = absurd (let no : ⊥ = cc in no)
@@ -72,6 +89,7 @@ pub memory_as : (s : State) (me : ℕ) (posts : Posts) (reach : Reach) → worke
 memory_as s me posts Alone = refl
 memory_as s me posts OwnMemory = refl
 memory_as s me posts (PeerMemory rank) = refl
+memory_as s me posts (BothMemories rank) = refl
 memory_as s me posts (PeerPosts rank) = refl
 
 -- a part that is written back as it was
@@ -103,13 +121,13 @@ peer_kept all me rank posts apart =
 -- A call in the whole state: on its rank's posts and the memory that it works on, and then its peer is told.
 pub called_as : (s : State) (c : CallerId) (call : Call) (reply : Reply) (p : Posts) (reach : Reach) → slice_get s.posts c.rank ≡ Some p → call_reach s.limits c.rank call ≡ reach
     → step s (Called c call reply)
-    ≡ (call_lent s.limits s.posts (memory_at s.memories c.rank reach) c call reply
+    ≡ (call_lent s.limits s.posts (call_brought s c.rank call) (memory_at s.memories c.rank reach) c call reply
     >>= (λ w. Ok (record s { posts = with_peer_at reach (peer_after c.rank p call reply) w.posts; memories = with_memory_at s.memories c.rank reach w.memory })))
-called_as s c call reply p reach there is = by_reach reach is (called s.limits c.rank p (memory_at s.memories c.rank reach) c.thread call reply) refl
+called_as s c call reply p reach there is = by_reach reach is (called s.limits c.rank p (call_brought s c.rank call) (memory_at s.memories c.rank reach) c.thread call reply) refl
   where
-    by_reach : (reach : Reach) → call_reach s.limits c.rank call ≡ reach → (r : Result Worked Why) → called s.limits c.rank p (memory_at s.memories c.rank reach) c.thread call reply ≡ r
+    by_reach : (reach : Reach) → call_reach s.limits c.rank call ≡ reach → (r : Result Worked Why) → called s.limits c.rank p (call_brought s c.rank call) (memory_at s.memories c.rank reach) c.thread call reply ≡ r
         → step s (Called c call reply)
-        ≡ (call_lent s.limits s.posts (memory_at s.memories c.rank reach) c call reply
+        ≡ (call_lent s.limits s.posts (call_brought s c.rank call) (memory_at s.memories c.rank reach) c call reply
         >>= (λ w. Ok (record s { posts = with_peer_at reach (peer_after c.rank p call reply) w.posts; memories = with_memory_at s.memories c.rank reach w.memory })))
     by_reach Alone is (Ok w) steps = rw (there, is) rw steps refl
     by_reach Alone is (Err why) steps = rw (there, is) rw steps refl
@@ -117,6 +135,10 @@ called_as s c call reply p reach there is = by_reach reach is (called s.limits c
     by_reach OwnMemory is (Err why) steps = rw (there, is) rw steps refl
     by_reach (PeerMemory rank) is (Ok w) steps = rw (there, is) rw steps refl
     by_reach (PeerMemory rank) is (Err why) steps = rw (there, is) rw steps refl
+    by_reach (BothMemories rank) is (Ok w) steps =
+        rw (there, is) rw steps
+        (ap (λ (ms : List Memory). Ok (record s { posts = slice_set s.posts c.rank w.posts; memories = slice_set ms rank w.memory })) (written_back s.memories (Some c.rank)))
+    by_reach (BothMemories rank) is (Err why) steps = rw (there, is) rw steps refl
     by_reach (PeerPosts rank) is (Ok w) steps =
         let peer = posts_peer s.limits.ranks c.rank rank _ is in
         rw (there, is) rw steps
@@ -144,6 +166,11 @@ take_as s origin queue target number outcome p reach there is = by_reach reach i
         rw (there, is) rw steps
         (ap (λ (ms : List Memory). Ok (record s { posts = slice_set s.posts origin after; memories = ms })) (written_back s.memories (Some rank)))
     by_reach (PeerMemory rank) is (Err why) steps = rw (there, is) rw steps refl
+    by_reach (BothMemories rank) is (Ok after) steps =
+        rw (there, is) rw steps
+        (ap (λ (ms : List Memory). Ok (record s { posts = slice_set s.posts origin after; memories = with_part ms (Some rank) (slice_get s.memories rank) })) (written_back s.memories (Some origin))
+        ∙ ap (λ (ms : List Memory). Ok (record s { posts = slice_set s.posts origin after; memories = ms })) (written_back s.memories (Some rank)))
+    by_reach (BothMemories rank) is (Err why) steps = rw (there, is) rw steps refl
     by_reach (PeerPosts rank) is (Ok after) steps =
         let peer = posts_peer s.limits.ranks origin rank _ is in
         rw (there, is) rw steps (ap (λ (ps : List Posts). Ok (record s { posts = ps })) (peer_kept s.posts origin rank after peer.apart))
@@ -168,6 +195,10 @@ put_as s origin queue target number outcome p reach there is = by_reach reach is
     by_reach OwnMemory is (Err why) steps = rw (there, is) rw steps refl
     by_reach (PeerMemory rank) is (Ok w) steps = rw (there, is) rw steps refl
     by_reach (PeerMemory rank) is (Err why) steps = rw (there, is) rw steps refl
+    by_reach (BothMemories rank) is (Ok w) steps =
+        rw (there, is) rw steps
+        (ap (λ (ms : List Memory). Ok (record s { posts = slice_set s.posts origin w.posts; memories = slice_set ms rank w.memory })) (written_back s.memories (Some origin)))
+    by_reach (BothMemories rank) is (Err why) steps = rw (there, is) rw steps refl
     by_reach (PeerPosts rank) is (Ok w) steps =
         let peer = posts_peer s.limits.ranks origin rank _ is in
         rw (there, is) rw steps (ap (λ (ps : List Posts). Ok (record s { posts = ps })) (peer_kept s.posts origin rank w.posts peer.apart))
@@ -177,6 +208,7 @@ length-with : (memories : List Memory) (me : ℕ) (reach : Reach) (memory : Memo
 length-with memories me Alone memory = refl
 length-with memories me OwnMemory memory = length-set memories me memory
 length-with memories me (PeerMemory rank) memory = length-set memories rank memory
+length-with memories me (BothMemories rank) memory = length-set memories rank memory
 length-with memories me (PeerPosts rank) memory = refl
 
 -- A step that was made, read backwards.
@@ -186,7 +218,7 @@ pub record IsCalled (s t : State) (c : CallerId) (call : Call) (reply : Reply) :
   pub there : slice_get s.posts c.rank ≡ Some p
   pub memory : Memory
   pub after : Worked
-  pub steps : called s.limits c.rank p memory c.thread call reply ≡ Ok after
+  pub steps : called s.limits c.rank p (call_brought s c.rank call) memory c.thread call reply ≡ Ok after
   pub posts : with_peer_at (call_reach s.limits c.rank call) (peer_after c.rank p call reply) (slice_set s.posts c.rank after.posts) ≡ t.posts
   pub memories : length t.memories ≡ length s.memories
 
@@ -199,7 +231,7 @@ called_back s t c call reply is =
 
     same : (p : Posts) (after : Worked) (w : Lent) → ◌≡◌ {A = Result Lent Why} (Ok (record { posts = slice_set s.posts c.rank after.posts; memory = after.memory })) (Ok w)
         → ◌≡◌ {A = Result State Why} (Ok (record s { posts = with_peer_at reach (peer_after c.rank p call reply) w.posts; memories = with_memory_at s.memories c.rank reach w.memory })) (Ok t)
-        → slice_get s.posts c.rank ≡ Some p → called s.limits c.rank p (memory_at s.memories c.rank reach) c.thread call reply ≡ Ok after → IsCalled s t c call reply
+        → slice_get s.posts c.rank ≡ Some p → called s.limits c.rank p (call_brought s c.rank call) (memory_at s.memories c.rank reach) c.thread call reply ≡ Ok after → IsCalled s t c call reply
     same p after w lent is there steps =
         let a : record { posts = slice_set s.posts c.rank after.posts; memory = after.memory } ≡ w = cc in
         let b : record s { posts = with_peer_at reach (peer_after c.rank p call reply) w.posts; memories = with_memory_at s.memories c.rank reach w.memory } ≡ t = cc in
@@ -215,9 +247,9 @@ called_back s t c call reply is =
 
     by_posts : (p : Posts) → slice_get s.posts c.rank ≡ Some p → IsCalled s t c call reply
     by_posts p there =
-        bind_then (called s.limits c.rank p (memory_at s.memories c.rank reach) c.thread call reply >>= (λ after. Ok (record { posts = slice_set s.posts c.rank after.posts; memory = after.memory }))) _ _
+        bind_then (called s.limits c.rank p (call_brought s c.rank call) (memory_at s.memories c.rank reach) c.thread call reply >>= (λ after. Ok (record { posts = slice_set s.posts c.rank after.posts; memory = after.memory }))) _ _
         (rw there at (sym (called_as s c call reply p reach there refl) ∙ is)) (λ w lent more.
-        bind_then (called s.limits c.rank p (memory_at s.memories c.rank reach) c.thread call reply) _ _ lent (λ after steps done.
+        bind_then (called s.limits c.rank p (call_brought s c.rank call) (memory_at s.memories c.rank reach) c.thread call reply) _ _ lent (λ after steps done.
         same p after w done more there steps))
 
 pub record IsTaken (s t : State) (origin queue target number : ℕ) (outcome : Outcome) : Type 0 where
@@ -287,4 +319,5 @@ pub told_by : (P : List Posts → Type 0) (reach : Reach) (me : ℕ) (p : Posts)
 told_by P Alone me p call reply all kept changed = kept
 told_by P OwnMemory me p call reply all kept changed = kept
 told_by P (PeerMemory rank) me p call reply all kept changed = kept
+told_by P (BothMemories rank) me p call reply all kept changed = kept
 told_by P (PeerPosts rank) me p call reply all kept changed = changed rank (peer_after me p call reply) (peer_queues me p call reply)

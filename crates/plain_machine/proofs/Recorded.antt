@@ -1,5 +1,5 @@
 -- A look that is recorded in the whole state.
-use Rattle.std.proofs.Common.{◌≡◌, ℕ, ◌<◌, true, false, List, Option, None, Some, Result, Err, length, slice_get, refl, sym, ap, subst, ◌∙◌}
+use Rattle.std.proofs.Common.{◌≡◌, ℕ, ◌<◌, true, false, List, Option, None, Some, Result, Ok, Err, length, slice_get, refl, sym, ap, subst, ◌∙◌}
 use Rattle.std.proofs.lemmas.Option.{slice_get_within}
 use Rattle.gaspi_types.specs.Replies.{same_reply}
 use Rattle.gaspi_types.specs.declared.calls.Call.{Call}
@@ -11,7 +11,13 @@ use Rattle.gaspi_types.specs.declared.shapes.Limits.{Limits}
 use Rattle.gaspi_types.specs.declared.touches.Reach.{Reach}
 use Rattle.gaspi_model.specs.Calls.{answer, recorded_reply}
 use Rattle.gaspi_model.specs.State.{thread_at}
-use Rattle.gaspi_model.specs.Step.{step, Steps, called, is_declared, is_there}
+use Rattle.gaspi_model.specs.Step.{step, Steps, called, call_brought, is_declared, is_there}
+use Rattle.gaspi_model.specs.Transfers.{Worked}
+use Rattle.gaspi_types.specs.Checks.{◌>>=◌}
+use Rattle.gaspi_types.specs.declared.groups.Group.{Group}
+use Rattle.gaspi_types.specs.declared.inboxes.Message.{Message}
+use Rattle.plain_calls.specs.Looks.{BringsMessage}
+use Rattle.plain_calls.proofs.Looked.{brought_same}
 use Rattle.gaspi_model.specs.declared.states.Posts.{Posts}
 use Rattle.gaspi_model.specs.declared.states.Memory.{Memory}
 use Rattle.gaspi_model.specs.declared.states.State.{State}
@@ -42,7 +48,7 @@ declared_there s rank thread declared = by_item (slice_get s.posts rank) refl
 
 -- a call that is no step on its rank's posts is none
 refused : (s : State) (c : CallerId) (call : Call) (reply : Reply) (p : Posts) (why : Why) → slice_get s.posts c.rank ≡ Some p
-    → called s.limits c.rank p (memory_at s.memories c.rank (call_reach s.limits c.rank call)) c.thread call reply ≡ Err why → step s (Called c call reply) ≡ Err why
+    → called s.limits c.rank p (call_brought s c.rank call) (memory_at s.memories c.rank (call_reach s.limits c.rank call)) c.thread call reply ≡ Err why → step s (Called c call reply) ≡ Err why
 refused s c call reply p why there is = called_as s c call reply p (call_reach s.limits c.rank call) there refl ∙ (rw there rw is refl)
 
 pub undeclared : (s : State) (c : CallerId) (call : Call) (reply : Reply) → is_declared s c.rank c.thread ≡ false → step s (Called c call reply) ≡ Err whys.Caller
@@ -60,22 +66,37 @@ pub unanswered : (s : State) (c : CallerId) (call : Call) (reply : Reply) (look 
 unanswered s c call reply look declared finds other =
     let d = declared_there s c.rank c.thread declared in
     let ready : look.ready ≡ answer s.limits c.rank d.posts (memory_at s.memories c.rank (call_reach s.limits c.rank call)) c.thread call =
-    (finds d.posts d.item).ready ∙ ap (λ (m : Memory). answer s.limits c.rank d.posts m c.thread call) (memory_as s c.rank d.posts (call_reach s.limits c.rank call)) in
+    (finds.finds d.posts d.item).ready ∙ ap (λ (m : Memory). answer s.limits c.rank d.posts m c.thread call) (memory_as s c.rank d.posts (call_reach s.limits c.rank call)) in
     let differs : same_reply reply (recorded_reply (answer s.limits c.rank d.posts (memory_at s.memories c.rank (call_reach s.limits c.rank call)) c.thread call)) ≡ false =
     subst (λ (r : Ready). same_reply reply (recorded_reply r) ≡ false) ready other in
     refused s c call reply d.posts whys.Reply d.item (rw (d.there, differs) refl)
 
--- a new state of ranks whose limits are the same
-pub limits_as : (l l' : Limits) (posts : List Posts) (memories : List Memory) (result : Result (Unit {0}) StepFault) (s : State) (outcome : Result State Why) → l' ≡ l
-    → Steps result s (state_of l posts memories) outcome → Steps result s (state_of l' posts memories) outcome
-limits_as l l' posts memories result s outcome same steps = subst (λ (x : Limits). Steps result s (state_of x posts memories) outcome) (sym same) steps
+-- what a look brought is as good as what the call brings
+pub lent_same : (look : Finding) (limits : Limits) (all : List Posts) (brought : Option Message) (memory : Memory) (c : CallerId) (call : Call) → BringsMessage look brought
+    → call_lent limits all look.message memory c call (recorded_reply look.ready) ≡ call_lent limits all brought memory c call (recorded_reply look.ready)
+lent_same look limits all brought memory c call brings = by_item (slice_get all c.rank) refl
+  where
+    by_item : (o : Option Posts) → slice_get all c.rank ≡ o → call_lent limits all look.message memory c call (recorded_reply look.ready) ≡ call_lent limits all brought memory c call (recorded_reply look.ready)
+    by_item None there = rw there refl
+    by_item (Some posts) there =
+        rw there (ap (λ (r : Result Worked Why). r >>= (λ after. Ok (record { posts = slice_set all c.rank after.posts; memory = after.memory })))
+        (brought_same look brought limits c.rank posts memory c.thread call brings))
+
+-- a new state of ranks whose limits and groups are the same
+pub limits_as : (r r' : Ranks) (posts : List Posts) (memories : List Memory) (result : Result (Unit {0}) StepFault) (s : State) (outcome : Result State Why) → r'.limits ≡ r.limits → r'.groups ≡ r.groups
+    → Steps result s (state_of r.limits posts memories r.groups) outcome → Steps result s (state_of r'.limits posts memories r'.groups) outcome
+limits_as r r' posts memories result s outcome limits groups steps =
+    subst (λ (x : Limits). Steps result s (state_of x posts memories r'.groups) outcome) (sym limits)
+    (subst (λ (x : List Group). Steps result s (state_of r.limits posts memories x) outcome) (sym groups) steps)
 
 -- a call on the memory that it works on, among the ranks
-pub called_ranks : (ranks ranks' : Ranks) (memories : List Memory) (c : CallerId) (call : Call) (reply : Reply) (reach : Reach) (result : Result (Unit {0}) StepFault) (m m' : Memory)
+pub called_ranks : (ranks ranks' : Ranks) (memories : List Memory) (c : CallerId) (call : Call) (look : Finding) (reach : Reach) (result : Result (Unit {0}) StepFault) (m m' : Memory)
     → is_declared (state_in ranks memories) c.rank c.thread ≡ true → call_reach ranks.limits c.rank call ≡ reach → memory_at memories c.rank reach ≡ m → with_memory_at memories c.rank reach m ≡ memories
-    → ((change : Posts → Posts) (all : List Posts) → with_peer_at reach change all ≡ all) → ranks'.limits ≡ ranks.limits
-    → Steps {S = Lent} result (record { posts = ranks.posts; memory = m }) (record { posts = ranks'.posts; memory = m' }) (call_lent ranks.limits ranks.posts m c call reply)
-    → Steps result (state_in ranks memories) (state_in ranks' (with_memory_at memories c.rank reach m')) (step (state_in ranks memories) (Called c call reply))
-called_ranks ranks ranks' memories c call reply reach result m m' declared is memory kept silent limits steps =
-    limits_as ranks.limits ranks'.limits ranks'.posts (with_memory_at memories c.rank reach m') result (state_in ranks memories) _ limits
-    (called_steps (state_in ranks memories) c call reply reach result m ranks'.posts m' (declared_there (state_in ranks memories) c.rank c.thread declared).within is memory kept silent steps)
+    → ((change : Posts → Posts) (all : List Posts) → with_peer_at reach change all ≡ all) → ranks'.limits ≡ ranks.limits → ranks'.groups ≡ ranks.groups → IsFindingIn look (state_in ranks memories) c call
+    → Steps {S = Lent} result (record { posts = ranks.posts; memory = m }) (record { posts = ranks'.posts; memory = m' }) (call_lent ranks.limits ranks.posts look.message m c call (recorded_reply look.ready))
+    → Steps result (state_in ranks memories) (state_in ranks' (with_memory_at memories c.rank reach m')) (step (state_in ranks memories) (Called c call (recorded_reply look.ready)))
+called_ranks ranks ranks' memories c call look reach result m m' declared is memory kept silent limits groups finds steps =
+    limits_as ranks ranks' ranks'.posts (with_memory_at memories c.rank reach m') result (state_in ranks memories) _ limits groups
+    (called_steps (state_in ranks memories) c call (recorded_reply look.ready) reach result m ranks'.posts m' (declared_there (state_in ranks memories) c.rank c.thread declared).within is memory kept silent
+    (subst (λ (o : Result Lent Why). Steps {S = Lent} result (record { posts = ranks.posts; memory = m }) (record { posts = ranks'.posts; memory = m' }) o)
+    (lent_same look ranks.limits ranks.posts (call_brought (state_in ranks memories) c.rank call) m c call finds.message) steps))

@@ -10,6 +10,7 @@ use Rattle.gaspi_model.specs.State.{owed}
 use Rattle.gaspi_model.specs.Sound.{IsSound}
 use Rattle.gaspi_model.specs.Step.{transfer_event}
 use Rattle.gaspi_model.specs.Transfers.{transfers}
+use Rattle.gaspi_types.specs.declared.groups.Group.{Group}
 use Rattle.gaspi_model.specs.declared.states.Posts.{Posts}
 use Rattle.gaspi_model.specs.declared.states.Memory.{Memory}
 use Rattle.gaspi_model.specs.declared.states.State.{State}
@@ -18,12 +19,12 @@ use Rattle.plain_machine.specs.Standing.{standing_lanes}
 use Rattle.plain_machine.specs.declared.ranks.Ranks.{Ranks}
 use Rattle.plain_machine.specs.declared.standing.LaneId.{LaneId}
 
-abbrev pub state_of : Limits → List Posts → List Memory → State
-state_of limits posts memories = record { limits = limits; posts = posts; memories = memories }
+abbrev pub state_of : Limits → List Posts → List Memory → List Group → State
+state_of limits posts memories groups = record { limits = limits; posts = posts; memories = memories; groups = groups }
 
 -- the state of the ranks and their memories
 abbrev pub state_in : Ranks → List Memory → State
-state_in ranks memories = state_of ranks.limits ranks.posts memories
+state_in ranks memories = state_of ranks.limits ranks.posts memories ranks.groups
 
 -- the room that a rank has taken: what it has recorded, and what it owes
 abbrev pub taken_of : Posts → ℕ

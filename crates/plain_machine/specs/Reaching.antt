@@ -1,5 +1,6 @@
 -- What an event that reaches some parts works on, with the posts of all ranks and one memory lent. (own choice)
-use Rattle.std.specs.Prelude.{◌≡◌, ℕ, ◌≤◌, true, List, length, Some, Result, Ok, slice_get, slice_set}
+use Rattle.std.specs.Prelude.{◌≡◌, ℕ, ◌≤◌, true, List, length, Option, Some, Result, Ok, slice_get, slice_set}
+use Rattle.gaspi_types.specs.declared.inboxes.Message.{Message}
 use Rattle.gaspi_types.specs.CallRows.{row_of}
 use Rattle.gaspi_types.specs.Checks.{◌>>=◌, found}
 use Rattle.gaspi_types.specs.Touches.{reach_of}
@@ -11,8 +12,8 @@ use Rattle.gaspi_types.specs.declared.shapes.CallerId.{CallerId}
 use Rattle.gaspi_types.specs.declared.shapes.Limits.{Limits}
 use Rattle.gaspi_types.specs.declared.touches.Touch.{Touch}
 use Rattle.gaspi_types.specs.declared.touches.Reach.{Reach}
-use Rattle.gaspi_types.specs.declared.touches.Reach.TheVariants.{Alone, OwnMemory, PeerMemory, PeerPosts}
-use Rattle.gaspi_model.specs.Parts.{no_memory, memory_or_none}
+use Rattle.gaspi_types.specs.declared.touches.Reach.TheVariants.{Alone, OwnMemory, PeerMemory, BothMemories, PeerPosts}
+use Rattle.gaspi_model.specs.Parts.{no_memory, memory_or_none, part_at, touched_of}
 use Rattle.gaspi_types.specs.Tables.{changed_at}
 use Rattle.gaspi_model.specs.Sound.{IsSoundPosts}
 use Rattle.gaspi_model.specs.Step.{called, entry_touch}
@@ -35,13 +36,19 @@ abbrev pub memory_at : List Memory → ℕ → Reach → Memory
 memory_at memories me Alone = no_memory
 memory_at memories me OwnMemory = memory_or_none (slice_get memories me)
 memory_at memories me (PeerMemory rank) = memory_or_none (slice_get memories rank)
+memory_at memories me (BothMemories rank) = memory_or_none (slice_get memories rank)
 memory_at memories me (PeerPosts rank) = no_memory
+
+-- the own memory of a rank, where it is reached; else one with no segment
+abbrev pub own_at : List Memory → ℕ → Reach → Memory
+own_at memories me reach = memory_or_none (part_at memories (touched_of me reach).memory)
 
 -- the memories with that one replaced
 abbrev pub with_memory_at : List Memory → ℕ → Reach → Memory → List Memory
 with_memory_at memories me Alone memory = memories
 with_memory_at memories me OwnMemory memory = slice_set memories me memory
 with_memory_at memories me (PeerMemory rank) memory = slice_set memories rank memory
+with_memory_at memories me (BothMemories rank) memory = slice_set memories rank memory
 with_memory_at memories me (PeerPosts rank) memory = memories
 
 -- the posts of all ranks, with those of the peer that is reached changed
@@ -49,6 +56,7 @@ abbrev pub with_peer_at : Reach → (Posts → Posts) → List Posts → List Po
 with_peer_at Alone change all = all
 with_peer_at OwnMemory change all = all
 with_peer_at (PeerMemory rank) change all = all
+with_peer_at (BothMemories rank) change all = all
 with_peer_at (PeerPosts rank) change all = changed_at all rank change
 
 -- the posts of all ranks, and one memory
@@ -56,11 +64,11 @@ pub record Lent : Type 0 where
   pub posts : List Posts
   pub memory : Memory
 
--- a call on those
-abbrev pub call_lent : Limits → List Posts → Memory → CallerId → Call → Reply → Result Lent Why
-call_lent limits all memory c call reply = do
+-- a call on those, with the message that it brings
+abbrev pub call_lent : Limits → List Posts → Option Message → Memory → CallerId → Call → Reply → Result Lent Why
+call_lent limits all brought memory c call reply = do
   posts ← found (slice_get all c.rank) whys.Caller
-  after ← called limits c.rank posts memory c.thread call reply
+  after ← called limits c.rank posts brought memory c.thread call reply
   Ok (record { posts = slice_set all c.rank after.posts; memory = after.memory })
 
 -- the posts of all ranks are sound

@@ -15,7 +15,7 @@ ghost use Rattle.plain_machine.specs.Reaching.{call_reach, Lent, call_lent, AreR
 ghost use Rattle.plain_machine.specs.Standing.{standing_lanes};
 
 use crate::ranks::Ranks;
-use crate::reaching::{call_reach, no_memory, worked_memory};
+use crate::reaching::{call_reach, no_memory, own_memory, worked_memory};
 use crate::standing::{LaneId, has_entry, look_lane, look_purge, name_lane, unname_queue};
 use gaspi_model::{Memory, StepFault, Why};
 use gaspi_types::{Call, CallerId, NoMemory, RankId, Reach, Reply, Rows};
@@ -32,7 +32,7 @@ pub fn has_section(ranks: &Ranks, caller: &CallerId) -> bool
     }
 }
 
-/// Looks at a call of a caller. Only a load and the post of a list take memory.
+/// Looks at a call of a caller. Only a load, the post of a list and a send take memory.
 pub fn look_in(
     ranks: &Ranks,
     memories: &Rows<Memory>,
@@ -52,6 +52,7 @@ pub fn look_in(
         &ranks.limits,
         caller.rank,
         ranks.posts.at(caller.rank.index()),
+        own_memory(memories, &none, caller.rank, reach),
         worked_memory(memories, &none, caller.rank, reach),
         caller.thread,
         call,
@@ -72,9 +73,10 @@ fn record_on(
     requires there { caller.rank < length ranks.old.posts }
     requires look { (posts : Posts) → slice_get ranks.old.posts caller.rank ≡ Some posts → IsFindingOn look ranks.old.limits posts memory.old caller call.now }
     ensures reply { IfOk result (λ reply. reply ≡ recorded_reply look.ready) }
-    ensures step { Steps {S = Lent} (made_of result) (record { posts = ranks.old.posts; memory = memory.old }) (record { posts = ranks.new.posts; memory = memory.new }) (call_lent ranks.old.limits ranks.old.posts memory.old caller call.now (recorded_reply look.ready)) }
+    ensures step { Steps {S = Lent} (made_of result) (record { posts = ranks.old.posts; memory = memory.old }) (record { posts = ranks.new.posts; memory = memory.new }) (call_lent ranks.old.limits ranks.old.posts look.message memory.old caller call.now (recorded_reply look.ready)) }
     ensures ranks { length ranks.new.posts ≡ length ranks.old.posts }
     ensures limits { ranks.new.limits ≡ ranks.old.limits }
+    ensures groups { ranks.new.groups ≡ ranks.old.groups }
     ensures taken { ranks.new.taken ≡ map taken_of ranks.new.posts }
     ensures ample { keeps_memory call.now ≡ false → result ≢ Err StepFault.NoMemory }
 {
@@ -155,6 +157,10 @@ fn record_in(
             record_on(ranks, memory, alloc, caller, call, look)
         }
         Reach::PeerMemory(peer) => {
+            let memory = memories.at_mut(peer.index());
+            record_on(ranks, memory, alloc, caller, call, look)
+        }
+        Reach::BothMemories(peer) => {
             let memory = memories.at_mut(peer.index());
             record_on(ranks, memory, alloc, caller, call, look)
         }

@@ -14,7 +14,7 @@ ghost use Rattle.plain_machine.specs.Machine.{is_still};
 
 use crate::listing::{transfer_at, transfer_count, transfers};
 use crate::looking::{has_section, look_in, record_named};
-use crate::opening::{all_memories, all_posts, all_taken};
+use crate::opening::{all_groups, all_memories, all_posts, all_taken};
 use crate::ranks::Ranks;
 use crate::standing::LaneId;
 use crate::steps::{make, step};
@@ -81,6 +81,7 @@ impl Machine {
                 limits,
                 posts: all_posts(alloc, shape)?,
                 taken: all_taken(alloc, shape)?,
+                groups: all_groups(alloc, shape)?,
             },
             memories: all_memories(alloc, shape)?,
             standing: Vec::new(alloc),
@@ -89,7 +90,7 @@ impl Machine {
     }
 
     /// Steps by an event. At Ok the step's state stands; an illegal event is no step, for that cause, and changed
-    /// nothing; without memory nothing changed. Loads, posts, takes and segments that are made alone may want memory.
+    /// nothing; without memory nothing changed. Loads, posts, sends, takes and segments that are made alone may want memory.
     pub fn step(&mut self, alloc: Global, event: &Event) -> Result<(), StepFault>
         ensures step { Steps result self.old self.new (step self.old event.now) }
         ensures ample { takes_memory event.now ≡ false → result ≢ Err StepFault.NoMemory }
@@ -106,7 +107,7 @@ impl Machine {
     }
 
     /// Looks at a call of a caller: its refusal or its reply, or that it is not ready, and what it asks to be appended. Only
-    /// a load takes memory, for the bytes that it reads, and the post of a list, for its entries.
+    /// a load takes memory, for the bytes that it reads, the post of a list, for its entries, and a send, for its message.
     pub fn look(&self, alloc: Global, caller: CallerId, call: &Call) -> Result<Finding, NoMemory>
         requires { is_declared self.now caller.rank caller.thread ≡ true }
         ensures look { IfOk result (λ look. IsFindingIn look self.now caller call.now) }
@@ -118,7 +119,8 @@ impl Machine {
 
     /// Records a look at a call: the step by the call with what the look found. It gives the reply with which the call was
     /// recorded. The look is one of this very call in this very state, so that nothing is looked for again, and an event
-    /// that is no step is one for which the rank has no room. Posts and segments that are made alone may want memory.
+    /// that is no step is one for which the rank has no room. Posts, messages and segments that are made alone may want
+    /// memory.
     pub fn record(
         &mut self,
         alloc: Global,
@@ -145,8 +147,8 @@ impl Machine {
         )
     }
 
-    /// What a look at a call answers: its refusal or its reply, or that it is not ready. Only a load and the post of a list
-    /// take memory.
+    /// What a look at a call answers: its refusal or its reply, or that it is not ready. Only a load, the post of a list
+    /// and a send take memory.
     pub fn answer(&self, alloc: Global, caller: CallerId, call: &Call) -> Result<Ready, NoMemory>
         requires { is_declared self.now caller.rank caller.thread ≡ true }
         ensures answer { IfOk result (λ ready. answer_in self.now caller.rank caller.thread call.now ≡ Some ready) }

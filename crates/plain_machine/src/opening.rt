@@ -1,15 +1,17 @@
 //! The state at the start: the shape's segments and callers, all else zero or empty. (GASPI: segments)
 
-ghost use Rattle.std.specs.Prelude.{◌≡◌, ◌+◌, ◌<◌, ◌≤◌, IfOk, replicate, map, count_by, [], false};
+ghost use Rattle.std.specs.Prelude.{◌≡◌, ◌+◌, ◌<◌, ◌≤◌, IfOk, replicate, map, count_by, [], None, false};
 ghost use Rattle.std.specs.Option.{option_map};
 ghost use Rattle.std.specs.List.{list_any, range_with_len};
 ghost use Rattle.gaspi_types.specs.Segments.{new_segment};
 ghost use Rattle.gaspi_types.specs.World.{is_caller};
-ghost use Rattle.gaspi_model.specs.State.{declared_size, opening_extents, opening_generations, opening_thread, opening_queue, opening_table, opening_posts, opening_segments, opening_slots, opening_memory, new_slots, is_running};
+ghost use Rattle.gaspi_model.specs.State.{declared_size, opening_extents, opening_generations, opening_thread, opening_queue, opening_table, opening_posts, opening_segments, opening_slots, opening_memory, opening_part, opening_group, new_slots, is_running};
+ghost use Rattle.gaspi_types.specs.Groups.{opening_handles};
 
 use gaspi_model::{Memory, Posts, ThreadState};
 use gaspi_types::{
-    Entry, Extent, Extents, NoMemory, OwnSegments, Queue, Rows, Segment, SegmentTable, Shape,
+    Entry, Extent, Extents, Group, Handle, Handles, NoMemory, OwnSegments, Part, Pending, Queue,
+    Rows, Segment, SegmentTable, Shape, Stage, all_below,
 };
 use plain_calls::{is_running, new_slots};
 use segment_tables::new_segment;
@@ -158,15 +160,41 @@ fn opening_table(alloc: Global, shape: &Shape, rank: u32) -> Result<SegmentTable
     })
 }
 
+/// The groups of a rank: group 0 alone, which has every rank.
+fn opening_handles(alloc: Global, ranks: u32) -> Result<Handles, NoMemory>
+    requires { ranks ≤ 16 }
+    ensures { IfOk result (λ groups. groups ≡ opening_handles ranks) }
+{
+    let mut table = Rows::from_vec(vec![in alloc; None; 8]?);
+    *table.at_mut(0) = Some(Handle {
+        stage: Stage::Committed,
+        members: all_below(ranks),
+    });
+    Ok(Handles { table, made: 0 })
+}
+
+/// No collective is pending on any group.
+fn opening_pending(alloc: Global) -> Result<Rows<Option<Pending>>, NoMemory>
+    ensures { IfOk result (λ pending. pending ≡ replicate 8 None) }
+{
+    let mut pending = Rows::new(alloc);
+    for _group in 0..8u32 {
+        pending.push(None)?;
+    }
+    Ok(pending)
+}
+
 /// The posts of a rank.
 fn opening_posts(alloc: Global, shape: &Shape, rank: u32) -> Result<Posts, NoMemory>
     ensures { IfOk result (λ posts. posts ≡ opening_posts shape.now rank) }
 {
-    let ranks = shape.ranks();
+    let ranks = shape.limits().ranks;
     Ok(Posts {
         queues: opening_queues(alloc, shape.queues(), ranks)?,
         corrupt: opening_corrupt(alloc, ranks)?,
         segments: opening_table(alloc, shape, rank)?,
+        groups: opening_handles(alloc, ranks)?,
+        pending: opening_pending(alloc)?,
         threads: opening_threads(alloc, shape, rank)?,
         events: 0,
         next: 0,
@@ -238,6 +266,7 @@ fn opening_memory(alloc: Global, shape: &Shape, rank: u32) -> Result<Memory, NoM
     Ok(Memory {
         segments: opening_segments(alloc, shape, rank)?,
         slots: opening_slots(alloc, shape, rank)?,
+        inbox: Rows::with_room(alloc, shape.inbox() as usize)?,
     })
 }
 
@@ -275,4 +304,47 @@ pub fn all_taken(alloc: Global, shape: &Shape) -> Result<Rows<u32>, NoMemory>
         taken.push(opening_taken(shape, rank))?;
     }
     Ok(taken)
+}
+
+/// The part of each rank in a group, to which none has contributed.
+fn opening_parts(alloc: Global, ranks: u32) -> Result<Rows<Part>, NoMemory>
+    ensures { IfOk result (λ parts. parts ≡ replicate ranks opening_part) }
+{
+    let mut parts = Rows::new(alloc);
+    for _rank in 0..ranks {
+        parts.push(Part {
+            contributions: Rows::new(alloc),
+            completed: 0,
+        })?;
+    }
+    Ok(parts)
+}
+
+/// A group.
+fn opening_group(alloc: Global, ranks: u32, group: u32) -> Result<Group, NoMemory>
+    requires { ranks ≤ 16 }
+    ensures { IfOk result (λ x. x ≡ opening_group ranks group) }
+{
+    let members = if group == 0 {
+        Some(all_below(ranks))
+    } else {
+        None
+    };
+    Ok(Group {
+        members,
+        parts: opening_parts(alloc, ranks)?,
+    })
+}
+
+/// Each group.
+#[tactic(auto, using(crate::proofs::Ranges::map_range_more))]
+pub fn all_groups(alloc: Global, shape: &Shape) -> Result<Rows<Group>, NoMemory>
+    ensures { IfOk result (λ groups. groups ≡ map (opening_group shape.now.limits.ranks) (range_with_len 0 8)) }
+{
+    let ranks = shape.limits().ranks;
+    let mut groups = Rows::new(alloc);
+    for group in 0..8 {
+        groups.push(opening_group(alloc, ranks, group)?)?;
+    }
+    Ok(groups)
 }

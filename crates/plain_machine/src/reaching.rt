@@ -2,7 +2,7 @@
 
 ghost use Rattle.std.specs.Prelude.{◌≡◌, ◌≤◌, slice_get};
 ghost use Rattle.gaspi_model.specs.Parts.{no_memory, memory_or_none};
-ghost use Rattle.plain_machine.specs.Reaching.{call_reach, memory_at};
+ghost use Rattle.plain_machine.specs.Reaching.{call_reach, memory_at, own_at};
 
 use gaspi_model::Memory;
 use gaspi_types::{Call, Limits, RankId, Reach, Rows};
@@ -23,6 +23,7 @@ pub fn no_memory(alloc: Global) -> Memory
     Memory {
         segments: Rows::new(alloc),
         slots: Rows::new(alloc),
+        inbox: Rows::new(alloc),
     }
 }
 
@@ -49,7 +50,23 @@ pub fn worked_memory<'a>(
 {
     match reach {
         Reach::OwnMemory => memory_of(memories, none, me),
-        Reach::PeerMemory(rank) => memory_of(memories, none, rank),
+        Reach::PeerMemory(rank) | Reach::BothMemories(rank) => memory_of(memories, none, rank),
         Reach::Alone | Reach::PeerPosts(_) => none,
+    }
+}
+
+/// The own memory of a rank, to be read by an event that reaches it; where none does, one with no segment.
+pub fn own_memory<'a>(
+    memories: &'a Rows<Memory>,
+    none: &'a Memory,
+    me: RankId,
+    reach: Reach,
+) -> &'a Memory
+    requires { none.now ≡ no_memory }
+    ensures { result.now ≡ own_at memories.now me reach }
+{
+    match reach {
+        Reach::OwnMemory | Reach::BothMemories(_) => memory_of(memories, none, me),
+        Reach::Alone | Reach::PeerMemory(_) | Reach::PeerPosts(_) => none,
     }
 }

@@ -2,7 +2,7 @@
 
 ghost use Rattle.std.specs.Prelude.{◌≡◌, ◌≢◌, ◌<◌, ℕ, List, length, map, IfOk, Err, true, false};
 ghost use Rattle.gaspi_types.specs.declared.events.Event.TheVariants.{Take, Put};
-ghost use Rattle.gaspi_types.specs.declared.touches.Reach.TheVariants.{PeerMemory};
+ghost use Rattle.gaspi_types.specs.declared.touches.Reach.TheVariants.{PeerMemory, BothMemories};
 ghost use Rattle.gaspi_model.specs.Step.{step, Steps, transfer_event};
 ghost use Rattle.gaspi_model.specs.declared.states.Memory.{Memory};
 ghost use Rattle.plain_calls.specs.Looks.{made_of};
@@ -84,13 +84,16 @@ fn put_reached(
 ) -> Result<Outcome, StepFault>
     requires own { me < length memories.old }
     requires peer { (rank : ℕ) → reach ≡ PeerMemory rank → rank < length memories.old }
+    requires both { (rank : ℕ) → reach ≡ BothMemories rank → rank < length memories.old }
     ensures outcome { IfOk result (λ outcome. outcome ≡ reached_outcome given memories.old me reach (found_at at.now)) }
     ensures step { Steps {S = List Memory} (made_of result) memories.old memories.new (memories_after_put memories.old me reach (found_at at.now) (reached_outcome given memories.old me reach (found_at at.now))) }
     ensures ample { result ≢ Err StepFault.NoMemory }
 {
     match reach {
         Reach::OwnMemory => put_bytes(memories.at_mut(me.index()), at, given),
-        Reach::PeerMemory(peer) => put_bytes(memories.at_mut(peer.index()), at, given),
+        Reach::PeerMemory(peer) | Reach::BothMemories(peer) => {
+            put_bytes(memories.at_mut(peer.index()), at, given)
+        }
         Reach::Alone | Reach::PeerPosts(_) => {
             let mut none = no_memory(alloc);
             put_bytes(&mut none, at, given)

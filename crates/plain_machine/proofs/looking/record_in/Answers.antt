@@ -1,5 +1,5 @@
 use Rattle.std.proofs.Common.{sym, refl, ◌∙◌}
-use Rattle.gaspi_types.specs.declared.touches.Reach.TheVariants.{Alone, OwnMemory, PeerMemory}
+use Rattle.gaspi_types.specs.declared.touches.Reach.TheVariants.{Alone, OwnMemory, PeerMemory, BothMemories}
 use Rattle.gaspi_model.specs.Calls.{recorded_reply}
 use Rattle.gaspi_types.proofs.Items.{set-there}
 use Rattle.plain_calls.specs.Looks.{made_of}
@@ -8,19 +8,26 @@ use Rattle.plain_machine.proofs.looking.record_in.Goals as goal
 
 pub returns-in-Alone-clause-step : goal.returns-in-Alone-clause-step
 returns-in-Alone-clause-step c =
-    called_ranks c.args.ranks.now c.record_on.new.ranks c.args.memories.now c.args.caller c.args.call.now (recorded_reply c.args.look.ready) Alone (made_of c.record_on.result) _ c.record_on.new.memory
-    c.requires.declared (sym c.call_reach.ensures ∙ c.in-Alone.is) (sym c.no_memory-none.ensures) refl (λ change all. refl) c.record_on.ensures.limits c.record_on.ensures.step
+    called_ranks c.args.ranks.now c.record_on.new.ranks c.args.memories.now c.args.caller c.args.call.now c.args.look Alone (made_of c.record_on.result) _ c.record_on.new.memory
+    c.requires.declared (sym c.call_reach.ensures ∙ c.in-Alone.is) (sym c.no_memory-none.ensures) refl (λ change all. refl) c.record_on.ensures.limits c.record_on.ensures.groups c.requires.look c.record_on.ensures.step
 
 pub returns-in-OwnMemory-clause-step : goal.returns-in-OwnMemory-clause-step
 returns-in-OwnMemory-clause-step c =
     let there = rw c.index.ensures.value at c.at_mut-memory.ensures.value in
     rw c.index.ensures.value
-    (called_ranks c.args.ranks.now c.record_on-in-OwnMemory.new.ranks c.args.memories.now c.args.caller c.args.call.now (recorded_reply c.args.look.ready) OwnMemory (made_of c.record_on-in-OwnMemory.result) _ c.record_on-in-OwnMemory.new.memory
-    c.requires.declared (sym c.call_reach.ensures ∙ c.in-OwnMemory.is) (rw there refl) (set-there c.args.memories.now c.args.caller.rank _ there) (λ change all. refl) c.record_on-in-OwnMemory.ensures.limits c.record_on-in-OwnMemory.ensures.step)
+    (called_ranks c.args.ranks.now c.record_on-in-OwnMemory.new.ranks c.args.memories.now c.args.caller c.args.call.now c.args.look OwnMemory (made_of c.record_on-in-OwnMemory.result) _ c.record_on-in-OwnMemory.new.memory
+    c.requires.declared (sym c.call_reach.ensures ∙ c.in-OwnMemory.is) (rw there refl) (set-there c.args.memories.now c.args.caller.rank _ there) (λ change all. refl) c.record_on-in-OwnMemory.ensures.limits c.record_on-in-OwnMemory.ensures.groups c.requires.look c.record_on-in-OwnMemory.ensures.step)
 
 pub returns-in-PeerMemory-clause-step : goal.returns-in-PeerMemory-clause-step
 returns-in-PeerMemory-clause-step c =
     let there = rw c.index-in-PeerMemory.ensures.value at c.at_mut-memory-in-PeerMemory.ensures.value in
     rw c.index-in-PeerMemory.ensures.value
-    (called_ranks c.args.ranks.now c.record_on-in-PeerMemory.new.ranks c.args.memories.now c.args.caller c.args.call.now (recorded_reply c.args.look.ready) (PeerMemory c.in-PeerMemory.peer) (made_of c.record_on-in-PeerMemory.result) _ c.record_on-in-PeerMemory.new.memory
-    c.requires.declared (sym c.call_reach.ensures ∙ c.in-PeerMemory.is) (rw there refl) (set-there c.args.memories.now c.in-PeerMemory.peer _ there) (λ change all. refl) c.record_on-in-PeerMemory.ensures.limits c.record_on-in-PeerMemory.ensures.step)
+    (called_ranks c.args.ranks.now c.record_on-in-PeerMemory.new.ranks c.args.memories.now c.args.caller c.args.call.now c.args.look (PeerMemory c.in-PeerMemory.peer) (made_of c.record_on-in-PeerMemory.result) _ c.record_on-in-PeerMemory.new.memory
+    c.requires.declared (sym c.call_reach.ensures ∙ c.in-PeerMemory.is) (rw there refl) (set-there c.args.memories.now c.in-PeerMemory.peer _ there) (λ change all. refl) c.record_on-in-PeerMemory.ensures.limits c.record_on-in-PeerMemory.ensures.groups c.requires.look c.record_on-in-PeerMemory.ensures.step)
+
+pub returns-in-BothMemories-clause-step : goal.returns-in-BothMemories-clause-step
+returns-in-BothMemories-clause-step c =
+    let there = rw c.index-in-BothMemories.ensures.value at c.at_mut-memory-in-BothMemories.ensures.value in
+    rw c.index-in-BothMemories.ensures.value
+    (called_ranks c.args.ranks.now c.record_on-in-BothMemories.new.ranks c.args.memories.now c.args.caller c.args.call.now c.args.look (BothMemories c.in-BothMemories.peer) (made_of c.record_on-in-BothMemories.result) _ c.record_on-in-BothMemories.new.memory
+    c.requires.declared (sym c.call_reach.ensures ∙ c.in-BothMemories.is) (rw there refl) (set-there c.args.memories.now c.in-BothMemories.peer _ there) (λ change all. refl) c.record_on-in-BothMemories.ensures.limits c.record_on-in-BothMemories.ensures.groups c.requires.look c.record_on-in-BothMemories.ensures.step)

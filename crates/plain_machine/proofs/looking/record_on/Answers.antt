@@ -25,7 +25,7 @@ returns-clause-step c =
     let there = rw c.index-rank.ensures.value at c.at_mut.ensures.value in
     rw c.index-rank.ensures.value
     (lent_steps (made_of c.record.result) c.args.ranks.now.posts c.args.caller.rank _ _ _ _ whys.Caller
-    (λ p m. called c.args.ranks.now.limits c.args.caller.rank p m c.args.caller.thread c.args.call.now (recorded_reply c.args.look.ready)) there c.record.ensures.step)
+    (λ p m. called c.args.ranks.now.limits c.args.caller.rank p c.args.look.message m c.args.caller.thread c.args.call.now (recorded_reply c.args.look.ready)) there c.record.ensures.step)
 
 pub returns-clause-taken : goal.returns-clause-taken
 returns-clause-taken c =

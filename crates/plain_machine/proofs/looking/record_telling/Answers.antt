@@ -11,7 +11,7 @@ returns-in-Ok-clause-step c =
     let own = rw c.index.ensures.value at c.at.ensures in
     let peer = rw c.index-in-Ok.ensures.value at c.at_mut.ensures.value in
     rw c.index-in-Ok.ensures.value
-    (limits_as c.args.ranks.now.limits c.record_on.new.ranks.limits _ c.args.memories.now (Ok tt) (state_in c.args.ranks.now c.args.memories.now) _ c.in-Ok.ensures.limits
+    (limits_as c.args.ranks.now c.record_on.new.ranks _ c.args.memories.now (Ok tt) (state_in c.args.ranks.now c.args.memories.now) _ c.in-Ok.ensures.limits c.in-Ok.ensures.groups
     (called_telling (state_in c.args.ranks.now c.args.memories.now) c.args.caller c.args.call.now (recorded_reply c.args.look.ready) c.args.peer _ _ _ _ _ c.record_on.new.ranks.posts
     own c.requires.reach c.no_memory-none.ensures peer (c.tell.ensures ∙ c.news-news.ensures _) c.in-Ok.ensures.step))
 
@@ -23,6 +23,6 @@ returns-in-Ok-clause-taken c =
 pub returns-clause-step : goal.returns-clause-step
 returns-clause-step c =
     let own = rw c.index.ensures.value at c.at.ensures in
-    limits_as c.args.ranks.now.limits c.record_on.new.ranks.limits _ c.args.memories.now (Err c.in-Err.fault) (state_in c.args.ranks.now c.args.memories.now) _ c.in-Err.ensures.limits
+    limits_as c.args.ranks.now c.record_on.new.ranks _ c.args.memories.now (Err c.in-Err.fault) (state_in c.args.ranks.now c.args.memories.now) _ c.in-Err.ensures.limits c.in-Err.ensures.groups
     (called_untold (state_in c.args.ranks.now c.args.memories.now) c.args.caller c.args.call.now (recorded_reply c.args.look.ready) c.args.peer _ _ _ c.record_on.new.ranks.posts c.in-Err.fault
     own c.requires.reach c.no_memory-none.ensures c.in-Err.ensures.step)
