@@ -8,7 +8,7 @@ ghost use Rattle.gaspi_types.specs.Replies.{is_idle, same_reply};
 ghost use Rattle.std.specs.List.{list_any, count_by};
 ghost use Rattle.gaspi_types.specs.World.{World, IsWorld, is_caller};
 ghost use Rattle.gaspi_types.specs.declared.calls.Call.{Call};
-ghost use Rattle.gaspi_types.specs.declared.calls.Call.TheVariants.{Alloc, Register, Delete, Store, Load, Write, Read, Notify, WriteNotify, ReadNotify, WriteList, WriteListNotify, ReadList, ReadListNotify, Wait, Purge, Qsize, Waitsome, Reset, FetchAdd, CompareSwap, End};
+ghost use Rattle.gaspi_types.specs.declared.calls.Call.TheVariants.{Alloc, Register, Delete, Store, Load, Write, Read, Notify, WriteNotify, ReadNotify, WriteList, WriteListNotify, ReadList, ReadListNotify, Wait, Purge, Qsize, Waitsome, Reset, PassiveSend, PassiveReceive, FetchAdd, CompareSwap, GroupCreate, GroupAdd, GroupDelete, End};
 ghost use Rattle.gaspi_types.specs.declared.calls.Call.TheVariants as calls;
 ghost use Rattle.gaspi_types.specs.SegmentBytes.{range_of};
 ghost use Rattle.gaspi_types.specs.SegmentWords.{word_at};
@@ -32,8 +32,12 @@ ghost use Rattle.gaspi_types.specs.declared.calls.posts.WriteList as write_list;
 ghost use Rattle.gaspi_types.specs.declared.calls.posts.WriteListNotify as write_list_notify;
 ghost use Rattle.gaspi_types.specs.declared.calls.posts.ReadList as read_list;
 ghost use Rattle.gaspi_types.specs.declared.calls.posts.ReadListNotify as read_list_notify;
+ghost use Rattle.gaspi_types.specs.declared.calls.passive.PassiveSend as send;
+ghost use Rattle.gaspi_types.specs.declared.calls.passive.PassiveReceive as receive;
 ghost use Rattle.gaspi_types.specs.declared.calls.atomics.FetchAdd as fetch_add;
 ghost use Rattle.gaspi_types.specs.declared.calls.atomics.CompareSwap as compare_swap;
+ghost use Rattle.gaspi_types.specs.declared.calls.groups.GroupAdd as group_add;
+ghost use Rattle.gaspi_types.specs.declared.calls.groups.GroupDelete as group_delete;
 ghost use Rattle.gaspi_types.specs.declared.events.Event.{Event};
 ghost use Rattle.gaspi_types.specs.declared.events.Event.TheVariants.{Called, Take, Put};
 ghost use Rattle.gaspi_types.specs.declared.events.Outcome.TheVariants.{Applied, Failed};
@@ -44,7 +48,7 @@ ghost use Rattle.gaspi_types.specs.declared.replies.Reply.{Reply};
 ghost use Rattle.gaspi_types.specs.declared.replies.Reply.TheVariants as replies;
 ghost use Rattle.gaspi_types.specs.declared.shapes.CallerId.{CallerId};
 ghost use Rattle.gaspi_model.specs.Calls.{recorded_reply};
-ghost use Rattle.gaspi_model.specs.Changes.{IsOnlyCounted, IsAnswered, IsRead, AreSlotsRead, IsReset, IsWaited, IsPurged, IsSizeAnswered, IsStateAnswered, IsMade, IsGone, IsPutDone, IsFailed, IsTaken, IsRegistered, IsWritten, is_corrupt, may_take_fail, may_put_fail};
+ghost use Rattle.gaspi_model.specs.Changes.{IsOnlyCounted, IsAnswered, IsRead, AreSlotsRead, IsReset, IsWaited, IsPurged, IsSizeAnswered, IsStateAnswered, IsMade, IsGone, IsPutDone, IsFailed, IsTaken, IsRegistered, IsWritten, IsPosted, IsSent, IsReceived, IsGroupMade, IsGroupAdded, IsGroupDropped, is_corrupt, may_take_fail, may_put_fail};
 ghost use Rattle.gaspi_types.specs.Lanes.{is_write, is_read};
 ghost use Rattle.gaspi_model.specs.Order.{AreStanding, IsNotificationStanding, IsReadNoteStanding, IsReadStanding, IsWriteStanding, is_purge_of};
 ghost use Rattle.gaspi_model.specs.Shards.{AgreeOn, ComeToSame, HaveSamePart, is_shard, same_shard, footprint, numbers_of, is_among};
@@ -102,8 +106,14 @@ pub fn enabled()
 /// the size of a queue is its open count; and the state vector has bit r exactly where rank r is corrupt for the caller's
 /// rank. A load and a `waitsome` answer what stands there, and a reset takes it. A store
 /// changes exactly its range, and an atomic, which answers what stood there, exactly its word, a `compare_swap` only where it
-/// answers the comparator. A refusal or a timeout changes nothing; and in each case nothing else has changed but the count
-/// of events. (GASPI: one-sided communication, notifications, state vector, segments, atomics, timeouts)
+/// answers the comparator. A post that is done appends exactly the entries that it asks for to the lane of its queue and of
+/// the rank that it names, posted, with numbers one after another from its rank's next number on, and the queue, which is not
+/// broken, has room for them. A send puts one message, of the caller's rank and with the bytes of its range, at the end of the
+/// inbox of the rank that it names, which may be its own; a receive takes the first message of its rank's inbox, writes its
+/// bytes, no more, into its range, and answers who sent it. A group that is made has the next number of its rank, is built yet
+/// and empty; one rank is added to a group that is built yet; and a group that is dropped, not group 0, is gone. A refusal or a
+/// timeout changes nothing; and in each case nothing else has changed but the count of events. (GASPI: one-sided
+/// communication, notifications, state vector, segments, atomics, passive communication, groups, timeouts)
 pub fn changes()
     ensures put { (s t : State) (origin queue target number : ℕ) → IsSound s → step s (Put origin queue target number Applied) ≡ Ok t
         → IsPutDone s t origin queue target number }
@@ -147,6 +157,18 @@ pub fn changes()
         → IsWritten s t c.rank call.rank call.seg call.offset (little_bytes 8 call.new) }
     ensures kept { (s t : State) (c : CallerId) (call : compare_swap.CompareSwap) (old : ℕ) → old ≢ call.comparator → step s (Called c (CompareSwap call) (replies.Value old)) ≡ Ok t
         → IsOnlyCounted s t c.rank }
+    ensures posted { (s t : State) (c : CallerId) (call : Call) (to : Posting) → IsSound s → (row_of call).posting ≡ Some to → step s (Called c call replies.Done) ≡ Ok t
+        → IsPosted s t c.rank call to.queue to.rank }
+    ensures sent { (s t : State) (c : CallerId) (call : send.PassiveSend) → IsSound s → step s (Called c (PassiveSend call) replies.Done) ≡ Ok t
+        → IsSent s t c.rank call.rank call.seg call.offset call.size }
+    ensures received { (s t : State) (c : CallerId) (call : receive.PassiveReceive) (sender : ℕ) → IsSound s → step s (Called c (PassiveReceive call) (replies.Id sender)) ≡ Ok t
+        → IsReceived s t c.rank call.seg call.offset call.size sender }
+    ensures group_made { (s t : State) (c : CallerId) (id : ℕ) → IsSound s → step s (Called c GroupCreate (replies.Id id)) ≡ Ok t
+        → IsGroupMade s t c.rank id }
+    ensures group_added { (s t : State) (c : CallerId) (call : group_add.GroupAdd) → IsSound s → step s (Called c (GroupAdd call) replies.Done) ≡ Ok t
+        → IsGroupAdded s t c.rank call.group call.rank }
+    ensures group_dropped { (s t : State) (c : CallerId) (call : group_delete.GroupDelete) → IsSound s → step s (Called c (GroupDelete call) replies.Done) ≡ Ok t
+        → IsGroupDropped s t c.rank call.group }
 {}
 
 /// A rank that is once corrupt in the state vector of a rank stays so. (GASPI: state vector)
