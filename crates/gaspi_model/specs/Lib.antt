@@ -17,5 +17,6 @@ pub mod Coherence
 pub mod Sound
 pub mod Shards
 pub mod Changes
+pub mod Messages
 pub mod Order
 pub mod Settled

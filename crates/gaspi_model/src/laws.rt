@@ -50,6 +50,7 @@ ghost use Rattle.gaspi_types.specs.declared.shapes.CallerId.{CallerId};
 ghost use Rattle.gaspi_model.specs.Calls.{recorded_reply};
 ghost use Rattle.gaspi_model.specs.Changes.{IsOnlyCounted, IsAnswered, IsRead, AreSlotsRead, IsReset, IsWaited, IsPurged, IsSizeAnswered, IsStateAnswered, IsMade, IsGone, IsPutDone, IsFailed, IsTaken, IsRegistered, IsWritten, IsPosted, IsSent, IsReceived, IsGroupMade, IsGroupAdded, IsGroupDropped, is_corrupt, may_take_fail, may_put_fail};
 ghost use Rattle.gaspi_types.specs.Lanes.{is_write, is_read};
+ghost use Rattle.gaspi_model.specs.Messages.{IsEarliest, inbox_of, sent_in, received_in};
 ghost use Rattle.gaspi_model.specs.Order.{AreStanding, IsNotificationStanding, IsReadNoteStanding, IsReadStanding, IsWriteStanding, is_purge_of};
 ghost use Rattle.gaspi_model.specs.Shards.{AgreeOn, ComeToSame, HaveSamePart, is_shard, same_shard, footprint, numbers_of, is_among};
 ghost use Rattle.gaspi_model.specs.declared.states.Shard.{Shard};
@@ -234,6 +235,22 @@ pub fn notification_order()
         → IsReadStanding w earlier origin queue target m → IsReadNoteStanding w (earlier ++ later) origin queue target n → m < n
         → list_any (is_purge_of origin queue) later ≡ false
         → (place : ℕ) × (slice_get later place ≡ Some (Put origin queue target m Applied)) }
+{}
+
+/// Messages come in order, none is lost and none comes twice. What a rank is sent is the messages of the sends to it that are
+/// done, each with the rank of its sender and with the bytes that its range has at the send; what it receives is the first
+/// message of its inbox at each of its receives that is done, in whatever of its threads. In a legal history what a rank is
+/// sent is what it has received, followed by what stands in its inbox, all in the order of the history: so what it has
+/// received is a front part of what it was sent. An inbox never has more messages than the limits say. A receive answers who
+/// sent the first message of the inbox, which is the earliest of those that were sent to the rank and that it has not
+/// received. (GASPI: passive communication)
+pub fn messages()
+    ensures order { (w : World) (history : List Event) (s : State) (rank : ℕ) → IsWorld w → reached w history ≡ Ok s
+        → sent_in (opening w) history rank ≡ received_in (opening w) history rank ++ inbox_of s rank }
+    ensures few { (w : World) (history : List Event) (s : State) (rank : ℕ) → IsWorld w → reached w history ≡ Ok s → length (inbox_of s rank) ≤ w.limits.inbox }
+    ensures received { (w : World) (history : List Event) (s : State) (c : CallerId) (call : receive.PassiveReceive) (sender : ℕ) → IsWorld w → reached w history ≡ Ok s
+        → is_legal w (history ++ Called c (PassiveReceive call) (replies.Id sender) ∷ []) ≡ true
+        → IsEarliest w history s c.rank sender }
 {}
 
 /// Where a history is legal, so is each part that it begins with.
