@@ -18,5 +18,6 @@ pub mod Sound
 pub mod Shards
 pub mod Changes
 pub mod Messages
+pub mod RankGroups
 pub mod Order
 pub mod Settled

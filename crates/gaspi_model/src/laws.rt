@@ -4,6 +4,9 @@ ghost use Rattle.std.specs.Prelude.{◌==◌, ◌≡◌, ◌≢◌, ℕ, ◌+◌
 ghost use Rattle.byteorder.specs.Endian.{little_bytes};
 ghost use Rattle.gaspi_types.specs.CallRows.{need_of, row_of};
 ghost use Rattle.gaspi_types.specs.declared.call_rows.Posting.{Posting};
+ghost use Rattle.gaspi_types.specs.Groups.{handle_of_all};
+ghost use Rattle.gaspi_types.specs.declared.collectives.Stage.TheVariants.{Committed};
+ghost use Rattle.gaspi_types.specs.declared.groups.Handle.{Handle};
 ghost use Rattle.gaspi_types.specs.Replies.{is_idle, same_reply};
 ghost use Rattle.std.specs.List.{list_any, count_by};
 ghost use Rattle.gaspi_types.specs.World.{World, IsWorld, is_caller};
@@ -52,6 +55,7 @@ ghost use Rattle.gaspi_model.specs.Changes.{IsOnlyCounted, IsAnswered, IsRead, A
 ghost use Rattle.gaspi_types.specs.Lanes.{is_write, is_read};
 ghost use Rattle.gaspi_model.specs.Messages.{IsEarliest, inbox_of, sent_in, received_in};
 ghost use Rattle.gaspi_model.specs.Order.{AreStanding, IsNotificationStanding, IsReadNoteStanding, IsReadStanding, IsWriteStanding, is_purge_of};
+ghost use Rattle.gaspi_model.specs.RankGroups.{handle_of, is_drop_of};
 ghost use Rattle.gaspi_model.specs.Shards.{AgreeOn, ComeToSame, HaveSamePart, is_shard, same_shard, footprint, numbers_of, is_among};
 ghost use Rattle.gaspi_model.specs.declared.states.Shard.{Shard};
 ghost use Rattle.gaspi_model.specs.declared.states.Shard.TheVariants as shards;
@@ -251,6 +255,19 @@ pub fn messages()
     ensures received { (w : World) (history : List Event) (s : State) (c : CallerId) (call : receive.PassiveReceive) (sender : ℕ) → IsWorld w → reached w history ≡ Ok s
         → is_legal w (history ++ Called c (PassiveReceive call) (replies.Id sender) ∷ []) ≡ true
         → IsEarliest w history s c.rank sender }
+{}
+
+/// The groups of a rank. Of two groups that a rank makes in a legal history, in whatever of its threads, the later one has the
+/// greater number, so no number is given twice, also after a group is dropped. A committed group of a rank stays as it is, with
+/// the same members, by every event but a `group_delete` of it by that rank that is done. Group 0 of each rank is there in each
+/// state of a legal history: it is committed, and has every rank. (GASPI: groups)
+pub fn groups()
+    ensures rising { (w : World) (earlier later rest : List Event) (c d : CallerId) (m n : ℕ) → c.rank ≡ d.rank
+        → is_legal w (earlier ++ Called c GroupCreate (replies.Id m) ∷ later ++ Called d GroupCreate (replies.Id n) ∷ rest) ≡ true → m < n }
+    ensures kept { (s t : State) (e : Event) (rank id : ℕ) (h : Handle) → IsSound s → step s e ≡ Ok t → handle_of s rank id ≡ Some h → h.stage ≡ Committed
+        → is_drop_of rank id e ≡ false → handle_of t rank id ≡ Some h }
+    ensures all { (w : World) (history : List Event) (s : State) (rank : ℕ) → IsWorld w → reached w history ≡ Ok s → rank < w.limits.ranks
+        → handle_of s rank 0 ≡ Some (handle_of_all w.limits.ranks) }
 {}
 
 /// Where a history is legal, so is each part that it begins with.

@@ -35,14 +35,14 @@ use Rattle.gaspi_model.specs.declared.states.Posts.{Posts}
 use Rattle.gaspi_model.specs.declared.states.Memory.{Memory}
 use Rattle.gaspi_model.specs.declared.states.State.{State}
 use Rattle.gaspi_model.proofs.FoundReplies.{found-reply}
-use Rattle.gaspi_model.proofs.Histories.{after-first, after-joined, leads, only-counted, reached-sound}
+use Rattle.gaspi_model.proofs.Histories.{after-first, after-joined, after-limits, leads, only-counted, reached-sound}
 use Rattle.gaspi_model.proofs.Made.{IsPut, step-take}
 use Rattle.gaspi_model.proofs.PassiveFinds.{send-found, receive-found}
 use Rattle.gaspi_model.proofs.Same.{same_reply-same}
 use Rattle.gaspi_model.proofs.Changed.Messages.{message-sent, message-received}
 use Rattle.gaspi_model.proofs.Sound.Inboxes.{put-same-inbox}
 use Rattle.gaspi_model.proofs.Sound.Opening.{opens}
-use Rattle.gaspi_model.proofs.Sound.Steps.{steps, limits-stay}
+use Rattle.gaspi_model.proofs.Sound.Steps.{steps}
 use Rattle.gaspi_model.proofs.Worked.{memory_rank, sound-called, sound-put}
 
 append-nil : {A : Type 0} (xs : List A) → xs ++ [] ≡ xs
@@ -234,12 +234,6 @@ messages-flow w history s rank world h =
     ap (λ (x : List Message). x ++ sent_in (opening w) history rank) (sym (opening-inbox w rank)) ∙ all-flow (opening w) s history rank (opens w world) h
 
 -- an inbox has at most as many messages as the limits of the world say
-same-limits : (s t : State) (events : List Event) → after s events ≡ Ok t → t.limits ≡ s.limits
-same-limits s t [] h = (let same : s ≡ t = cc in ap (λ (x : State). x.limits) (sym same))
-same-limits s t (e ∷ events) h =
-    let first = after-first s t e events h in
-    same-limits first.0 t events first.2 ∙ limits-stay s first.0 e first.1
-
 pub few-messages : (w : World) (history : List Event) (s : State) (rank : ℕ) → IsWorld w → reached w history ≡ Ok s → length (inbox_of s rank) ≤ w.limits.inbox
 few-messages w history s rank world h = go (slice_get s.memories rank) refl
   where
@@ -248,7 +242,7 @@ few-messages w history s rank world h = go (slice_get s.memories rank) refl
     go (Some m) at =
         let some : length (inbox_of s rank) ≡ length m.inbox = ap (λ (o : Option Memory). length (memory_or_none o).inbox) at in
         let few = ((reached-sound w history s world h).inboxes rank m at).few in
-        let same : s.limits.inbox ≡ w.limits.inbox = ap (λ (l : Limits). l.inbox) (same-limits (opening w) s history h) in
+        let same : s.limits.inbox ≡ w.limits.inbox = ap (λ (l : Limits). l.inbox) (after-limits (opening w) s history h) in
         omega arith
 
 pub earliest-received : (w : World) (history : List Event) (s : State) (c : CallerId) (call : receive.PassiveReceive) (sender : ℕ) → IsWorld w → reached w history ≡ Ok s
