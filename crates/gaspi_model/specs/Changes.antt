@@ -3,6 +3,7 @@ use Rattle.std.specs.Prelude.{◌≡◌, ◌≢◌, ℕ, ◌+◌, ◌<◌, ◌�
 use Rattle.std.specs.List.{list_any}
 use Rattle.std.specs.Int.{bit_at}
 use Rattle.gaspi_types.specs.Kinds.{is_outward, is_read_kind, source_of, destination_of}
+use Rattle.gaspi_types.specs.CallRows.{entries_of}
 use Rattle.gaspi_types.specs.Groups.{handle_at}
 use Rattle.gaspi_types.specs.Lanes.{is_posted, is_carried, has_awaited, posted_entries}
 use Rattle.gaspi_types.specs.Masks.{bit_of, is_marked, is_member}
@@ -325,10 +326,10 @@ pub record IsGone (s t : State) (me segment : ℕ) : Type 0 where
     memories = slice_set s.memories me (record memory { segments = slice_set memory.segments segment None; slots = slice_set memory.slots segment None });
   }
 
--- A post that is done: it asks for entries, its queue is not broken and has room for all of them, and they stand last in the
--- lane of the rank that it names, posted, with numbers one after another from the rank's next number on; the open count of
--- the queue, and the next number, are higher by so many; and nothing else has changed but the count of events of the
--- caller's rank. (one-sided communication)
+-- A post that is done: it asks for entries, as many as its row says; its queue is not broken and has room for all of them;
+-- and they stand last in the lane of the rank that it names, posted, with numbers one after another from the rank's next
+-- number on. The open count of the queue, and the next number, are higher by so many; and nothing else has changed but the
+-- count of events of the caller's rank. (one-sided communication)
 pub record IsPosted (s t : State) (me : ℕ) (call : Call) (queue rank : ℕ) : Type 0 where
   pub posts : Posts
   pub kinds : List Kind
@@ -336,6 +337,7 @@ pub record IsPosted (s t : State) (me : ℕ) (call : Call) (queue rank : ℕ) : 
   pub lane : List Entry
   pub posts_there : slice_get s.posts me ≡ Some posts
   pub asks : call_asks s.limits me posts call ≡ Ok kinds
+  pub count : length kinds ≡ entries_of call
   pub queue_there : slice_get posts.queues queue ≡ Some q
   pub whole : q.broken ≡ None
   pub room : q.open_count + length kinds ≤ s.limits.depth

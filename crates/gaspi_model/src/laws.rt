@@ -111,9 +111,9 @@ pub fn enabled()
 /// the size of a queue is its open count; and the state vector has bit r exactly where rank r is corrupt for the caller's
 /// rank. A load and a `waitsome` answer what stands there, and a reset takes it. A store
 /// changes exactly its range, and an atomic, which answers what stood there, exactly its word, a `compare_swap` only where it
-/// answers the comparator. A post that is done appends exactly the entries that it asks for to the lane of its queue and of
-/// the rank that it names, posted, with numbers one after another from its rank's next number on, and the queue, which is not
-/// broken, has room for them. A send puts one message, of the caller's rank and with the bytes of its range, at the end of the
+/// answers the comparator. A post that is done appends exactly the entries that it asks for, as many as its row says, to the
+/// lane of its queue and of the rank that it names, posted, with numbers one after another from its rank's next number on, and
+/// the queue, which is not broken, has room for them. A send puts one message, of the caller's rank and with the bytes of its range, at the end of the
 /// inbox of the rank that it names, which may be its own; a receive takes the first message of its rank's inbox, writes its
 /// bytes, no more, into its range, and answers who sent it. A group that is made has the next number of its rank, is built yet
 /// and empty; one rank is added to a group that is built yet; and a group that is dropped, not group 0, is gone. A refusal or a

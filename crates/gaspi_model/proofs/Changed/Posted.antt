@@ -1,8 +1,8 @@
 -- What a post leaves.
-use Rattle.std.proofs.Common.{◌≡◌, ℕ, ◌+◌, List, ◌++◌, length, Some, Ok, refl, ap, ◌∙◌, arith}
+use Rattle.std.proofs.Common.{◌≡◌, ℕ, ◌+◌, List, ◌++◌, length, Some, Ok, refl, sym, ap, ◌∙◌, arith}
 use Rattle.std.specs.List.{slice_set}
 use Rattle.std.proofs.lemmas.Bool.{ltb-true, leb-true}
-use Rattle.gaspi_types.specs.CallRows.{row_of}
+use Rattle.gaspi_types.specs.CallRows.{row_of, entries_in}
 use Rattle.gaspi_types.specs.Lanes.{posted_entries}
 use Rattle.gaspi_types.specs.Queues.{with_entries}
 use Rattle.gaspi_types.specs.declared.call_rows.Posting.{Posting}
@@ -23,7 +23,7 @@ use Rattle.gaspi_model.specs.declared.states.Posts.{Posts}
 use Rattle.gaspi_model.specs.declared.states.State.{State}
 use Rattle.gaspi_model.proofs.Changed.QueueCalls.{posts-worked}
 use Rattle.gaspi_model.proofs.Local.Steps.{posting-reaches-none}
-use Rattle.gaspi_model.proofs.Sound.Accounts.{post-ok}
+use Rattle.gaspi_model.proofs.Sound.Accounts.{asks-counted, post-ok}
 use Rattle.gaspi_model.proofs.Sound.CallTables.{post-leaves}
 use Rattle.gaspi_model.proofs.Sound.OpenCounts.{posted-length}
 
@@ -54,6 +54,7 @@ post-done s t c call to sound posting h =
       lane = lane.0;
       posts_there = m.posts_there;
       asks = p.asks;
+      count = asks-counted s.limits c.rank posts call to kinds posting p.asks ∙ sym (ap entries_in posting);
       queue_there = p.in_posts;
       whole = p.whole;
       room = leb-true (q.open_count + length kinds) s.limits.depth p.room;
