@@ -15,7 +15,8 @@ use Rattle.gaspi_types.specs.declared.entries.Kind.{Kind}
 use Rattle.gaspi_types.specs.declared.shapes.Limits.{Limits}
 use Rattle.gaspi_types.specs.declared.call_rows.Posting.{Posting}
 use Rattle.gaspi_types.specs.declared.calls.Call.{Call}
-use Rattle.gaspi_types.specs.declared.calls.Call.TheVariants.{Alloc, Wait, Purge, End}
+use Rattle.gaspi_types.specs.declared.calls.Call.TheVariants.{Alloc, Wait, Purge, GroupCreate, GroupAdd, End}
+use Rattle.gaspi_model.proofs.GroupFinds.{add-found}
 use Rattle.gaspi_types.specs.declared.calls.segments.Alloc as alloc
 use Rattle.gaspi_types.specs.declared.replies.Refusal.{Refusal}
 use Rattle.gaspi_types.specs.declared.replies.Reply.{Reply}
@@ -142,6 +143,11 @@ posting_room limits me posts memory thread call reply kinds (Some posting) is as
 plain_room : (limits : Limits) (me : ℕ) (posts : Posts) (memory : Memory) (thread : ℕ) (call : Call) (reply : Reply)
     → are_limits limits ≡ true → IsSoundPosts limits posts → IsFound limits me posts memory thread call reply → HasPlainRoom posts call
 plain_room limits me posts memory thread (Alloc call) reply limited sound f = alloc_room limits posts call f.reply_found limited sound f.finds
+plain_room limits me posts memory thread GroupCreate reply limited sound f = let few = sound.groups.made in grind (arith, nat_tests)
+plain_room limits me posts memory thread (GroupAdd call) reply limited sound f =
+    let found = add-found limits posts call f.reply_found f.finds in
+    let ranked = found.ranked in
+    grind (arith, nat_tests)
 plain_room limits me posts memory thread call reply limited sound f = tt
 
 pub room_by : (limits : Limits) (me : ℕ) (posts : Posts) (memory : Memory) (thread : ℕ) (call : Call) (reply : Reply) (kinds : List Kind)

@@ -14,6 +14,7 @@ use Rattle.gaspi_model.specs.Calls.{call_asks, answer, recorded_reply, posts_don
 use Rattle.gaspi_model.specs.Posting.{with_post, counted}
 use Rattle.gaspi_model.specs.Sound.{IsSoundPosts}
 use Rattle.gaspi_model.specs.Step.{called, Steps, is_there}
+use Rattle.gaspi_types.specs.declared.inboxes.Message.{Message}
 use Rattle.gaspi_model.specs.declared.states.Posts.{Posts}
 use Rattle.gaspi_model.specs.declared.states.Memory.{Memory}
 use Rattle.gaspi_model.specs.declared.states.StepFault.{StepFault}
@@ -41,17 +42,17 @@ plain_asks limits me posts (ReadListNotify call) is = absurd (let no : ⊥ = cc 
 plain_asks limits me posts call is = refl
 
 -- a call that posts changes no memory
-pub posting_memory : (limits : Limits) (posts : Posts) (memory : Memory) (call : Call) (to : Posting) → (row_of call).posting ≡ Some to → memory_done limits posts memory call ≡ memory
-posting_memory limits posts memory (Write call) to is = refl
-posting_memory limits posts memory (Read call) to is = refl
-posting_memory limits posts memory (Notify call) to is = refl
-posting_memory limits posts memory (WriteNotify call) to is = refl
-posting_memory limits posts memory (ReadNotify call) to is = refl
-posting_memory limits posts memory (WriteList call) to is = refl
-posting_memory limits posts memory (WriteListNotify call) to is = refl
-posting_memory limits posts memory (ReadList call) to is = refl
-posting_memory limits posts memory (ReadListNotify call) to is = refl
-posting_memory limits posts memory call to is = absurd (let no : ⊥ = cc in no)
+pub posting_memory : (limits : Limits) (posts : Posts) (brought : Option Message) (memory : Memory) (call : Call) (to : Posting) → (row_of call).posting ≡ Some to → memory_done limits posts brought memory call ≡ memory
+posting_memory limits posts brought memory (Write call) to is = refl
+posting_memory limits posts brought memory (Read call) to is = refl
+posting_memory limits posts brought memory (Notify call) to is = refl
+posting_memory limits posts brought memory (WriteNotify call) to is = refl
+posting_memory limits posts brought memory (ReadNotify call) to is = refl
+posting_memory limits posts brought memory (WriteList call) to is = refl
+posting_memory limits posts brought memory (WriteListNotify call) to is = refl
+posting_memory limits posts brought memory (ReadList call) to is = refl
+posting_memory limits posts brought memory (ReadListNotify call) to is = refl
+posting_memory limits posts brought memory call to is = absurd (let no : ⊥ = cc in no)
 
 -- what was found is what the call asks for
 found_done-same : (limits : Limits) (me : ℕ) (posts : Posts) (thread : ℕ) (call : Call) (kinds : List Kind)
@@ -87,16 +88,16 @@ look_room look limits me posts memory thread call limited sound l busy =
 pub look_steps : (look : Finding) (limits : Limits) (me : ℕ) (posts : Posts) (memory : Memory) (thread : ℕ) (call : Call)
     → IsFinding look limits me posts memory thread call → is_there (thread_at posts thread) ≡ true
     → nat_le (posts.events + owed posts + charge (thread_at posts thread) call (recorded_reply look.ready)) limits.events ≡ true
-    → called limits me posts memory thread call (recorded_reply look.ready)
-    ≡ Ok (record { posts = found_after posts thread call look; memory = memory_after limits posts memory call (recorded_reply look.ready) })
+    → called limits me posts look.message memory thread call (recorded_reply look.ready)
+    ≡ Ok (record { posts = found_after posts thread call look; memory = memory_after limits posts look.message memory call (recorded_reply look.ready) })
 look_steps look limits me posts memory thread call l there room =
     rw (there, look_same look limits me posts memory thread call l, room)
-    (ap (λ (p : Posts). Ok (record { posts = p; memory = memory_after limits posts memory call (recorded_reply look.ready) })) (sym (found_after-same look limits me posts memory thread call l)))
+    (ap (λ (p : Posts). Ok (record { posts = p; memory = memory_after limits posts look.message memory call (recorded_reply look.ready) })) (sym (found_after-same look limits me posts memory thread call l)))
 
 pub look_limit : (look : Finding) (limits : Limits) (me : ℕ) (posts : Posts) (memory : Memory) (thread : ℕ) (call : Call)
     → IsFinding look limits me posts memory thread call → is_there (thread_at posts thread) ≡ true
     → nat_le (posts.events + owed posts + charge (thread_at posts thread) call (recorded_reply look.ready)) limits.events ≡ false
-    → called limits me posts memory thread call (recorded_reply look.ready) ≡ Err whys.Limit
+    → called limits me posts look.message memory thread call (recorded_reply look.ready) ≡ Err whys.Limit
 look_limit look limits me posts memory thread call l there full = rw (there, look_same look limits me posts memory thread call l, full) refl
 
 -- what the rank has taken grows by the charge

@@ -1,10 +1,11 @@
 -- What a look at a call finds, and what recording it leaves.
-use Rattle.std.specs.Prelude.{◌≡◌, ℕ, List, [], Option, None, Some, Result, Ok, Err, if◌then◌else◌, true, false}
+use Rattle.std.specs.Prelude.{◌≡◌, ℕ, ◌≤◌, List, [], length, slice_get, Option, None, Some, Result, Ok, Err, if◌then◌else◌, true, false}
 use Rattle.gaspi_types.specs.CallRows.{row_of}
 use Rattle.gaspi_types.specs.Replies.{is_idle}
 use Rattle.gaspi_types.specs.declared.call_rows.Posting.{Posting}
 use Rattle.gaspi_types.specs.declared.calls.Call.{Call}
 use Rattle.gaspi_types.specs.declared.entries.Kind.{Kind}
+use Rattle.gaspi_types.specs.declared.inboxes.Message.{Message}
 use Rattle.gaspi_types.specs.declared.replies.Refusal.{Refusal}
 use Rattle.gaspi_types.specs.declared.replies.Reply.{Reply}
 use Rattle.gaspi_types.specs.declared.replies.Reply.TheVariants as replies
@@ -40,6 +41,14 @@ pub record IsFinding (look : Finding) (limits : Limits) (me : ℕ) (posts : Post
   pub ready : look.ready ≡ answer limits me posts memory thread call
   pub kinds : is_idle (recorded_reply look.ready) ≡ false → call_asks limits me posts call ≡ Ok (kinds_of look.kinds)
   pub nothing : is_idle (recorded_reply look.ready) ≡ true → kinds_of look.kinds ≡ []
+
+-- and its message is the one that the call brings, where it is recorded neither as a refusal nor as a timeout
+abbrev pub BringsMessage : Finding → Option Message → Type 0
+BringsMessage look brought = is_idle (recorded_reply look.ready) ≡ false → look.message ≡ brought
+
+-- the messages of an inbox are no longer than messages may be
+abbrev pub AreShort : List Message → Type 0
+AreShort inbox = (place : ℕ) (m : Message) → slice_get inbox place ≡ Some m → length m.bytes ≤ 4096
 
 -- What a call that found these kinds leaves in the posts of its rank: an accepted post appends them.
 abbrev pub found_done : Posts → ℕ → Call → List Kind → Posts

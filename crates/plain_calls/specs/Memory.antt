@@ -4,7 +4,7 @@ use Rattle.std.specs.Borrow.{Bor}
 use Rattle.gaspi_types.specs.CallRows.{is_post}
 use Rattle.gaspi_types.specs.Posts.{is_list_post}
 use Rattle.gaspi_types.specs.declared.calls.Call.{Call}
-use Rattle.gaspi_types.specs.declared.calls.Call.TheVariants.{Alloc, Load}
+use Rattle.gaspi_types.specs.declared.calls.Call.TheVariants.{Alloc, Load, PassiveSend}
 use Rattle.gaspi_types.specs.declared.replies.Refusal.{Refusal}
 use Rattle.gaspi_types.specs.declared.replies.Reply.{Reply}
 use Rattle.gaspi_types.specs.declared.replies.Reply.TheVariants as replies
@@ -16,18 +16,27 @@ abbrev pub is_load : Call → Bool
 is_load (Load load) = true
 is_load call = false
 
--- a look at these may want memory: for the bytes that a load answers, and for the entries of a list
+-- this brings a message
+abbrev pub is_send : Call → Bool
+is_send (PassiveSend send) = true
+is_send call = false
+
+-- a look at these may want memory: for the bytes that a load answers, for the entries of a list, and for a message
 abbrev pub looks_with_memory : Call → Bool
-looks_with_memory call = is_load call || is_list_post call
+looks_with_memory call = is_load call || is_list_post call || is_send call
 
 -- this makes a segment
 abbrev pub is_alloc : Call → Bool
 is_alloc (Alloc alloc) = true
 is_alloc call = false
 
+-- what these leave in memories may want memory: a segment, and a message
+abbrev pub fills_memory : Call → Bool
+fills_memory call = is_alloc call || is_send call
+
 -- what these leave may want memory
 abbrev pub keeps_memory : Call → Bool
-keeps_memory call = is_post call || is_alloc call
+keeps_memory call = is_post call || fills_memory call
 
 -- a step of these may want memory
 abbrev pub takes_memory : Event → Bool

@@ -1,5 +1,5 @@
 -- When a call has room for the numbers that it counts on: a post for those of its entries and for its queue's open count,
--- and a segment that is made for its generation and its size. And what a call frees of the room that its rank has taken.
+-- a segment that is made for its generation and its size, a group for its number, and a rank that is added is one. And what a call frees of the room that its rank has taken.
 use Rattle.std.specs.Prelude.{◌≡◌, ℕ, ◌+◌, ◌<◌, ◌^◌, List, slice_get, Option, None, Some, if◌then◌else◌}
 use Rattle.gaspi_types.specs.CallRows.{row_of}
 use Rattle.gaspi_types.specs.Queues.{queue_owed}
@@ -7,7 +7,7 @@ use Rattle.gaspi_types.specs.Replies.{is_idle}
 use Rattle.gaspi_types.specs.SegmentTables.{next_generation}
 use Rattle.gaspi_types.specs.declared.call_rows.Posting.{Posting}
 use Rattle.gaspi_types.specs.declared.calls.Call.{Call}
-use Rattle.gaspi_types.specs.declared.calls.Call.TheVariants.{Alloc, Purge}
+use Rattle.gaspi_types.specs.declared.calls.Call.TheVariants.{Alloc, Purge, GroupCreate, GroupAdd}
 use Rattle.gaspi_types.specs.declared.calls.segments.Alloc as alloc
 use Rattle.gaspi_types.specs.declared.entries.Queue.{Queue}
 use Rattle.gaspi_types.specs.declared.replies.Reply.{Reply}
@@ -29,6 +29,8 @@ HasAllocRoom posts call = (next_generation posts.segments.next_generations call.
 -- a call that posts nothing
 abbrev pub HasPlainRoom : Posts → Call → Type 0
 HasPlainRoom posts (Alloc call) = HasAllocRoom posts call
+HasPlainRoom posts GroupCreate = posts.groups.made + 1 < 2 ^ 32
+HasPlainRoom posts (GroupAdd call) = call.rank < 16
 HasPlainRoom posts call = Unit {0}
 
 -- a call that appends so many entries

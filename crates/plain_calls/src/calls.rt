@@ -1,20 +1,29 @@
 //! What a call answers and what it leaves, by the kinds of calls.
 
-ghost use Rattle.std.specs.Prelude.{◌≡◌, ◌≤◌, List, Option, Result, length, IfOk, IsOk, OnOk, OnErr, false};
+ghost use Rattle.std.specs.Prelude.{◌≡◌, ◌≤◌, List, Option, Result, length, IfOk, IsOk, OnOk, OnErr, true, false};
 ghost use Rattle.gaspi_types.specs.declared.entries.Kind.{Kind};
 ghost use Rattle.gaspi_types.specs.declared.replies.Refusal.{Refusal};
 ghost use Rattle.gaspi_types.specs.declared.replies.Reply.{Reply};
 ghost use Rattle.gaspi_model.specs.Calls.{plain_finds, answer, plain_done, memory_done, peer_after, recorded_reply};
 ghost use Rattle.gaspi_model.specs.declared.states.Posts.{Posts};
-ghost use Rattle.plain_calls.specs.Looks.{Accepts, IsPostFinding, IsFinding, found_done};
-ghost use Rattle.plain_calls.specs.Memory.{is_load, is_alloc, looks_with_memory, keeps_memory};
+ghost use Rattle.plain_calls.specs.Looks.{AreShort, Accepts, BringsMessage, IsPostFinding, IsFinding, found_done};
+ghost use Rattle.gaspi_model.specs.PassiveCalls.{brought_by};
+ghost use Rattle.gaspi_types.specs.Replies.{is_idle};
+ghost use Rattle.plain_calls.specs.Memory.{is_load, is_send, fills_memory, looks_with_memory, keeps_memory};
 ghost use Rattle.plain_calls.specs.Room.{HasPlainRoom, HasCallRoom};
 ghost use Rattle.plain_calls.specs.Telling.{told};
 
 use crate::atomic_calls::{compare_swap_leaves, fetch_add_leaves, word_finds};
+use crate::group_calls::{
+    group_add_finds, group_add_leaves, group_create_finds, group_create_leaves, group_delete_finds,
+    group_delete_leaves,
+};
 use crate::looks::Finding;
 use crate::memory_calls::{load_finds, store_finds, store_leaves};
 use crate::notification_calls::{reset_finds, reset_leaves, waitsome_finds};
+use crate::passive_calls::{
+    message_of, receive_finds, receive_leaves, send_finds, send_leaves,
+};
 use crate::post_calls::posting_finds;
 use crate::posting::post;
 use crate::queue_calls::{closed, purge_finds, purged, qsize_finds, state_finds, wait_finds};
@@ -26,7 +35,7 @@ use crate::segment_calls::{
 use crate::threads::{end_thread, is_running, thread_at};
 use gaspi_model::{Memory, Posts};
 use gaspi_types::{
-    Call, CompareSwap, FetchAdd, Kind, Limits, NoMemory, RankId, Ready, Refusal, Reply, ThreadId,
+    Call, CompareSwap, FetchAdd, Kind, Limits, Message, NoMemory, RankId, Ready, Refusal, Reply, ThreadId,
 };
 use segment_tables::Kinds;
 use std::alloc::Global;
@@ -42,6 +51,7 @@ fn plain_finds(
 ) -> Result<Result<Option<Reply>, Refusal>, NoMemory>
     requires queues { length posts.now.queues ≤ 8 }
     requires corrupt { length posts.now.corrupt ≤ 32 }
+    requires inbox { AreShort memory.now.inbox }
     ensures finds { IfOk result (λ finds. finds ≡ plain_finds limits.now me posts.now memory.now call.now) }
     ensures ample { is_load call.now ≡ false → IsOk result }
 {
@@ -56,6 +66,8 @@ fn plain_finds(
         Call::Qsize(call) => qsize_finds(posts, call),
         Call::Waitsome(call) => waitsome_finds(limits, posts, memory, call),
         Call::Reset(call) => reset_finds(limits, posts, memory, call),
+        Call::PassiveSend(call) => send_finds(limits, posts, memory, call),
+        Call::PassiveReceive(call) => receive_finds(posts, memory, call),
         Call::FetchAdd(
             FetchAdd {
                 seg,
@@ -72,6 +84,9 @@ fn plain_finds(
                 ..
             },
         ) => { word_finds(limits, me, posts, memory, *seg, *offset, *rank) }
+        Call::GroupCreate => group_create_finds(posts),
+        Call::GroupAdd(call) => group_add_finds(limits, posts, call),
+        Call::GroupDelete(call) => group_delete_finds(posts, call),
         Call::State => state_finds(posts),
         _ => Ok(Some(Reply::Done)),
     })
@@ -85,35 +100,56 @@ fn posting_finding(finds: Result<Kinds, Refusal>) -> Finding
         Ok(kinds) => Finding {
             ready: Ready::Reply(Reply::Done),
             kinds,
+            message: None,
         },
-        Err(refusal) => Finding {
-            ready: Ready::Reply(Reply::Refused(refusal)),
-            kinds: Kinds::Nothing,
-        },
+        Err(refusal) => Finding::plain(Ready::Reply(Reply::Refused(refusal))),
     }
 }
 
-/// Looks at a call. The memory is that which the call works on: its rank's or, of an atomic, that of the rank that it
-/// names. Only a load and the post of a list take memory.
+/// The message that a call brings, taken from the own memory, where it is done.
+fn brought(
+    alloc: Global,
+    me: RankId,
+    own: &Memory,
+    call: &Call,
+    ready: &Ready,
+) -> Result<Option<Message>, NoMemory>
+    ensures message { IfOk result (λ message. is_idle (recorded_reply ready.now) ≡ false → message ≡ brought_by me own.now call.now) }
+    ensures ample { is_send call.now ≡ false → IsOk result }
+    ensures idle { is_idle (recorded_reply ready.now) ≡ true → IsOk result }
+{
+    match (call, ready) {
+        (Call::PassiveSend(call), Ready::Reply(Reply::Done)) => {
+            Ok(Some(message_of(alloc, me, own, call)?))
+        }
+        _ => Ok(None),
+    }
+}
+
+/// Looks at a call. The memory is that which the call works on: its rank's or, of an atomic and a send, that of the rank that
+/// it names; a send takes its message from the own memory. Only a load, the post of a list and a send take memory, and none
+/// that is not ready.
 pub fn look(
     alloc: Global,
     limits: &Limits,
     me: RankId,
     posts: &Posts,
+    own: &Memory,
     memory: &Memory,
     thread: ThreadId,
     call: &Call,
 ) -> Result<Finding, NoMemory>
     requires queues { length posts.now.queues ≤ 8 }
     requires corrupt { length posts.now.corrupt ≤ 32 }
+    requires inbox { AreShort memory.now.inbox }
     ensures look { IfOk result (λ look. IsFinding look limits.now me posts.now memory.now thread call.now) }
+    ensures message { IfOk result (λ look. BringsMessage look (brought_by me own.now call.now)) }
     ensures ample { looks_with_memory call.now ≡ false → IsOk result }
 {
     if !is_running(thread_at(posts, thread)) {
-        return Ok(Finding {
-            ready: Ready::Reply(Reply::Refused(Refusal::CallerEnded)),
-            kinds: Kinds::Nothing,
-        });
+        return Ok(Finding::plain(Ready::Reply(Reply::Refused(
+            Refusal::CallerEnded,
+        ))));
     }
     match call.row().posting {
         Some(to) => {
@@ -122,9 +158,12 @@ pub fn look(
         }
         None => {
             let finds = plain_finds(alloc, limits, me, posts, memory, call)?;
+            let ready = ready_of(finds);
+            let message = brought(alloc, me, own, call, &ready)?;
             Ok(Finding {
-                ready: ready_of(finds),
+                ready,
                 kinds: Kinds::Nothing,
+                message,
             })
         }
     }
@@ -138,13 +177,14 @@ fn plain_done(
     memory: &mut Memory,
     thread: ThreadId,
     call: &Call,
+    message: Option<Message>,
 ) -> Result<(), NoMemory>
     requires { HasPlainRoom posts.old call.now }
     ensures posts { OnOk result (posts.new ≡ plain_done posts.old thread call.now) }
-    ensures memory { OnOk result (memory.new ≡ memory_done limits.now posts.old memory.old call.now) }
+    ensures memory { OnOk result (memory.new ≡ memory_done limits.now posts.old message memory.old call.now) }
     ensures posts_kept { OnErr result (posts.new ≡ posts.old) }
     ensures memory_kept { OnErr result (memory.new ≡ memory.old) }
-    ensures ample { is_alloc call.now ≡ false → IsOk result }
+    ensures ample { fills_memory call.now ≡ false → IsOk result }
 {
     match call {
         Call::Alloc(call) => return alloc_leaves(alloc, limits, posts, memory, call),
@@ -153,8 +193,13 @@ fn plain_done(
         Call::Wait(call) => closed(posts, call.queue),
         Call::Purge(call) => purged(posts, call.queue),
         Call::Reset(call) => reset_leaves(memory, call),
+        Call::PassiveSend(_) => return send_leaves(memory, message),
+        Call::PassiveReceive(call) => receive_leaves(memory, call),
         Call::FetchAdd(call) => fetch_add_leaves(memory, call),
         Call::CompareSwap(call) => compare_swap_leaves(memory, call),
+        Call::GroupCreate => group_create_leaves(posts),
+        Call::GroupAdd(call) => group_add_leaves(posts, call),
+        Call::GroupDelete(call) => group_delete_leaves(posts, call),
         Call::End => end_thread(posts, thread),
         _ => {}
     }
@@ -162,8 +207,8 @@ fn plain_done(
 }
 
 /// What a call leaves that was answered neither with a refusal nor with a timeout, in the posts of its rank and in the
-/// memory that it works on; a post appends entries of these kinds. Only a post and a segment that is made take memory, and
-/// without it nothing changes.
+/// memory that it works on; a post appends entries of these kinds, and a send its message. Only a post, a segment that is made
+/// and a message take memory, and without it nothing changes.
 pub fn call_done(
     alloc: Global,
     limits: &Limits,
@@ -172,17 +217,18 @@ pub fn call_done(
     thread: ThreadId,
     call: &Call,
     kinds: &[Kind],
+    message: Option<Message>,
 ) -> Result<(), NoMemory>
     requires { HasCallRoom posts.old call.now (length kinds.now) }
     ensures posts { OnOk result (posts.new ≡ found_done posts.old thread call.now kinds.now) }
-    ensures memory { OnOk result (memory.new ≡ memory_done limits.now posts.old memory.old call.now) }
+    ensures memory { OnOk result (memory.new ≡ memory_done limits.now posts.old message memory.old call.now) }
     ensures posts_kept { OnErr result (posts.new ≡ posts.old) }
     ensures memory_kept { OnErr result (memory.new ≡ memory.old) }
     ensures ample { keeps_memory call.now ≡ false → IsOk result }
 {
     match call.row().posting {
         Some(to) => post(alloc, posts, to.queue, to.rank, kinds),
-        None => plain_done(alloc, limits, posts, memory, thread, call),
+        None => plain_done(alloc, limits, posts, memory, thread, call, message),
     }
 }
 

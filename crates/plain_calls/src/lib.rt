@@ -4,11 +4,13 @@
 
 mod atomic_calls;
 mod calls;
+mod group_calls;
 mod lanes;
 mod looks;
 mod memories;
 mod memory_calls;
 mod notification_calls;
+mod passive_calls;
 mod post_calls;
 mod posting;
 mod queue_calls;

@@ -1,22 +1,36 @@
 //! What a look at a call found. It is recorded as it was found, and nothing of it is looked for again.
 
-ghost use Rattle.std.specs.Prelude.{◌≡◌};
+ghost use Rattle.std.specs.Prelude.{◌≡◌, None};
+ghost use Rattle.segment_tables.specs.declared.kinds.Kinds.TheVariants as kinds;
 ghost use Rattle.gaspi_types.specs.Replies.{same_reply, is_idle};
 ghost use Rattle.gaspi_model.specs.Calls.{recorded_reply};
 
 use crate::replies::is_idle;
-use gaspi_types::{Ready, Reply};
+use gaspi_types::{Message, Ready, Reply};
 use reply_comparison::same_reply;
 use segment_tables::Kinds;
 
-/// What a look at a call found: what it answers, and the kinds of the entries to append where it posts and is done.
+/// What a look at a call found: what it answers, and, where it is done, the kinds of the entries that it appends, or the
+/// message that it sends.
 #[derive(Debug, Drop)]
 pub struct Finding {
     pub ready: Ready,
     pub kinds: Kinds,
+    pub message: Option<Message>,
 }
 
 impl Finding {
+    /// What a look found that asks for no entry and brings no message.
+    pub fn plain(ready: Ready) -> Finding
+        ensures { result ≡ record { ready = ready; kinds = kinds.Nothing; message = None } }
+    {
+        Finding {
+            ready,
+            kinds: Kinds::Nothing,
+            message: None,
+        }
+    }
+
     /// Whether the call is recorded as a refusal or a timeout.
     pub fn is_idle(&self) -> bool
         ensures { result ≡ is_idle (recorded_reply self.now.ready) }

@@ -49,7 +49,7 @@ pub fn set_segment(
     new: Option<Segment>,
     slots: Option<Rows<u32>>,
 )
-    ensures { memory.new ≡ record { segments = slice_set memory.old.segments segment new; slots = slice_set memory.old.slots segment slots } }
+    ensures { memory.new ≡ record memory.old { segments = slice_set memory.old.segments segment new; slots = slice_set memory.old.slots segment slots } }
 {
     let place = segment as usize;
     if place < memory.segments.len() {

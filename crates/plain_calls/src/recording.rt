@@ -67,13 +67,19 @@ fn record_found(
     requires events { posts.old.events + 1 < 2 ^ 32 }
     ensures reply { IfOk result (λ reply. reply ≡ recorded_reply look.ready) }
     ensures posts { OnOk result (posts.new ≡ found_after posts.old thread call.now look) }
-    ensures memory { OnOk result (memory.new ≡ memory_after limits.now posts.old memory.old call.now (recorded_reply look.ready)) }
+    ensures memory { OnOk result (memory.new ≡ memory_after limits.now posts.old look.message memory.old call.now (recorded_reply look.ready)) }
     ensures posts_kept { OnErr result (posts.new ≡ posts.old) }
     ensures memory_kept { OnErr result (memory.new ≡ memory.old) }
     ensures ample { keeps_memory call.now ≡ false → IsOk result }
 {
     let events = posts.events + 1;
-    if !look.is_idle() {
+    let idle = look.is_idle();
+    let Finding {
+        ready,
+        kinds,
+        message,
+    } = look;
+    if !idle {
         call_done(
             alloc,
             limits,
@@ -81,17 +87,18 @@ fn record_found(
             memory,
             thread,
             call,
-            look.kinds.as_slice(),
+            kinds.as_slice(),
+            message,
         )?;
     }
     posts.events = events;
-    Ok(recorded_reply(look.ready))
+    Ok(recorded_reply(ready))
 }
 
 /// Records a look at a call: the step by the call with what the look found. It gives the reply with which the call was
 /// recorded. The look is one of this very call on these very posts and this memory, so nothing is looked for again: what is
-/// left to check is that the rank has room. `taken` is the room that the rank has taken, before and after. Only a post
-/// and a segment that is made take memory.
+/// left to check is that the rank has room. `taken` is the room that the rank has taken, before and after. Only a post,
+/// a segment that is made and a message take memory.
 pub fn record(
     alloc: Global,
     limits: &Limits,
@@ -109,7 +116,7 @@ pub fn record(
     requires there { is_there (thread_at posts.old thread) ≡ true }
     requires look { IsFinding look limits.now me posts.old memory.old thread call.now }
     ensures reply { IfOk result (λ reply. reply ≡ recorded_reply look.ready) }
-    ensures step { Steps {S = Worked} (made_of result) (record { posts = posts.old; memory = memory.old }) (record { posts = posts.new; memory = memory.new }) (called limits.now me posts.old memory.old thread call.now (recorded_reply look.ready)) }
+    ensures step { Steps {S = Worked} (made_of result) (record { posts = posts.old; memory = memory.old }) (record { posts = posts.new; memory = memory.new }) (called limits.now me posts.old look.message memory.old thread call.now (recorded_reply look.ready)) }
     ensures taken { taken.new ≡ posts.new.events + owed posts.new }
     ensures ample { keeps_memory call.now ≡ false → result ≢ Err StepFault.NoMemory }
 {

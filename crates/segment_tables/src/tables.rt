@@ -1,10 +1,13 @@
 //! Tables of segments: what a rank has, and what it knows of others. (GASPI: segments)
 
 ghost use Rattle.std.specs.Prelude.{◌≡◌, ◌+◌, ◌<◌, ◌^◌, OnSome, slice_set};
+ghost use Rattle.gaspi_types.specs.Inboxes.{passive_checks};
 ghost use Rattle.gaspi_types.specs.SegmentTables.{extent_in, known_extent, own_range_checks, alloc_checks, next_generation, with_generation, with_own, without_own, with_known};
 
-use crate::ranges::check_range;
-use gaspi_types::{Extent, Extents, RankId, Refusal, Rows, SegmentTable, is_segment_size};
+use crate::ranges::{check_range, is_within};
+use gaspi_types::{
+    Extent, Extents, RankId, Refusal, Rows, SegmentTable, is_passive_size, is_segment_size,
+};
 
 /// What stands in a table of segments at a number, which is below 32.
 pub fn extent_in(table: &Extents, segment: u64) -> Option<Extent>
@@ -41,6 +44,21 @@ pub fn check_own_range(own: &Extents, seg: u64, offset: u64, size: u64) -> Resul
 {
     let mine = extent_in(own, seg).ok_or(Refusal::NoSegment)?;
     check_range(mine.size, offset, size)
+}
+
+/// Checks a range of an own segment for a message: the segment is there (`NoSegment`), the message may have that many bytes
+/// (`BadSize`), and they lie in the segment (`BadRange`). (GASPI: passive_send, passive_receive)
+pub fn check_message_range(own: &Extents, seg: u64, offset: u64, size: u64) -> Result<(), Refusal>
+    ensures { result ≡ passive_checks own.now seg offset size }
+{
+    let mine = extent_in(own, seg).ok_or(Refusal::NoSegment)?;
+    if !is_passive_size(size) {
+        return Err(Refusal::BadSize);
+    }
+    if !is_within(offset, size, u64::from(mine.size)) {
+        return Err(Refusal::BadRange { size: mine.size });
+    }
+    Ok(())
 }
 
 /// Checks that a segment may be made: its number (`NoSegment`), that it is not there (`SegmentThere`), its size
