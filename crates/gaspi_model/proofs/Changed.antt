@@ -1,5 +1,8 @@
--- What events change: puts, takes, stores, atomics, queues, segments that are made, deleted or told.
+-- What events change: puts, takes, stores, atomics, posts, queues, messages, groups, segments that are made, deleted or told.
+pub mod GroupCalls
+pub mod Messages
 pub mod OwnCalls
+pub mod Posted
 pub mod Puts
 pub mod QueueCalls
 pub mod Registered

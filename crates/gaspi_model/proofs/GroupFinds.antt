@@ -1,5 +1,5 @@
 -- What the calls on groups have found that are done.
-use Rattle.std.proofs.Common.{◌≡◌, ℕ, ◌+◌, true, not, ◌==◌, nat_lt, Option, None, Some, Ok, refl, sym, ap}
+use Rattle.std.proofs.Common.{◌≡◌, ◌+◌, true, not, ◌==◌, nat_lt, Option, None, Some, Ok}
 use Rattle.gaspi_types.specs.Groups.{is_building, handle_at, next_group, building_at, drop_checks, is_idle_group}
 use Rattle.gaspi_types.specs.Tables.{entry_at}
 use Rattle.gaspi_types.specs.declared.calls.groups.GroupAdd as group_add

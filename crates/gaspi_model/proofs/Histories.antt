@@ -20,7 +20,7 @@ use Rattle.gaspi_model.specs.declared.states.Why.{Why}
 use Rattle.gaspi_model.proofs.Made.{memories_at, call_reach, memories-same, step-called}
 use Rattle.gaspi_model.proofs.Sound.Told.{told-idle}
 use Rattle.gaspi_model.proofs.Sound.Opening.{opens}
-use Rattle.gaspi_model.proofs.Sound.Steps.{steps}
+use Rattle.gaspi_model.proofs.Sound.Steps.{steps, limits-stay}
 
 -- the state after one event and the others
 pub after-step : (s t : State) (e : Event) (events : List Event) → step s e ≡ Ok t → after s (e ∷ events) ≡ after t events
@@ -64,6 +64,13 @@ after-sound s t [] sound h = let same : s ≡ t = cc in rw (sym same) sound
 after-sound s t (e ∷ events) sound h =
     let first = after-first s t e events h in
     after-sound first.0 t events (steps s first.0 e sound first.1) first.2
+
+-- the limits stay as they are
+pub after-limits : (s t : State) (events : List Event) → after s events ≡ Ok t → t.limits ≡ s.limits
+after-limits s t [] h = (let same : s ≡ t = cc in ap (λ (x : State). x.limits) (sym same))
+after-limits s t (e ∷ events) h =
+    let first = after-first s t e events h in
+    after-limits first.0 t events first.2 ∙ limits-stay s first.0 e first.1
 
 -- every state of a legal history is sound
 pub reached-sound : (w : World) (history : List Event) (s : State) → IsWorld w → reached w history ≡ Ok s → IsSound s

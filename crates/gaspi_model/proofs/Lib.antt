@@ -9,6 +9,7 @@ pub mod Worked
 pub mod CorruptMarks
 pub mod Histories
 pub mod WorkedHistories
+pub mod WorkedMessages
 pub mod Sound
 pub mod Changed
 pub mod Ordered

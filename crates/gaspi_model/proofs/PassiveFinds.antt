@@ -1,5 +1,5 @@
 -- What a send and a receive have found that are done.
-use Rattle.std.proofs.Common.{◌≡◌, ℕ, ◌≤◌, true, false, Bool, nat_lt, nat_le, List, [], ◌∷◌, length, Option, None, Some, Result, Ok, refl, sym, subst, if◌then◌else◌}
+use Rattle.std.proofs.Common.{◌≡◌, ℕ, ◌≤◌, true, false, Bool, nat_lt, nat_le, List, [], ◌∷◌, length, Option, None, Some, Ok, refl, sym, subst, if◌then◌else◌}
 use Rattle.std.proofs.lemmas.Bool.{leb-true}
 use Rattle.std.specs.Option.{option_map}
 use Rattle.gaspi_types.specs.Inboxes.{is_passive_size, passive_checks, has_room, first_within}
@@ -10,7 +10,6 @@ use Rattle.gaspi_types.specs.declared.calls.passive.PassiveReceive as receive
 use Rattle.gaspi_types.specs.declared.inboxes.Message.{Message}
 use Rattle.gaspi_types.specs.declared.segments.Extent.{Extent}
 use Rattle.gaspi_types.specs.declared.shapes.Limits.{Limits}
-use Rattle.gaspi_types.specs.declared.replies.Refusal.{Refusal}
 use Rattle.gaspi_types.specs.declared.replies.Refusal.TheVariants.{NoSegment, BadSize, BadRank}
 use Rattle.gaspi_types.specs.declared.replies.Reply.{Reply}
 use Rattle.gaspi_types.specs.declared.replies.Reply.TheVariants as replies

@@ -1,10 +1,12 @@
 -- What events change, in the words of what they are for.
-use Rattle.std.specs.Prelude.{◌≡◌, ◌≢◌, ℕ, ◌+◌, ◌&&◌, Bool, true, false, if◌then◌else◌, List, [], length, remove, replicate, slice_get, slice_set, Option, None, Some}
+use Rattle.std.specs.Prelude.{◌≡◌, ◌≢◌, ℕ, ◌+◌, ◌<◌, ◌≤◌, ◌==◌, ◌&&◌, ◌||◌, Bool, true, false, if◌then◌else◌, List, [], ◌∷◌, ◌++◌, length, remove, replicate, slice_get, slice_set, Option, None, Some, Ok}
 use Rattle.std.specs.List.{list_any}
 use Rattle.std.specs.Int.{bit_at}
 use Rattle.gaspi_types.specs.Kinds.{is_outward, is_read_kind, source_of, destination_of}
-use Rattle.gaspi_types.specs.Lanes.{is_posted, is_carried, has_awaited}
-use Rattle.gaspi_types.specs.Masks.{bit_of, is_marked}
+use Rattle.gaspi_types.specs.CallRows.{entries_of}
+use Rattle.gaspi_types.specs.Groups.{handle_at}
+use Rattle.gaspi_types.specs.Lanes.{is_posted, is_carried, has_awaited, posted_entries}
+use Rattle.gaspi_types.specs.Masks.{bit_of, is_marked, is_member}
 use Rattle.gaspi_types.specs.Queues.{user_of}
 use Rattle.gaspi_types.specs.SegmentBytes.{range_of}
 use Rattle.gaspi_types.specs.Segments.{IsSegmentWritten}
@@ -19,7 +21,13 @@ use Rattle.gaspi_types.specs.declared.entries.Destination.{Destination}
 use Rattle.gaspi_types.specs.declared.entries.Destination.TheVariants.{Range, Slot}
 use Rattle.gaspi_types.specs.declared.entries.Kind.{Kind}
 use Rattle.gaspi_types.specs.declared.entries.Kind.TheVariants.{Write, Read, Notify, ReadNote}
+use Rattle.gaspi_types.specs.declared.calls.Call.{Call}
+use Rattle.gaspi_types.specs.declared.collectives.Stage.TheVariants.{Building}
+use Rattle.gaspi_types.specs.declared.groups.Handle.{Handle}
+use Rattle.gaspi_types.specs.declared.groups.Handles.{Handles}
+use Rattle.gaspi_types.specs.declared.inboxes.Message.{Message}
 use Rattle.gaspi_model.specs.State.{segment_at}
+use Rattle.gaspi_model.specs.Calls.{call_asks}
 use Rattle.gaspi_model.specs.Posting.{counted}
 use Rattle.gaspi_model.specs.Memories.{slots_of}
 use Rattle.gaspi_model.specs.Transfers.{carried_bytes}
@@ -316,4 +324,118 @@ pub record IsGone (s t : State) (me segment : ℕ) : Type 0 where
   pub after : t ≡ record s {
     posts = slice_set s.posts me (record (counted posts) { segments = record posts.segments { own = slice_set posts.segments.own segment None } });
     memories = slice_set s.memories me (record memory { segments = slice_set memory.segments segment None; slots = slice_set memory.slots segment None });
+  }
+
+-- A post that is done: it asks for entries, as many as its row says; its queue is not broken and has room for all of them;
+-- and they stand last in the lane of the rank that it names, posted, with numbers one after another from the rank's next
+-- number on. The open count of the queue, and the next number, are higher by so many; and nothing else has changed but the
+-- count of events of the caller's rank. (one-sided communication)
+pub record IsPosted (s t : State) (me : ℕ) (call : Call) (queue rank : ℕ) : Type 0 where
+  pub posts : Posts
+  pub kinds : List Kind
+  pub q : Queue
+  pub lane : List Entry
+  pub posts_there : slice_get s.posts me ≡ Some posts
+  pub asks : call_asks s.limits me posts call ≡ Ok kinds
+  pub count : length kinds ≡ entries_of call
+  pub queue_there : slice_get posts.queues queue ≡ Some q
+  pub whole : q.broken ≡ None
+  pub room : q.open_count + length kinds ≤ s.limits.depth
+  pub lane_there : slice_get q.lanes rank ≡ Some lane
+  pub after : t ≡ record s {
+    posts = slice_set s.posts me (record (counted posts) {
+      queues = slice_set posts.queues queue (record q {
+        open_count = q.open_count + length kinds;
+        lanes = slice_set q.lanes rank (lane ++ posted_entries posts.next kinds);
+      });
+      next = posts.next + length kinds;
+    });
+  }
+
+-- A send that is done: its range lies in a segment of the caller's rank, and the inbox of the rank that it names, which may
+-- be the own one, has room. That inbox has one message more, which stands last: it is from the caller's rank, with the bytes
+-- that stand in the range now. Nothing else has changed but the count of events of the caller's rank. (passive communication:
+-- passive_send)
+pub record IsSent (s t : State) (me rank segment offset size : ℕ) : Type 0 where
+  pub posts : Posts
+  pub own : Memory
+  pub item : Segment
+  pub peer : Memory
+  pub posts_there : slice_get s.posts me ≡ Some posts
+  pub own_there : slice_get s.memories me ≡ Some own
+  pub item_there : segment_at own segment ≡ Some item
+  pub within : offset + size ≤ length item.bytes
+  pub peer_there : slice_get s.memories rank ≡ Some peer
+  pub room : length peer.inbox < s.limits.inbox
+  pub after : t ≡ record s {
+    posts = slice_set s.posts me (counted posts);
+    memories = slice_set s.memories rank (record peer { inbox = peer.inbox ++ record { sender = me; bytes = range_of item.bytes offset size } ∷ [] });
+  }
+
+-- A receive that is done: the first message of the inbox of the caller's rank, which is not longer than the range, is gone
+-- from it; its bytes, and no more, stand in the segment from the offset on; it answers the rank that sent it; and nothing else
+-- has changed but the count of events of the caller's rank. (passive communication: passive_receive)
+pub record IsReceived (s t : State) (me segment offset size sender : ℕ) : Type 0 where
+  pub posts : Posts
+  pub old : Memory
+  pub new : Memory
+  pub message : Message
+  pub rest : List Message
+  pub posts_there : slice_get s.posts me ≡ Some posts
+  pub old_there : slice_get s.memories me ≡ Some old
+  pub first : old.inbox ≡ message ∷ rest
+  pub fits : length message.bytes ≤ size
+  pub answers : sender ≡ message.sender
+  pub taken : new.inbox ≡ rest
+  pub segments : IsSegmentWritten old.segments new.segments segment offset message.bytes
+  pub slots : new.slots ≡ old.slots
+  pub after : t ≡ record s { posts = slice_set s.posts me (counted posts); memories = slice_set s.memories me new }
+
+-- A group that is made: its number is the next one, at most 7, and the rank had no group of that number; it is built yet, and
+-- no rank is in it; and nothing else has changed but the count of events of its rank. (groups: group_create)
+pub record IsGroupMade (s t : State) (me id : ℕ) : Type 0 where
+  pub posts : Posts
+  pub groups : Handles
+  pub handle : Handle
+  pub posts_there : slice_get s.posts me ≡ Some posts
+  pub next : id ≡ posts.groups.made + 1
+  pub few : id ≤ 7
+  pub free : handle_at posts.groups id ≡ None
+  pub there : handle_at groups id ≡ Some handle
+  pub building : handle.stage ≡ Building
+  pub empty : (rank : ℕ) → is_member handle.members rank ≡ false
+  pub made : groups.made ≡ id
+  pub table : groups.table ≡ slice_set posts.groups.table id (Some handle)
+  pub after : t ≡ record s { posts = slice_set s.posts me (record (counted posts) { groups = groups }) }
+
+-- A rank that is added to a group: the group is built yet, and no collective of the caller's rank is pending on it; that rank,
+-- which is one of the world, is in it, with those that were; and nothing else has changed but the count of events of the
+-- caller's rank. (groups: group_add)
+pub record IsGroupAdded (s t : State) (me id rank : ℕ) : Type 0 where
+  pub posts : Posts
+  pub old : Handle
+  pub new : Handle
+  pub posts_there : slice_get s.posts me ≡ Some posts
+  pub ranked : rank < s.limits.ranks
+  pub old_there : handle_at posts.groups id ≡ Some old
+  pub building : old.stage ≡ Building
+  pub idle : entry_at posts.pending id ≡ None
+  pub stage : new.stage ≡ old.stage
+  pub members : (other : ℕ) → is_member new.members other ≡ (rank == other) || is_member old.members other
+  pub after : t ≡ record s {
+    posts = slice_set s.posts me (record (counted posts) { groups = record posts.groups { table = slice_set posts.groups.table id (Some new) } });
+  }
+
+-- A group that is dropped: it was there, it is not group 0, and no collective of the caller's rank is pending on it; it is
+-- gone, with its number used for good; and nothing else has changed but the count of events of the caller's rank. (groups:
+-- group_delete)
+pub record IsGroupDropped (s t : State) (me id : ℕ) : Type 0 where
+  pub posts : Posts
+  pub old : Handle
+  pub posts_there : slice_get s.posts me ≡ Some posts
+  pub old_there : handle_at posts.groups id ≡ Some old
+  pub other : id ≢ 0
+  pub idle : entry_at posts.pending id ≡ None
+  pub after : t ≡ record s {
+    posts = slice_set s.posts me (record (counted posts) { groups = record posts.groups { table = slice_set posts.groups.table id None } });
   }

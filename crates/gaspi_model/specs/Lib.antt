@@ -17,5 +17,7 @@ pub mod Coherence
 pub mod Sound
 pub mod Shards
 pub mod Changes
+pub mod Messages
+pub mod RankGroups
 pub mod Order
 pub mod Settled

@@ -4,11 +4,14 @@ ghost use Rattle.std.specs.Prelude.{◌==◌, ◌≡◌, ◌≢◌, ℕ, ◌+◌
 ghost use Rattle.byteorder.specs.Endian.{little_bytes};
 ghost use Rattle.gaspi_types.specs.CallRows.{need_of, row_of};
 ghost use Rattle.gaspi_types.specs.declared.call_rows.Posting.{Posting};
+ghost use Rattle.gaspi_types.specs.Groups.{handle_of_all};
+ghost use Rattle.gaspi_types.specs.declared.collectives.Stage.TheVariants.{Committed};
+ghost use Rattle.gaspi_types.specs.declared.groups.Handle.{Handle};
 ghost use Rattle.gaspi_types.specs.Replies.{is_idle, same_reply};
 ghost use Rattle.std.specs.List.{list_any, count_by};
 ghost use Rattle.gaspi_types.specs.World.{World, IsWorld, is_caller};
 ghost use Rattle.gaspi_types.specs.declared.calls.Call.{Call};
-ghost use Rattle.gaspi_types.specs.declared.calls.Call.TheVariants.{Alloc, Register, Delete, Store, Load, Write, Read, Notify, WriteNotify, ReadNotify, WriteList, WriteListNotify, ReadList, ReadListNotify, Wait, Purge, Qsize, Waitsome, Reset, FetchAdd, CompareSwap, End};
+ghost use Rattle.gaspi_types.specs.declared.calls.Call.TheVariants.{Alloc, Register, Delete, Store, Load, Write, Read, Notify, WriteNotify, ReadNotify, WriteList, WriteListNotify, ReadList, ReadListNotify, Wait, Purge, Qsize, Waitsome, Reset, PassiveSend, PassiveReceive, FetchAdd, CompareSwap, GroupCreate, GroupAdd, GroupDelete, End};
 ghost use Rattle.gaspi_types.specs.declared.calls.Call.TheVariants as calls;
 ghost use Rattle.gaspi_types.specs.SegmentBytes.{range_of};
 ghost use Rattle.gaspi_types.specs.SegmentWords.{word_at};
@@ -32,8 +35,12 @@ ghost use Rattle.gaspi_types.specs.declared.calls.posts.WriteList as write_list;
 ghost use Rattle.gaspi_types.specs.declared.calls.posts.WriteListNotify as write_list_notify;
 ghost use Rattle.gaspi_types.specs.declared.calls.posts.ReadList as read_list;
 ghost use Rattle.gaspi_types.specs.declared.calls.posts.ReadListNotify as read_list_notify;
+ghost use Rattle.gaspi_types.specs.declared.calls.passive.PassiveSend as send;
+ghost use Rattle.gaspi_types.specs.declared.calls.passive.PassiveReceive as receive;
 ghost use Rattle.gaspi_types.specs.declared.calls.atomics.FetchAdd as fetch_add;
 ghost use Rattle.gaspi_types.specs.declared.calls.atomics.CompareSwap as compare_swap;
+ghost use Rattle.gaspi_types.specs.declared.calls.groups.GroupAdd as group_add;
+ghost use Rattle.gaspi_types.specs.declared.calls.groups.GroupDelete as group_delete;
 ghost use Rattle.gaspi_types.specs.declared.events.Event.{Event};
 ghost use Rattle.gaspi_types.specs.declared.events.Event.TheVariants.{Called, Take, Put};
 ghost use Rattle.gaspi_types.specs.declared.events.Outcome.TheVariants.{Applied, Failed};
@@ -44,9 +51,11 @@ ghost use Rattle.gaspi_types.specs.declared.replies.Reply.{Reply};
 ghost use Rattle.gaspi_types.specs.declared.replies.Reply.TheVariants as replies;
 ghost use Rattle.gaspi_types.specs.declared.shapes.CallerId.{CallerId};
 ghost use Rattle.gaspi_model.specs.Calls.{recorded_reply};
-ghost use Rattle.gaspi_model.specs.Changes.{IsOnlyCounted, IsAnswered, IsRead, AreSlotsRead, IsReset, IsWaited, IsPurged, IsSizeAnswered, IsStateAnswered, IsMade, IsGone, IsPutDone, IsFailed, IsTaken, IsRegistered, IsWritten, is_corrupt, may_take_fail, may_put_fail};
+ghost use Rattle.gaspi_model.specs.Changes.{IsOnlyCounted, IsAnswered, IsRead, AreSlotsRead, IsReset, IsWaited, IsPurged, IsSizeAnswered, IsStateAnswered, IsMade, IsGone, IsPutDone, IsFailed, IsTaken, IsRegistered, IsWritten, IsPosted, IsSent, IsReceived, IsGroupMade, IsGroupAdded, IsGroupDropped, is_corrupt, may_take_fail, may_put_fail};
 ghost use Rattle.gaspi_types.specs.Lanes.{is_write, is_read};
+ghost use Rattle.gaspi_model.specs.Messages.{IsEarliest, inbox_of, sent_in, received_in};
 ghost use Rattle.gaspi_model.specs.Order.{AreStanding, IsNotificationStanding, IsReadNoteStanding, IsReadStanding, IsWriteStanding, is_purge_of};
+ghost use Rattle.gaspi_model.specs.RankGroups.{handle_of, is_drop_of};
 ghost use Rattle.gaspi_model.specs.Shards.{AgreeOn, ComeToSame, HaveSamePart, is_shard, same_shard, footprint, numbers_of, is_among};
 ghost use Rattle.gaspi_model.specs.declared.states.Shard.{Shard};
 ghost use Rattle.gaspi_model.specs.declared.states.Shard.TheVariants as shards;
@@ -102,8 +111,14 @@ pub fn enabled()
 /// the size of a queue is its open count; and the state vector has bit r exactly where rank r is corrupt for the caller's
 /// rank. A load and a `waitsome` answer what stands there, and a reset takes it. A store
 /// changes exactly its range, and an atomic, which answers what stood there, exactly its word, a `compare_swap` only where it
-/// answers the comparator. A refusal or a timeout changes nothing; and in each case nothing else has changed but the count
-/// of events. (GASPI: one-sided communication, notifications, state vector, segments, atomics, timeouts)
+/// answers the comparator. A post that is done appends exactly the entries that it asks for, as many as its row says, to the
+/// lane of its queue and of the rank that it names, posted, with numbers one after another from its rank's next number on, and
+/// the queue, which is not broken, has room for them. A send puts one message, of the caller's rank and with the bytes of its range, at the end of the
+/// inbox of the rank that it names, which may be its own; a receive takes the first message of its rank's inbox, writes its
+/// bytes, no more, into its range, and answers who sent it. A group that is made has the next number of its rank, is built yet
+/// and empty; one rank is added to a group that is built yet; and a group that is dropped, not group 0, is gone. A refusal or a
+/// timeout changes nothing; and in each case nothing else has changed but the count of events. (GASPI: one-sided
+/// communication, notifications, state vector, segments, atomics, passive communication, groups, timeouts)
 pub fn changes()
     ensures put { (s t : State) (origin queue target number : ℕ) → IsSound s → step s (Put origin queue target number Applied) ≡ Ok t
         → IsPutDone s t origin queue target number }
@@ -147,6 +162,18 @@ pub fn changes()
         → IsWritten s t c.rank call.rank call.seg call.offset (little_bytes 8 call.new) }
     ensures kept { (s t : State) (c : CallerId) (call : compare_swap.CompareSwap) (old : ℕ) → old ≢ call.comparator → step s (Called c (CompareSwap call) (replies.Value old)) ≡ Ok t
         → IsOnlyCounted s t c.rank }
+    ensures posted { (s t : State) (c : CallerId) (call : Call) (to : Posting) → IsSound s → (row_of call).posting ≡ Some to → step s (Called c call replies.Done) ≡ Ok t
+        → IsPosted s t c.rank call to.queue to.rank }
+    ensures sent { (s t : State) (c : CallerId) (call : send.PassiveSend) → IsSound s → step s (Called c (PassiveSend call) replies.Done) ≡ Ok t
+        → IsSent s t c.rank call.rank call.seg call.offset call.size }
+    ensures received { (s t : State) (c : CallerId) (call : receive.PassiveReceive) (sender : ℕ) → IsSound s → step s (Called c (PassiveReceive call) (replies.Id sender)) ≡ Ok t
+        → IsReceived s t c.rank call.seg call.offset call.size sender }
+    ensures group_made { (s t : State) (c : CallerId) (id : ℕ) → IsSound s → step s (Called c GroupCreate (replies.Id id)) ≡ Ok t
+        → IsGroupMade s t c.rank id }
+    ensures group_added { (s t : State) (c : CallerId) (call : group_add.GroupAdd) → IsSound s → step s (Called c (GroupAdd call) replies.Done) ≡ Ok t
+        → IsGroupAdded s t c.rank call.group call.rank }
+    ensures group_dropped { (s t : State) (c : CallerId) (call : group_delete.GroupDelete) → IsSound s → step s (Called c (GroupDelete call) replies.Done) ≡ Ok t
+        → IsGroupDropped s t c.rank call.group }
 {}
 
 /// A rank that is once corrupt in the state vector of a rank stays so. (GASPI: state vector)
@@ -212,6 +239,35 @@ pub fn notification_order()
         → IsReadStanding w earlier origin queue target m → IsReadNoteStanding w (earlier ++ later) origin queue target n → m < n
         → list_any (is_purge_of origin queue) later ≡ false
         → (place : ℕ) × (slice_get later place ≡ Some (Put origin queue target m Applied)) }
+{}
+
+/// Messages come in order, none is lost and none comes twice. What a rank is sent is the messages of the sends to it that are
+/// done, each with the rank of its sender and with the bytes that its range has at the send; what it receives is the first
+/// message of its inbox at each of its receives that is done, in whatever of its threads. In a legal history what a rank is
+/// sent is what it has received, followed by what stands in its inbox, all in the order of the history: so what it has
+/// received is a front part of what it was sent. An inbox never has more messages than the limits say. A receive answers who
+/// sent the first message of the inbox, which is the earliest of those that were sent to the rank and that it has not
+/// received. (GASPI: passive communication)
+pub fn messages()
+    ensures order { (w : World) (history : List Event) (s : State) (rank : ℕ) → IsWorld w → reached w history ≡ Ok s
+        → sent_in (opening w) history rank ≡ received_in (opening w) history rank ++ inbox_of s rank }
+    ensures few { (w : World) (history : List Event) (s : State) (rank : ℕ) → IsWorld w → reached w history ≡ Ok s → length (inbox_of s rank) ≤ w.limits.inbox }
+    ensures received { (w : World) (history : List Event) (s : State) (c : CallerId) (call : receive.PassiveReceive) (sender : ℕ) → IsWorld w → reached w history ≡ Ok s
+        → is_legal w (history ++ Called c (PassiveReceive call) (replies.Id sender) ∷ []) ≡ true
+        → IsEarliest w history s c.rank sender }
+{}
+
+/// The groups of a rank. Of two groups that a rank makes in a legal history, in whatever of its threads, the later one has the
+/// greater number, so no number is given twice, also after a group is dropped. A committed group of a rank stays as it is, with
+/// the same members, by every event but a `group_delete` of it by that rank that is done. Group 0 of each rank is there in each
+/// state of a legal history: it is committed, and has every rank. (GASPI: groups)
+pub fn groups()
+    ensures rising { (w : World) (earlier later rest : List Event) (c d : CallerId) (m n : ℕ) → c.rank ≡ d.rank
+        → is_legal w (earlier ++ Called c GroupCreate (replies.Id m) ∷ later ++ Called d GroupCreate (replies.Id n) ∷ rest) ≡ true → m < n }
+    ensures kept { (s t : State) (e : Event) (rank id : ℕ) (h : Handle) → IsSound s → step s e ≡ Ok t → handle_of s rank id ≡ Some h → h.stage ≡ Committed
+        → is_drop_of rank id e ≡ false → handle_of t rank id ≡ Some h }
+    ensures all { (w : World) (history : List Event) (s : State) (rank : ℕ) → IsWorld w → reached w history ≡ Ok s → rank < w.limits.ranks
+        → handle_of s rank 0 ≡ Some (handle_of_all w.limits.ranks) }
 {}
 
 /// Where a history is legal, so is each part that it begins with.

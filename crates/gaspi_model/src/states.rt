@@ -1,7 +1,8 @@
 //! The state of the machine.
 
 use gaspi_types::{
-    Group, GroupId, Handles, Limits, Messages, OwnSegments, Pending, Queue, RankId, Rows, SegmentTable,
+    Group, GroupId, Handles, Limits, Messages, OwnSegments, Pending, Queue, RankId, Rows,
+    SegmentTable,
 };
 
 /// Whether a thread of a rank has a script, and has ended.

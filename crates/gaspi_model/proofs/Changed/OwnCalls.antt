@@ -55,16 +55,16 @@ use Rattle.gaspi_model.proofs.Sound.Told.{told, told_at}
 use Rattle.gaspi_model.proofs.Worked.{memory_place, memory_rank, sound-called}
 
 -- a call on the own memory that was answered neither with a refusal nor with a timeout
-record IsOwnWorked (s t : State) (c : CallerId) (call : Call) (reply : Reply) (posts : Posts) (memory : Memory) : Type 0 where
-  posts_there : slice_get s.posts c.rank ≡ Some posts
-  memory_there : slice_get s.memories c.rank ≡ Some memory
-  finds : call_finds s.limits c.rank posts memory call ≡ Ok (Some reply)
-  leaves : t ≡ record s {
+pub record IsOwnWorked (s t : State) (c : CallerId) (call : Call) (reply : Reply) (posts : Posts) (memory : Memory) : Type 0 where
+  pub posts_there : slice_get s.posts c.rank ≡ Some posts
+  pub memory_there : slice_get s.memories c.rank ≡ Some memory
+  pub finds : call_finds s.limits c.rank posts memory call ≡ Ok (Some reply)
+  pub leaves : t ≡ record s {
     posts = slice_set s.posts c.rank (posts_after s.limits c.rank posts c.thread call reply);
     memories = slice_set s.memories c.rank (memory_after s.limits posts (call_brought s c.rank call) memory call reply);
   }
 
-own-worked : (s t : State) (c : CallerId) (call : Call) (reply : Reply) → (row_of call).touch ≡ touches.OwnMemory → is_idle reply ≡ false → IsSound s → step s (Called c call reply) ≡ Ok t
+pub own-worked : (s t : State) (c : CallerId) (call : Call) (reply : Reply) → (row_of call).touch ≡ touches.OwnMemory → is_idle reply ≡ false → IsSound s → step s (Called c call reply) ≡ Ok t
     → (posts : Posts) × (memory : Memory) × IsOwnWorked s t c call reply posts memory
 own-worked s t c call reply own awake sound h =
     let made = sound-called s t c call reply sound h in
@@ -95,7 +95,7 @@ only-read s t me posts memory hp hm leaves = record {
 }
 
 -- an own segment is there
-own-there : (s : State) (me : ℕ) (posts : Posts) (memory : Memory) (seg : ℕ) (mine : Extent) → IsSound s → slice_get s.posts me ≡ Some posts → slice_get s.memories me ≡ Some memory
+pub own-there : (s : State) (me : ℕ) (posts : Posts) (memory : Memory) (seg : ℕ) (mine : Extent) → IsSound s → slice_get s.posts me ≡ Some posts → slice_get s.memories me ≡ Some memory
     → extent_in posts.segments.own seg ≡ Some mine → (x : Segment) × (segment_at memory seg ≡ Some x) × (extent_of x ≡ mine)
 own-there s me posts memory seg mine sound hp hm there =
     segment-behind memory.segments seg mine (subst (λ (own : List (Option Extent)). extent_in own seg ≡ Some mine) (sound.coherent.own me posts memory hp hm) there)

@@ -40,12 +40,12 @@ use Rattle.gaspi_model.proofs.Sound.Told.{told, told_at}
 use Rattle.gaspi_model.proofs.Worked.{memory_rank, sound-called}
 
 -- a call on its rank's posts alone that was answered neither with a refusal nor with a timeout
-record IsPostsWorked (s t : State) (c : CallerId) (call : Call) (reply : Reply) (posts : Posts) (memory : Memory) : Type 0 where
-  posts_there : slice_get s.posts c.rank ≡ Some posts
-  finds : call_finds s.limits c.rank posts memory call ≡ Ok (Some reply)
-  leaves : t ≡ record s { posts = slice_set s.posts c.rank (posts_after s.limits c.rank posts c.thread call reply) }
+pub record IsPostsWorked (s t : State) (c : CallerId) (call : Call) (reply : Reply) (posts : Posts) (memory : Memory) : Type 0 where
+  pub posts_there : slice_get s.posts c.rank ≡ Some posts
+  pub finds : call_finds s.limits c.rank posts memory call ≡ Ok (Some reply)
+  pub leaves : t ≡ record s { posts = slice_set s.posts c.rank (posts_after s.limits c.rank posts c.thread call reply) }
 
-posts-worked : (s t : State) (c : CallerId) (call : Call) (reply : Reply) → (row_of call).touch ≡ touches.Nothing → is_idle reply ≡ false
+pub posts-worked : (s t : State) (c : CallerId) (call : Call) (reply : Reply) → (row_of call).touch ≡ touches.Nothing → is_idle reply ≡ false
     → ((posts : Posts) (brought : Option Message) (memory : Memory) → memory_done s.limits posts brought memory call ≡ memory) → IsSound s → step s (Called c call reply) ≡ Ok t
     → (posts : Posts) × (memory : Memory) × IsPostsWorked s t c call reply posts memory
 posts-worked s t c call reply alone awake unmoved sound h =

@@ -116,7 +116,7 @@ few s e = go (slice_get s.posts (owner_of e)) refl
     go (Some posts) at = rw at (reach-few (owner_of e) (event_reach s.limits posts e))
 
 -- a call that posts reaches its owner's posts alone
-posting-reaches-none : (call : Call) (to : Posting) → (row_of call).posting ≡ Some to → (row_of call).touch ≡ touches.Nothing
+pub posting-reaches-none : (call : Call) (to : Posting) → (row_of call).posting ≡ Some to → (row_of call).touch ≡ touches.Nothing
 posting-reaches-none (Write call) to is = refl
 posting-reaches-none (Read call) to is = refl
 posting-reaches-none (Notify call) to is = refl

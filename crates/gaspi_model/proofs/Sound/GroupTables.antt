@@ -1,14 +1,14 @@
 -- The groups of a rank stay sound: group 0 has every rank, and numbers are given one after another.
-use Rattle.std.proofs.Common.{◌≡◌, ◌≢◌, ℕ, zero, suc, ◌+◌, ◌^◌, ◌-◌, ◌<◌, ◌≤◌, Bool, true, false, not, ◌==◌, nat_lt, List, length, Option, None, Some, Result, Ok, Err, refl, sym, ap, ◌∙◌, arith, ◌⊎◌, inl, inr, max, subst}
+use Rattle.std.proofs.Common.{◌≡◌, ℕ, zero, suc, ◌+◌, ◌^◌, ◌<◌, ◌≤◌, Bool, true, false, not, ◌==◌, nat_lt, List, length, Option, None, Some, Result, Ok, Err, refl, sym, ap, ◌∙◌, arith, ◌⊎◌, inl, inr, subst}
 use Rattle.std.specs.List.{slice_get, slice_set}
 use Rattle.std.specs.Option.{option_map, option_and_then}
 use Rattle.std.specs.Int.{bit_at}
 use Rattle.std.specs.Int.RustNames.{bit_or}
 use Rattle.std.proofs.lemmas.Bool.{ltb-true, ltb-false, eqb-true, eqb-false, eq-eqb}
 use Rattle.std.proofs.lemmas.List.{length-set}
-use Rattle.std.proofs.lemmas.Nat.Bits.{bit_at-zero, bit_at_or, bit_at-pow_other, bit_at_ones_above, bit_at-lt}
+use Rattle.std.proofs.lemmas.Nat.Bits.{bit_at-zero, bit_at_or, bit_at-pow_other, bit_at_ones_above}
 use Rattle.gaspi_types.specs.CallRows.{row_of}
-use Rattle.gaspi_types.specs.Groups.{is_building, new_handle, handle_of_all, opening_handles, handle_at, with_group, with_handle, with_added, without_group}
+use Rattle.gaspi_types.specs.Groups.{is_building, new_handle, handle_of_all, opening_handles, handle_at, with_group, with_added, without_group}
 use Rattle.gaspi_types.specs.Masks.{is_member, with_member, all_below}
 use Rattle.gaspi_types.specs.Replies.{is_idle}
 use Rattle.gaspi_types.specs.Tables.{entry_at}
@@ -137,7 +137,7 @@ set-sound ranks groups id x other known within sound = record {
     parts k h rank is (inr there) = sound.members k h there rank is
 
 -- a group that is there was made
-made-there : (ranks : ℕ) (groups : Handles) (id : ℕ) (h : Handle) → AreSoundGroups ranks groups → handle_at groups id ≡ Some h → id ≤ groups.made
+pub made-there : (ranks : ℕ) (groups : Handles) (id : ℕ) (h : Handle) → AreSoundGroups ranks groups → handle_at groups id ≡ Some h → id ≤ groups.made
 made-there ranks groups id h sound at = go (nat_lt groups.made id) refl
   where
     go : (b : Bool) → nat_lt groups.made id ≡ b → id ≤ groups.made
@@ -184,7 +184,7 @@ plain-groups limits me posts memory thread (GroupDelete call) reply h sound =
     without_group-sound limits.ranks posts.groups call.group found.handle found.there found.other sound
 plain-groups limits me posts memory thread other reply h sound = sound
 
-with_post-groups : (posts : Posts) (queue target : ℕ) (asked : Result (List Kind) Refusal) → (with_post posts queue target asked).groups ≡ posts.groups
+pub with_post-groups : (posts : Posts) (queue target : ℕ) (asked : Result (List Kind) Refusal) → (with_post posts queue target asked).groups ≡ posts.groups
 with_post-groups posts queue target (Ok kinds) = refl
 with_post-groups posts queue target (Err refusal) = refl
 

@@ -1,20 +1,17 @@
 -- Inboxes stay sound: none has more than INBOX messages, and each message came from a rank.
-use Rattle.std.proofs.Common.{◌≡◌, ℕ, zero, suc, ◌+◌, ◌<◌, ◌≤◌, Bool, true, false, ◌==◌, nat_lt, List, [], ◌∷◌, ◌++◌, length, Option, None, Some, Result, Ok, refl, sym, ap, ◌∙◌, arith, ◌⊎◌, inl, inr, subst, length-append}
+use Rattle.std.proofs.Common.{◌≡◌, ℕ, zero, suc, ◌<◌, Bool, true, false, ◌==◌, nat_lt, List, [], ◌∷◌, length, Option, Some, Ok, refl, sym, ap, ◌∙◌, arith, ◌⊎◌, inl, inr, subst, length-append}
 use Rattle.std.specs.List.{slice_get, slice_set}
-use Rattle.std.proofs.lemmas.Bool.{ltb-true, leb-true, eq-eqb, eqb-true}
+use Rattle.std.proofs.lemmas.Bool.{ltb-true, leb-true}
 use Rattle.std.proofs.lemmas.Option.{slice_get_within}
-use Rattle.gaspi_types.specs.CallRows.{row_of}
 use Rattle.gaspi_types.specs.Inboxes.{is_passive_size, has_room, deposited}
 use Rattle.gaspi_types.specs.Kinds.{destination_of}
 use Rattle.gaspi_types.specs.Replies.{is_idle}
 use Rattle.gaspi_types.specs.Segments.{extents_of}
 use Rattle.gaspi_types.specs.SegmentBytes.{range_of}
 use Rattle.gaspi_types.specs.SegmentTables.{extent_in}
-use Rattle.gaspi_types.specs.declared.call_rows.Posting.{Posting}
 use Rattle.gaspi_types.specs.declared.calls.Call.{Call}
 use Rattle.gaspi_types.specs.declared.calls.Call.TheVariants.{Alloc, Delete, Store, Reset, PassiveSend, PassiveReceive, FetchAdd, CompareSwap}
 use Rattle.gaspi_types.specs.declared.calls.passive.PassiveSend as send
-use Rattle.gaspi_types.specs.declared.calls.passive.PassiveReceive as receive
 use Rattle.gaspi_types.specs.declared.entries.Destination.{Destination}
 use Rattle.gaspi_types.specs.declared.entries.Destination.TheVariants.{Range, Slot}
 use Rattle.gaspi_types.specs.declared.events.Outcome.{Outcome}
@@ -28,10 +25,10 @@ use Rattle.gaspi_types.proofs.Items.{slice_get-set, there-within, append-parts}
 use Rattle.gaspi_types.proofs.Written.{segment-behind, range_of-length}
 use Rattle.gaspi_model.specs.Calls.{call_finds, memory_done, memory_after}
 use Rattle.gaspi_model.specs.Memories.{bytes_of}
-use Rattle.gaspi_model.specs.PassiveCalls.{message_of, send_leaves, receive_leaves}
+use Rattle.gaspi_model.specs.PassiveCalls.{message_of, send_leaves}
 use Rattle.gaspi_model.specs.Sound.{IsSound, IsSoundInbox}
 use Rattle.gaspi_model.specs.Step.{call_brought}
-use Rattle.gaspi_model.specs.Transfers.{Found, Worked, memory_put, memory_with_put, carried_bytes}
+use Rattle.gaspi_model.specs.Transfers.{Found, Worked, memory_with_put, carried_bytes}
 use Rattle.gaspi_model.specs.declared.states.Posts.{Posts}
 use Rattle.gaspi_model.specs.declared.states.Memory.{Memory}
 use Rattle.gaspi_model.specs.declared.states.State.{State}
@@ -39,7 +36,6 @@ use Rattle.gaspi_model.proofs.FoundReplies.{found-reply}
 use Rattle.gaspi_model.proofs.Made.{IsPut}
 use Rattle.gaspi_model.proofs.PassiveFinds.{IsPassiveRange, send-found, receive-found}
 use Rattle.gaspi_model.proofs.Same.{same_reply-same}
-use Rattle.gaspi_model.proofs.Sound.CallTables.{post-leaves}
 use Rattle.gaspi_model.proofs.Worked.{memory_rank, IsCalledThere}
 
 pub empty-inbox : (limits : Limits) → IsSoundInbox limits []

@@ -51,7 +51,7 @@ from-remove : (n : ℕ) (lane : List Entry) (place : ℕ) (e : Entry) → slice_
 from-remove n lane place e at = let less = count-remove (λ (x : Entry). nat_le n x.number) lane place e at in omega arith
 
 -- the entries of a post
-posted-length : (number : ℕ) (kinds : List Kind) → length (posted_entries number kinds) ≡ length kinds
+pub posted-length : (number : ℕ) (kinds : List Kind) → length (posted_entries number kinds) ≡ length kinds
 posted-length number [] = refl
 posted-length number (kind ∷ kinds) = ap (λ (k : ℕ). suc k) (posted-length (number + 1) kinds)
 

@@ -5,6 +5,9 @@ use Rattle.gaspi_model.proofs.Changed.Transfers.{put-failed, take-failed, take-d
 use Rattle.gaspi_model.proofs.Changed.Registered.{registered}
 use Rattle.gaspi_model.proofs.Changed.OwnCalls.{load-read, slot-read, slot-reset, waited, segment-made, segment-gone}
 use Rattle.gaspi_model.proofs.Changed.QueueCalls.{purge-done, sized, state-answered}
+use Rattle.gaspi_model.proofs.Changed.Messages.{message-sent, message-received}
+use Rattle.gaspi_model.proofs.Changed.GroupCalls.{group-made, group-added, group-dropped}
+use Rattle.gaspi_model.proofs.Changed.Posted.{post-done}
 use Rattle.gaspi_model.proofs.laws.changes.Goals as goal
 
 pub returns-clause-load : goal.returns-clause-load
@@ -69,3 +72,21 @@ returns-clause-fetched c = sum-answered
 
 pub returns-clause-compared : goal.returns-clause-compared
 returns-clause-compared c = swap-answered
+
+pub returns-clause-sent : goal.returns-clause-sent
+returns-clause-sent c = message-sent
+
+pub returns-clause-received : goal.returns-clause-received
+returns-clause-received c = message-received
+
+pub returns-clause-group_made : goal.returns-clause-group_made
+returns-clause-group_made c = group-made
+
+pub returns-clause-group_added : goal.returns-clause-group_added
+returns-clause-group_added c = group-added
+
+pub returns-clause-group_dropped : goal.returns-clause-group_dropped
+returns-clause-group_dropped c = group-dropped
+
+pub returns-clause-posted : goal.returns-clause-posted
+returns-clause-posted c = post-done
