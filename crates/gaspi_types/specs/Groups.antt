@@ -1,5 +1,5 @@
 -- The groups of a rank: their handles by their numbers, from 0 to 7. (GASPI: groups)
-use Rattle.std.specs.Prelude.{ℕ, ◌+◌, Bool, true, false, not, ◌==◌, nat_lt, List, [], Option, None, Some, Result, Ok, slice_set, replicate}
+use Rattle.std.specs.Prelude.{ℕ, ◌+◌, Bool, true, false, not, ◌==◌, nat_lt, List, Option, None, Some, Result, Ok, slice_set, replicate}
 use Rattle.std.specs.Option.{option_map}
 use Rattle.gaspi_types.specs.Checks.{◌>>=◌, check, found, absent}
 use Rattle.gaspi_types.specs.Masks.{is_member, with_member, all_below}

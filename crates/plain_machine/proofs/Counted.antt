@@ -15,7 +15,7 @@ use Rattle.gaspi_types.specs.declared.shapes.Limits.{Limits}
 use Rattle.gaspi_types.proofs.Chains.{both}
 use Rattle.gaspi_model.specs.Calls.{posts_done, posts_after, peer_after}
 use Rattle.gaspi_model.specs.Posting.{counted}
-use Rattle.gaspi_model.specs.Step.{step, Steps}
+use Rattle.gaspi_model.specs.Step.{call_brought, step, Steps}
 use Rattle.gaspi_model.specs.Transfers.{queue_transfers, rank_transfers, transfers, Worked}
 use Rattle.gaspi_model.specs.declared.states.Posts.{Posts}
 use Rattle.gaspi_model.specs.declared.states.State.{State}
@@ -52,7 +52,7 @@ still_transfers : (l : Limits) (s t : State) (c : CallerId) (call : Call) (reply
     → transfers l t.posts ≡ transfers l s.posts
 still_transfers l s t c call reply none kept is =
     let b = called_back s t c call reply is in
-    let made = called-ok s.limits c.rank b.p b.memory c.thread call reply b.after b.steps in
+    let made = called-ok s.limits c.rank b.p (call_brought s c.rank call) b.memory c.thread call reply b.after b.steps in
     let after : posts_after s.limits c.rank b.p c.thread call reply ≡ b.after.posts = sym (ap (λ (w : Worked). w.posts) made.leaves) in
     ap (transfers l) (sym b.posts)
     ∙ told_by (λ (ps : List Posts). transfers l ps ≡ transfers l (slice_set s.posts c.rank b.after.posts)) (call_reach s.limits c.rank call) c.rank b.p call reply

@@ -33,6 +33,11 @@ use Rattle.plain_calls.proofs.Postings.{posting_of}
 use Rattle.plain_calls.proofs.Queues.{one_queue}
 use Rattle.plain_machine.proofs.Reached.{called_back, taken_back, put_back, told_by}
 use Rattle.plain_machine.proofs.Kept.{take_keeps, put_keeps}
+use Rattle.gaspi_types.specs.declared.touches.Reach.{Reach}
+use Rattle.gaspi_types.specs.declared.touches.Reach.TheVariants.{Alone, OwnMemory, PeerMemory, BothMemories, PeerPosts}
+use Rattle.gaspi_model.specs.Parts.{memory_or_none}
+use Rattle.plain_calls.specs.Looks.{AreShort}
+use Rattle.plain_machine.specs.Reaching.{memory_at}
 
 -- what stands in a list after a write is what was written or what stood there
 after_write : {X : Type 0} (xs : List X) (i k : ℕ) (y z : X) → slice_get (slice_set xs i y) k ≡ Some z → (z ≡ y) × (k ≡ i) ⊎ (slice_get xs k ≡ Some z)
@@ -117,6 +122,23 @@ few_marks s sound rank p there =
     let marks = (sound.posts rank p there).tables.corrupt in
     let limited = sound.limits in
     grind (arith, nat_tests, marks, limited)
+
+-- the messages of the memory that is worked on are no longer than messages may be
+pub short_at : (s : State) (me : ℕ) (reach : Reach) → IsSound s → AreShort (memory_at s.memories me reach).inbox
+short_at s me reach sound = by_reach reach
+  where
+    short : (rank : ℕ) (o : Option Memory) → slice_get s.memories rank ≡ o → AreShort (memory_or_none o).inbox
+    short rank None there place m at = absurd (let no : ⊥ = cc in no)
+    short rank (Some memory) there place m at =
+        let sized = (sound.inboxes rank memory there).sizes place m at in
+        grind (arith, nat_tests, sized)
+
+    by_reach : (r : Reach) → AreShort (memory_at s.memories me r).inbox
+    by_reach Alone place m at = absurd (let no : ⊥ = cc in no)
+    by_reach OwnMemory place m at = short me (slice_get s.memories me) refl place m at
+    by_reach (PeerMemory rank) place m at = short rank (slice_get s.memories rank) refl place m at
+    by_reach (BothMemories rank) place m at = short rank (slice_get s.memories rank) refl place m at
+    by_reach (PeerPosts rank) place m at = absurd (let no : ⊥ = cc in no)
 
 -- the same posts
 fitting_at : (s t : State) (posts : List Posts) → posts ≡ t.posts → IsFitting (record s { posts = posts; memories = t.memories }) → IsFitting t

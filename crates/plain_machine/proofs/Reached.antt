@@ -129,21 +129,21 @@ called_as s c call reply p reach there is = by_reach reach is (called s.limits c
         → step s (Called c call reply)
         ≡ (call_lent s.limits s.posts (call_brought s c.rank call) (memory_at s.memories c.rank reach) c call reply
         >>= (λ w. Ok (record s { posts = with_peer_at reach (peer_after c.rank p call reply) w.posts; memories = with_memory_at s.memories c.rank reach w.memory })))
-    by_reach Alone is (Ok w) steps = rw (there, is) rw steps refl
-    by_reach Alone is (Err why) steps = rw (there, is) rw steps refl
-    by_reach OwnMemory is (Ok w) steps = rw (there, is) rw steps refl
-    by_reach OwnMemory is (Err why) steps = rw (there, is) rw steps refl
-    by_reach (PeerMemory rank) is (Ok w) steps = rw (there, is) rw steps refl
-    by_reach (PeerMemory rank) is (Err why) steps = rw (there, is) rw steps refl
+    by_reach Alone is (Ok w) steps = rw (there, is) rw (rw is at steps) refl
+    by_reach Alone is (Err why) steps = rw (there, is) rw (rw is at steps) refl
+    by_reach OwnMemory is (Ok w) steps = rw (there, is) rw (rw is at steps) refl
+    by_reach OwnMemory is (Err why) steps = rw (there, is) rw (rw is at steps) refl
+    by_reach (PeerMemory rank) is (Ok w) steps = rw (there, is) rw (rw is at steps) refl
+    by_reach (PeerMemory rank) is (Err why) steps = rw (there, is) rw (rw is at steps) refl
     by_reach (BothMemories rank) is (Ok w) steps =
-        rw (there, is) rw steps
+        rw (there, is) rw (rw is at steps)
         (ap (λ (ms : List Memory). Ok (record s { posts = slice_set s.posts c.rank w.posts; memories = slice_set ms rank w.memory })) (written_back s.memories (Some c.rank)))
-    by_reach (BothMemories rank) is (Err why) steps = rw (there, is) rw steps refl
+    by_reach (BothMemories rank) is (Err why) steps = rw (there, is) rw (rw is at steps) refl
     by_reach (PeerPosts rank) is (Ok w) steps =
         let peer = posts_peer s.limits.ranks c.rank rank _ is in
-        rw (there, is) rw steps
+        rw (there, is) rw (rw is at steps)
         (ap (λ (ps : List Posts). Ok (record s { posts = ps })) (peer_changed s.posts c.rank rank w.posts (peer_after c.rank p call reply) peer.apart))
-    by_reach (PeerPosts rank) is (Err why) steps = rw (there, is) rw steps refl
+    by_reach (PeerPosts rank) is (Err why) steps = rw (there, is) rw (rw is at steps) refl
 
 -- A take in the whole state: it reads the memory that it works on.
 pub take_as : (s : State) (origin queue target number : ℕ) (outcome : Outcome) (p : Posts) (reach : Reach) → slice_get s.posts origin ≡ Some p

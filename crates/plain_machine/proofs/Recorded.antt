@@ -1,5 +1,5 @@
 -- A look that is recorded in the whole state.
-use Rattle.std.proofs.Common.{◌≡◌, ℕ, ◌<◌, true, false, List, Option, None, Some, Result, Ok, Err, length, slice_get, refl, sym, ap, subst, ◌∙◌}
+use Rattle.std.proofs.Common.{◌≡◌, ℕ, ◌<◌, true, false, List, Option, None, Some, Result, Ok, Err, length, slice_get, slice_set, refl, sym, ap, subst, ◌∙◌}
 use Rattle.std.proofs.lemmas.Option.{slice_get_within}
 use Rattle.gaspi_types.specs.Replies.{same_reply}
 use Rattle.gaspi_types.specs.declared.calls.Call.{Call}
@@ -11,7 +11,7 @@ use Rattle.gaspi_types.specs.declared.shapes.Limits.{Limits}
 use Rattle.gaspi_types.specs.declared.touches.Reach.{Reach}
 use Rattle.gaspi_model.specs.Calls.{answer, recorded_reply}
 use Rattle.gaspi_model.specs.State.{thread_at}
-use Rattle.gaspi_model.specs.Step.{step, Steps, called, call_brought, is_declared, is_there}
+use Rattle.gaspi_model.specs.Step.{answer_in, step, Steps, called, call_brought, is_declared, is_there}
 use Rattle.gaspi_model.specs.Transfers.{Worked}
 use Rattle.gaspi_types.specs.Checks.{◌>>=◌}
 use Rattle.gaspi_types.specs.declared.groups.Group.{Group}
@@ -45,6 +45,13 @@ declared_there s rank thread declared = by_item (slice_get s.posts rank) refl
     by_item : (o : Option Posts) → slice_get s.posts rank ≡ o → IsThere s rank thread
     by_item None is = absurd (let none = rw is at declared in let no : ⊥ = cc in no)
     by_item (Some posts) is = record { posts = posts; item = is; there = rw is at declared; within = slice_get_within s.posts rank posts is }
+
+-- what a look finds is what the call answers
+pub finding_answers : (s : State) (c : CallerId) (call : Call) (look : Finding) → is_declared s c.rank c.thread ≡ true → IsFindingIn look s c call
+    → answer_in s c.rank c.thread call ≡ Some look.ready
+finding_answers s c call look declared finds =
+    let d = declared_there s c.rank c.thread declared in
+    rw d.item (ap (λ (r : Ready). Some r) (sym (finds.finds d.posts d.item).ready))
 
 -- a call that is no step on its rank's posts is none
 refused : (s : State) (c : CallerId) (call : Call) (reply : Reply) (p : Posts) (why : Why) → slice_get s.posts c.rank ≡ Some p

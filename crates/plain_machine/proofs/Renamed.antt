@@ -31,7 +31,8 @@ use Rattle.gaspi_model.specs.Posting.{with_post, counted}
 use Rattle.gaspi_types.specs.Queues.{with_entries}
 use Rattle.gaspi_types.specs.Tables.{changed_at}
 use Rattle.gaspi_model.specs.Sound.{IsSound, IsSoundPosts}
-use Rattle.gaspi_model.specs.Step.{step, called, is_there, Steps}
+use Rattle.gaspi_types.specs.declared.inboxes.Message.{Message}
+use Rattle.gaspi_model.specs.Step.{call_brought, step, called, is_there, Steps}
 use Rattle.gaspi_model.specs.Transfers.{Found, find_entry, bytes_taken, queue_phase, posts_after_take, take, memory_after_put, queue_without, queue_failed, posts_after_put, put, Worked}
 use Rattle.gaspi_types.specs.declared.entries.Queue.{Queue}
 use Rattle.gaspi_model.specs.declared.states.Posts.{Posts}
@@ -234,18 +235,18 @@ pub record IsAnswered (limits : Limits) (me : ℕ) (posts : Posts) (memory : Mem
   pub replied : same_reply reply (recorded_reply (answer limits me posts memory thread call)) ≡ true
   pub after_is : posts_after limits me posts thread call reply ≡ after
 
-called_by : (limits : Limits) (me : ℕ) (posts : Posts) (memory : Memory) (thread : ℕ) (call : Call) (reply : Reply) (after : Worked)
-    → called limits me posts memory thread call reply ≡ Ok after → IsAnswered limits me posts memory thread call reply after.posts
-called_by limits me posts memory thread call reply after is =
+called_by : (limits : Limits) (me : ℕ) (posts : Posts) (brought : Option Message) (memory : Memory) (thread : ℕ) (call : Call) (reply : Reply) (after : Worked)
+    → called limits me posts brought memory thread call reply ≡ Ok after → IsAnswered limits me posts memory thread call reply after.posts
+called_by limits me posts brought memory thread call reply after is =
     bind_then (check (is_there (thread_at posts thread)) _) _ _ is (λ u there more.
     bind_then (check (same_reply reply (recorded_reply (answer limits me posts memory thread call))) _) _ _ more (λ u answered more.
     bind_then (check (nat_le (posts.events + owed posts + charge (thread_at posts thread) call reply) limits.events) _) _ _ more (λ u room more.
     record { replied = check_holds _ _ _ answered; after_is = done after more })))
   where
-    done : (after : Worked) → ◌≡◌ {A = Result Worked Why} (Ok (record { posts = posts_after limits me posts thread call reply; memory = memory_after limits posts memory call reply })) (Ok after)
+    done : (after : Worked) → ◌≡◌ {A = Result Worked Why} (Ok (record { posts = posts_after limits me posts thread call reply; memory = memory_after limits posts brought memory call reply })) (Ok after)
         → posts_after limits me posts thread call reply ≡ after.posts
     done after is =
-        let same : record { posts = posts_after limits me posts thread call reply; memory = memory_after limits posts memory call reply } ≡ after = cc in
+        let same : record { posts = posts_after limits me posts thread call reply; memory = memory_after limits posts brought memory call reply } ≡ after = cc in
         ap (λ (w : Worked). w.posts) same
 
 -- what a peer is told names no lane
@@ -271,7 +272,7 @@ call_posts s t c call reply is =
       p' = b.after.posts;
       there = b.there;
       is = ap standing_lanes (sym b.posts) ∙ told_standing (call_reach s.limits c.rank call) c.rank b.p call reply (slice_set s.posts c.rank b.after.posts);
-      by = (b.memory, called_by s.limits c.rank b.p b.memory c.thread call reply b.after b.steps);
+      by = (b.memory, called_by s.limits c.rank b.p (call_brought s c.rank call) b.memory c.thread call reply b.after b.steps);
     }
 
 -- a lane of an event that is a call

@@ -47,13 +47,16 @@ pub fn look_in(
 {
     let none = no_memory(alloc);
     let reach = call_reach(&ranks.limits, caller.rank, call);
+    let own_reach = call_reach(&ranks.limits, caller.rank, call);
+    let own = own_memory(memories, &none, caller.rank, own_reach);
+    let memory = worked_memory(memories, &none, caller.rank, reach);
     look(
         alloc,
         &ranks.limits,
         caller.rank,
         ranks.posts.at(caller.rank.index()),
-        own_memory(memories, &none, caller.rank, reach),
-        worked_memory(memories, &none, caller.rank, reach),
+        own,
+        memory,
         caller.thread,
         call,
     )

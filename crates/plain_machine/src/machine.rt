@@ -114,7 +114,8 @@ impl Machine {
         ensures answer { IfOk result (λ look. answer_in self.now caller.rank caller.thread call.now ≡ Some look.ready) }
         ensures ample { looks_with_memory call.now ≡ false → IsOk result }
     {
-        look_in(&self.ranks, &self.memories, alloc, &caller, call)
+        let look = look_in(&self.ranks, &self.memories, alloc, &caller, call)?;
+        Ok(look)
     }
 
     /// Records a look at a call: the step by the call with what the look found. It gives the reply with which the call was

@@ -91,9 +91,8 @@ fn put_reached(
 {
     match reach {
         Reach::OwnMemory => put_bytes(memories.at_mut(me.index()), at, given),
-        Reach::PeerMemory(peer) | Reach::BothMemories(peer) => {
-            put_bytes(memories.at_mut(peer.index()), at, given)
-        }
+        Reach::PeerMemory(peer) => put_bytes(memories.at_mut(peer.index()), at, given),
+        Reach::BothMemories(peer) => put_bytes(memories.at_mut(peer.index()), at, given),
         Reach::Alone | Reach::PeerPosts(_) => {
             let mut none = no_memory(alloc);
             put_bytes(&mut none, at, given)

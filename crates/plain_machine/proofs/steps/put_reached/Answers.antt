@@ -1,5 +1,5 @@
 use Rattle.std.proofs.Common.{sym, refl, inl, inr}
-use Rattle.gaspi_types.specs.declared.touches.Reach.TheVariants.{Alone, OwnMemory, PeerMemory, PeerPosts}
+use Rattle.gaspi_types.specs.declared.touches.Reach.TheVariants.{Alone, OwnMemory, PeerMemory, BothMemories, PeerPosts}
 use Rattle.gaspi_types.proofs.Items.{set-there}
 use Rattle.plain_calls.specs.Looks.{made_of}
 use Rattle.plain_machine.specs.Entries.{found_at}
@@ -17,6 +17,12 @@ returns-in-PeerMemory-clause-step c =
     let there = rw c.index-in-PeerMemory.ensures.value at c.at_mut-in-PeerMemory.ensures.value in
     rw (c.index-in-PeerMemory.ensures.value, c.in-PeerMemory.is)
     (put_reaches c.args.memories.now c.args.me (PeerMemory c.in-PeerMemory.peer) (found_at c.args.at.now) c.args.given (made_of c.put_bytes-in-PeerMemory.result) _ c.put_bytes-in-PeerMemory.new.memory (rw there refl) (set-there c.args.memories.now c.in-PeerMemory.peer _ there) c.put_bytes-in-PeerMemory.ensures.step)
+
+pub returns-in-BothMemories-clause-step : goal.returns-in-BothMemories-clause-step
+returns-in-BothMemories-clause-step c =
+    let there = rw c.index-in-BothMemories.ensures.value at c.at_mut-in-BothMemories.ensures.value in
+    rw (c.index-in-BothMemories.ensures.value, c.in-BothMemories.is)
+    (put_reaches c.args.memories.now c.args.me (BothMemories c.in-BothMemories.peer) (found_at c.args.at.now) c.args.given (made_of c.put_bytes-in-BothMemories.result) _ c.put_bytes-in-BothMemories.new.memory (rw there refl) (set-there c.args.memories.now c.in-BothMemories.peer _ there) c.put_bytes-in-BothMemories.ensures.step)
 
 pub returns-in-Alone-clause-step : goal.returns-in-Alone-clause-step
 returns-in-Alone-clause-step c =

@@ -1,5 +1,5 @@
 use Rattle.std.proofs.Common.{arith}
-use Rattle.plain_machine.specs.Machine.{state_of}
+use Rattle.plain_machine.specs.Machine.{state_in}
 use Rattle.plain_machine.proofs.Running.{IsTaken, taken_at}
 use Rattle.plain_machine.proofs.machine.Machine.room.Goals as goal
 
@@ -8,7 +8,7 @@ overflow_sub-result c = rw (c.from-2.ensures, c.from.ensures) (taken_at _ _ _ _ 
 
 pub returns : goal.returns
 returns c =
-    let taken : IsTaken (state_of c.self.inside.ranks.limits c.self.inside.ranks.posts c.self.inside.memories) c.index.result c.at.result.now =
+    let taken : IsTaken (state_in c.self.inside.ranks c.self.inside.memories) c.index.result c.at.result.now =
     taken_at _ _ _ _ _ c.self.invariant.0 c.at.ensures in
     let within = taken.within in
     let value = taken.value in

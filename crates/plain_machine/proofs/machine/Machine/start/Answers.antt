@@ -5,7 +5,7 @@ use Rattle.plain_machine.proofs.machine.Machine.start.Goals as goal
 
 pub invariant_of-result : goal.invariant_of-result
 invariant_of-result c =
-    rw (c.in_ok-all_posts.ensures, c.in_ok-all_memories.ensures, c.in_ok-all_taken.ensures, c.limits-limits.ensures.value) (
+    rw (c.in_ok-all_posts.ensures, c.in_ok-all_memories.ensures, c.in_ok-all_taken.ensures, c.in_ok-all_groups.ensures, c.limits-limits.ensures.value) (
       record {
         sound = c.soundness.ensures.opens c.args.shape.now c.limits-limits.ensures.world;
         fitting = fitting-opening c.args.shape.now c.limits-limits.ensures.world.limits;
