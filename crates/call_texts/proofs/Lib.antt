@@ -8,5 +8,6 @@ pub mod JoinedWords
 pub mod NumberWords
 pub mod Pieces
 pub mod PlainWords
+pub mod WordLengths
 pub mod WordRanges
 pub mod WordTexts

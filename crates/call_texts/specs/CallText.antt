@@ -1,5 +1,5 @@
 -- The texts of calls.
-use Rattle.std.specs.Prelude.{ℕ, ◌+◌, Bool, true, false, List, [], ◌∷◌, length, Option, Some, None, find, ◌==◌, if◌then◌else◌, codes}
+use Rattle.std.specs.Prelude.{ℕ, ◌+◌, Bool, true, false, List, [], ◌∷◌, length, Option, Some, None, find, filter, ◌==◌, if◌then◌else◌, codes}
 use Rattle.std.specs.List.{join_with_byte}
 use Rattle.std.specs.Str.{bytes_eq}
 use Rattle.std.specs.Option.{option_map_or}
@@ -10,7 +10,7 @@ use Rattle.gaspi_types.specs.declared.calls.Call.TheVariants as calls
 use Rattle.call_texts.specs.declared.fields.Field.{Field}
 use Rattle.call_texts.specs.declared.fields.Field.TheVariants.{Number, Value, Bytes, Items}
 use Rattle.call_texts.specs.declared.call_words.CallWord.{CallWord}
-use Rattle.call_texts.specs.declared.call_words.CallWord.TheVariants.{Alloc, Register, Delete, Store, Load, Write, Read, Notify, WriteNotify, ReadNotify, WriteList, WriteListNotify, ReadList, ReadListNotify, Wait, Purge, Qsize, Waitsome, Reset, FetchAdd, CompareSwap, State}
+use Rattle.call_texts.specs.declared.call_words.CallWord.TheVariants.{Alloc, Register, Delete, Store, Load, Write, Read, Notify, WriteNotify, ReadNotify, WriteList, WriteListNotify, ReadList, ReadListNotify, Wait, Purge, Qsize, Waitsome, Reset, PassiveSend, PassiveReceive, FetchAdd, CompareSwap, GroupCreate, GroupAdd, GroupDelete, State}
 
 -- how a call's word is spelled, and the form of what follows it, a timeout aside
 pub record WordRow : Type 0 where
@@ -61,10 +61,20 @@ word_row Qsize = record { spelling = codes "qsize"; form = Number ∷ [] }
 word_row Waitsome = record { spelling = codes "waitsome"; form = Number ∷ Number ∷ Number ∷ [] }
 -- SEG NOTE
 word_row Reset = record { spelling = codes "reset"; form = Number ∷ Number ∷ [] }
+-- SEG OFF RANK SIZE
+word_row PassiveSend = record { spelling = codes "passive_send"; form = Number ∷ Number ∷ Number ∷ Number ∷ [] }
+-- SEG OFF SIZE
+word_row PassiveReceive = record { spelling = codes "passive_receive"; form = Number ∷ Number ∷ Number ∷ [] }
 -- SEG OFF RANK VALUE
 word_row FetchAdd = record { spelling = codes "fetch_add"; form = Number ∷ Number ∷ Number ∷ Number ∷ [] }
 -- SEG OFF RANK COMPARATOR NEW
 word_row CompareSwap = record { spelling = codes "compare_swap"; form = Number ∷ Number ∷ Number ∷ Number ∷ Number ∷ [] }
+-- nothing
+word_row GroupCreate = record { spelling = codes "group_create"; form = [] }
+-- GROUP RANK
+word_row GroupAdd = record { spelling = codes "group_add"; form = Number ∷ Number ∷ [] }
+-- GROUP
+word_row GroupDelete = record { spelling = codes "group_delete"; form = Number ∷ [] }
 -- nothing
 word_row State = record { spelling = codes "state"; form = [] }
 
@@ -77,7 +87,11 @@ form_of word = (word_row word).form
 -- the words of calls
 abbrev pub call_words : List CallWord
 call_words =
-    Alloc ∷ Register ∷ Delete ∷ Store ∷ Load ∷ Write ∷ Read ∷ Notify ∷ WriteNotify ∷ ReadNotify ∷ WriteList ∷ WriteListNotify ∷ ReadList ∷ ReadListNotify ∷ Wait ∷ Purge ∷ Qsize ∷ Waitsome ∷ Reset ∷ FetchAdd ∷ CompareSwap ∷ State ∷ []
+    Alloc ∷ Register ∷ Delete ∷ Store ∷ Load ∷ Write ∷ Read ∷ Notify ∷ WriteNotify ∷ ReadNotify ∷ WriteList ∷ WriteListNotify ∷ ReadList ∷ ReadListNotify ∷ Wait ∷ Purge ∷ Qsize ∷ Waitsome ∷ Reset ∷ PassiveSend ∷ PassiveReceive ∷ FetchAdd ∷ CompareSwap ∷ GroupCreate ∷ GroupAdd ∷ GroupDelete ∷ State ∷ []
+
+-- those whose spelling has so many bytes
+unfoldable pub words_of_length : ℕ → List CallWord
+words_of_length count = filter (λ call. length (spelling_of call) == count) call_words
 
 -- the call's word that is spelled so
 unfoldable pub call_word_of : List ℕ → Option CallWord
@@ -91,6 +105,8 @@ arguments_of word words = form_words (form_of word) words
 abbrev pub has_timeout : CallWord → Bool
 has_timeout Wait = true
 has_timeout Waitsome = true
+has_timeout PassiveSend = true
+has_timeout PassiveReceive = true
 has_timeout word = false
 
 -- whether items are among its fields
@@ -145,9 +161,14 @@ spelled (calls.Purge call) = Some (record { word = Purge; fields = (call.queue, 
 spelled (calls.Qsize call) = Some (record { word = Qsize; fields = (call.queue, tt) })
 spelled (calls.Waitsome call) = Some (record { word = Waitsome; fields = (call.seg, (call.begin, (call.num, tt))) })
 spelled (calls.Reset call) = Some (record { word = Reset; fields = (call.seg, (call.note, tt)) })
+spelled (calls.PassiveSend call) = Some (record { word = PassiveSend; fields = (call.seg, (call.offset, (call.rank, (call.size, tt)))) })
+spelled (calls.PassiveReceive call) = Some (record { word = PassiveReceive; fields = (call.seg, (call.offset, (call.size, tt))) })
 spelled (calls.FetchAdd call) = Some (record { word = FetchAdd; fields = (call.seg, (call.offset, (call.rank, (call.value, tt)))) })
 spelled (calls.CompareSwap call) =
     Some (record { word = CompareSwap; fields = (call.seg, (call.offset, (call.rank, (call.comparator, (call.new, tt))))) })
+spelled calls.GroupCreate = Some (record { word = GroupCreate; fields = tt })
+spelled (calls.GroupAdd call) = Some (record { word = GroupAdd; fields = (call.group, (call.rank, tt)) })
+spelled (calls.GroupDelete call) = Some (record { word = GroupDelete; fields = (call.group, tt) })
 spelled calls.State = Some (record { word = State; fields = tt })
 spelled calls.End = None
 
@@ -179,9 +200,15 @@ call_with Purge (queue, end) = calls.Purge (record { queue = queue })
 call_with Qsize (queue, end) = calls.Qsize (record { queue = queue })
 call_with Waitsome (seg, (begin, (num, end))) = calls.Waitsome (record { seg = seg; begin = begin; num = num })
 call_with Reset (seg, (note, end)) = calls.Reset (record { seg = seg; note = note })
+call_with PassiveSend (seg, (offset, (rank, (size, end)))) =
+    calls.PassiveSend (record { seg = seg; offset = offset; rank = rank; size = size })
+call_with PassiveReceive (seg, (offset, (size, end))) = calls.PassiveReceive (record { seg = seg; offset = offset; size = size })
 call_with FetchAdd (seg, (offset, (rank, (value, end)))) = calls.FetchAdd (record { seg = seg; offset = offset; rank = rank; value = value })
 call_with CompareSwap (seg, (offset, (rank, (comparator, (new, end))))) =
     calls.CompareSwap (record { seg = seg; offset = offset; rank = rank; comparator = comparator; new = new })
+call_with GroupCreate end = calls.GroupCreate
+call_with GroupAdd (group, (rank, end)) = calls.GroupAdd (record { group = group; rank = rank })
+call_with GroupDelete (group, end) = calls.GroupDelete (record { group = group })
 call_with State end = calls.State
 
 -- Reading.

@@ -9,9 +9,9 @@ ghost use Rattle.call_texts.specs.declared.call_words.CallWord.TheVariants as ca
 
 use crate::field_words::FieldWords;
 use gaspi_types::{
-    Alloc, Call, CompareSwap, Delete, FetchAdd, Load, NoMemory, Notify, Purge, Qsize, Read,
-    ReadList, ReadListNotify, ReadNotify, Register, Reset, Store, Wait, Waitsome, Write, WriteList,
-    WriteListNotify, WriteNotify,
+    Alloc, Call, CompareSwap, Delete, FetchAdd, GroupAdd, GroupDelete, Load, NoMemory, Notify,
+    PassiveReceive, PassiveSend, Purge, Qsize, Read, ReadList, ReadListNotify, ReadNotify,
+    Register, Reset, Store, Wait, Waitsome, Write, WriteList, WriteListNotify, WriteNotify,
 };
 use std::alloc::Global;
 
@@ -280,6 +280,27 @@ pub(crate) fn take_reset(fields: &mut FieldWords) -> Option<Call>
     }))
 }
 
+pub(crate) fn take_passive_send(fields: &mut FieldWords) -> Option<Call>
+    ensures { option_map (λ call. (call, words_in fields.new)) result ≡ call_taken call_words.PassiveSend (words_in fields.old) }
+{
+    Some(Call::PassiveSend(PassiveSend {
+        seg: fields.number()?,
+        offset: fields.number()?,
+        rank: fields.number()?,
+        size: fields.number()?,
+    }))
+}
+
+pub(crate) fn take_passive_receive(fields: &mut FieldWords) -> Option<Call>
+    ensures { option_map (λ call. (call, words_in fields.new)) result ≡ call_taken call_words.PassiveReceive (words_in fields.old) }
+{
+    Some(Call::PassiveReceive(PassiveReceive {
+        seg: fields.number()?,
+        offset: fields.number()?,
+        size: fields.number()?,
+    }))
+}
+
 pub(crate) fn take_fetch_add(fields: &mut FieldWords) -> Option<Call>
     ensures { option_map (λ call. (call, words_in fields.new)) result ≡ call_taken call_words.FetchAdd (words_in fields.old) }
 {
@@ -300,5 +321,22 @@ pub(crate) fn take_compare_swap(fields: &mut FieldWords) -> Option<Call>
         rank: fields.number()?,
         comparator: fields.number()?,
         new: fields.number()?,
+    }))
+}
+
+pub(crate) fn take_group_add(fields: &mut FieldWords) -> Option<Call>
+    ensures { option_map (λ call. (call, words_in fields.new)) result ≡ call_taken call_words.GroupAdd (words_in fields.old) }
+{
+    Some(Call::GroupAdd(GroupAdd {
+        group: fields.number()?,
+        rank: fields.number()?,
+    }))
+}
+
+pub(crate) fn take_group_delete(fields: &mut FieldWords) -> Option<Call>
+    ensures { option_map (λ call. (call, words_in fields.new)) result ≡ call_taken call_words.GroupDelete (words_in fields.old) }
+{
+    Some(Call::GroupDelete(GroupDelete {
+        group: fields.number()?,
     }))
 }

@@ -7,10 +7,11 @@ ghost use Rattle.call_texts.specs.FieldWords.{words_in};
 
 use crate::blanks::words;
 use crate::call_fields::{
-    take_alloc, take_compare_swap, take_delete, take_fetch_add, take_load, take_notify, take_purge,
-    take_qsize, take_read, take_read_list, take_read_list_notify, take_read_notify, take_register,
-    take_reset, take_store, take_wait, take_waitsome, take_write, take_write_list,
-    take_write_list_notify, take_write_notify,
+    take_alloc, take_compare_swap, take_delete, take_fetch_add, take_group_add, take_group_delete,
+    take_load, take_notify, take_passive_receive, take_passive_send, take_purge, take_qsize,
+    take_read, take_read_list, take_read_list_notify, take_read_notify, take_register, take_reset,
+    take_store, take_wait, take_waitsome, take_write, take_write_list, take_write_list_notify,
+    take_write_notify,
 };
 use crate::call_words::CallWord;
 use crate::field_words::FieldWords;
@@ -46,8 +47,13 @@ fn take_call(
         CallWord::Qsize => Ok(take_qsize(fields)),
         CallWord::Waitsome => Ok(take_waitsome(fields)),
         CallWord::Reset => Ok(take_reset(fields)),
+        CallWord::PassiveSend => Ok(take_passive_send(fields)),
+        CallWord::PassiveReceive => Ok(take_passive_receive(fields)),
         CallWord::FetchAdd => Ok(take_fetch_add(fields)),
         CallWord::CompareSwap => Ok(take_compare_swap(fields)),
+        CallWord::GroupCreate => Ok(Some(Call::GroupCreate)),
+        CallWord::GroupAdd => Ok(take_group_add(fields)),
+        CallWord::GroupDelete => Ok(take_group_delete(fields)),
         CallWord::State => Ok(Some(Call::State)),
     }
 }

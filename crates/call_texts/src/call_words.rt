@@ -1,8 +1,9 @@
 //! The words that calls begin with.
 
-ghost use Rattle.std.specs.Prelude.{◌≡◌, ◌==◌, map, length};
+ghost use Rattle.std.specs.Prelude.{◌≡◌, ◌==◌, map, length, find};
 ghost use Rattle.std.specs.Option.{option_map};
-ghost use Rattle.call_texts.specs.CallText.{spelling_of, form_of, call_word_of, given_count, has_timeout, takes_items};
+ghost use Rattle.std.specs.Str.{bytes_eq};
+ghost use Rattle.call_texts.specs.CallText.{spelling_of, form_of, words_of_length, call_word_of, given_count, has_timeout, takes_items};
 
 use crate::fields::Field::{self, Bytes, Items, Number, Value};
 use crate::form_counts::are_counted;
@@ -29,8 +30,13 @@ pub enum CallWord {
     Qsize,
     Waitsome,
     Reset,
+    PassiveSend,
+    PassiveReceive,
     FetchAdd,
     CompareSwap,
+    GroupCreate,
+    GroupAdd,
+    GroupDelete,
     State,
 }
 
@@ -48,6 +54,16 @@ impl WordRow {
     {
         WordRow { spelling, form }
     }
+}
+
+/// The first of some words that is spelled so.
+fn first_spelled(words: &[CallWord], spelling: &[u8]) -> Option<CallWord>
+    ensures { result ≡ find (λ call. bytes_eq (spelling_of call) spelling.now) words.now }
+{
+    words
+        .iter()
+        .copied()
+        .find(|call| call.spelling() == spelling)
 }
 
 impl CallWord {
@@ -87,8 +103,13 @@ impl CallWord {
             CallWord::Qsize => WordRow::new(b"qsize", &[Number]),
             CallWord::Waitsome => WordRow::new(b"waitsome", &[Number; 3]),
             CallWord::Reset => WordRow::new(b"reset", &[Number; 2]),
+            CallWord::PassiveSend => WordRow::new(b"passive_send", &[Number; 4]),
+            CallWord::PassiveReceive => WordRow::new(b"passive_receive", &[Number; 3]),
             CallWord::FetchAdd => WordRow::new(b"fetch_add", &[Number; 4]),
             CallWord::CompareSwap => WordRow::new(b"compare_swap", &[Number; 5]),
+            CallWord::GroupCreate => WordRow::new(b"group_create", &[]),
+            CallWord::GroupAdd => WordRow::new(b"group_add", &[Number; 2]),
+            CallWord::GroupDelete => WordRow::new(b"group_delete", &[Number]),
             CallWord::State => WordRow::new(b"state", &[]),
         }
     }
@@ -100,38 +121,46 @@ impl CallWord {
         self.row().spelling
     }
 
+    /// Those whose spelling has so many bytes.
+    #[tactic(auto, unfolding(crate::specs::CallText::words_of_length))]
+    fn of_length(count: usize) -> &'static [CallWord]
+        ensures { result.now ≡ words_of_length count }
+    {
+        match count {
+            4 => &[CallWord::Load, CallWord::Read, CallWord::Wait],
+            5 => &[
+                CallWord::Alloc,
+                CallWord::Store,
+                CallWord::Write,
+                CallWord::Purge,
+                CallWord::Qsize,
+                CallWord::Reset,
+                CallWord::State,
+            ],
+            6 => &[CallWord::Delete, CallWord::Notify],
+            8 => &[CallWord::Register, CallWord::Waitsome],
+            9 => &[CallWord::ReadList, CallWord::FetchAdd, CallWord::GroupAdd],
+            10 => &[CallWord::WriteList],
+            11 => &[CallWord::ReadNotify],
+            12 => &[
+                CallWord::WriteNotify,
+                CallWord::PassiveSend,
+                CallWord::CompareSwap,
+                CallWord::GroupCreate,
+                CallWord::GroupDelete,
+            ],
+            15 => &[CallWord::PassiveReceive],
+            16 => &[CallWord::ReadListNotify],
+            17 => &[CallWord::WriteListNotify],
+            _ => &[],
+        }
+    }
+
     /// The call's word that is spelled so.
-    #[tactic(auto, unfolding(crate::specs::CallText::call_word_of))]
     pub fn of(word: &[u8]) -> Option<CallWord>
         ensures { result ≡ call_word_of word.now }
     {
-        [
-            CallWord::Alloc,
-            CallWord::Register,
-            CallWord::Delete,
-            CallWord::Store,
-            CallWord::Load,
-            CallWord::Write,
-            CallWord::Read,
-            CallWord::Notify,
-            CallWord::WriteNotify,
-            CallWord::ReadNotify,
-            CallWord::WriteList,
-            CallWord::WriteListNotify,
-            CallWord::ReadList,
-            CallWord::ReadListNotify,
-            CallWord::Wait,
-            CallWord::Purge,
-            CallWord::Qsize,
-            CallWord::Waitsome,
-            CallWord::Reset,
-            CallWord::FetchAdd,
-            CallWord::CompareSwap,
-            CallWord::State,
-        ]
-        .iter()
-        .copied()
-        .find(|call| call.spelling() == word)
+        first_spelled(CallWord::of_length(word.len()), word)
     }
 
     /// Whether items are among its fields.
@@ -165,6 +194,9 @@ impl CallWord {
     pub fn takes_timeout(self) -> bool
         ensures { result ≡ has_timeout self }
     {
-        matches!(self, CallWord::Wait | CallWord::Waitsome)
+        matches!(
+            self,
+            CallWord::Wait | CallWord::Waitsome | CallWord::PassiveSend | CallWord::PassiveReceive
+        )
     }
 }

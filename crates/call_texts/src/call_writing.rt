@@ -134,6 +134,16 @@ fn append_call(text: &mut Bytes, call: &Call) -> Result<(), NoMemory>
             &[call.seg, call.begin, call.num],
         ),
         Call::Reset(call) => append_line(text, CallWord::Reset.spelling(), &[call.seg, call.note]),
+        Call::PassiveSend(call) => append_line(
+            text,
+            CallWord::PassiveSend.spelling(),
+            &[call.seg, call.offset, call.rank, call.size],
+        ),
+        Call::PassiveReceive(call) => append_line(
+            text,
+            CallWord::PassiveReceive.spelling(),
+            &[call.seg, call.offset, call.size],
+        ),
         Call::FetchAdd(call) => append_line(
             text,
             CallWord::FetchAdd.spelling(),
@@ -143,6 +153,17 @@ fn append_call(text: &mut Bytes, call: &Call) -> Result<(), NoMemory>
             text,
             CallWord::CompareSwap.spelling(),
             &[call.seg, call.offset, call.rank, call.comparator, call.new],
+        ),
+        Call::GroupCreate => text.append(CallWord::GroupCreate.spelling()),
+        Call::GroupAdd(call) => append_line(
+            text,
+            CallWord::GroupAdd.spelling(),
+            &[call.group, call.rank],
+        ),
+        Call::GroupDelete(call) => append_line(
+            text,
+            CallWord::GroupDelete.spelling(),
+            &[call.group],
         ),
         Call::State => text.append(CallWord::State.spelling()),
         Call::End => text.append(b"end"),

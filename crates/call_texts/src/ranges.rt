@@ -7,9 +7,9 @@ ghost use Rattle.call_texts.specs.declared.fields.Field.TheVariants.{Items};
 ghost use Rattle.gaspi_types.specs.declared.calls.Call.TheVariants as calls;
 
 use gaspi_types::{
-    Alloc, Call, CompareSwap, Delete, FetchAdd, Item, Load, Notify, Purge, Qsize, Read, ReadList,
-    ReadListNotify, ReadNotify, Register, Reset, Store, Wait, Waitsome, Write, WriteList,
-    WriteListNotify, WriteNotify,
+    Alloc, Call, CompareSwap, Delete, FetchAdd, GroupAdd, GroupDelete, Item, Load, Notify,
+    PassiveReceive, PassiveSend, Purge, Qsize, Read, ReadList, ReadListNotify, ReadNotify,
+    Register, Reset, Store, Wait, Waitsome, Write, WriteList, WriteListNotify, WriteNotify,
 };
 
 /// Bytes are below 256.
@@ -149,6 +149,19 @@ pub fn call_is_in_range(call: &Call)
         Call::Reset(Reset { seg, note }) => {
             let _read = (*seg, *note);
         }
+        Call::PassiveSend(
+            PassiveSend {
+                seg,
+                offset,
+                rank,
+                size,
+            },
+        ) => {
+            let _read = (*seg, *offset, *rank, *size);
+        }
+        Call::PassiveReceive(PassiveReceive { seg, offset, size }) => {
+            let _read = (*seg, *offset, *size);
+        }
         Call::FetchAdd(
             FetchAdd {
                 seg,
@@ -170,6 +183,12 @@ pub fn call_is_in_range(call: &Call)
         ) => {
             let _read = (*seg, *offset, *rank, *comparator, *new);
         }
-        Call::State | Call::End => {}
+        Call::GroupAdd(GroupAdd { group, rank }) => {
+            let _read = (*group, *rank);
+        }
+        Call::GroupDelete(GroupDelete { group }) => {
+            let _read = *group;
+        }
+        Call::GroupCreate | Call::State | Call::End => {}
     }
 }

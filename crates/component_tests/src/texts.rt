@@ -7,8 +7,9 @@ use call_texts::{
 };
 use gaspi_texts::{read_event, read_reply, write_event, write_reply};
 use gaspi_types::{
-    Bytes, Call, CallerId, Coll, Event, NoMemory, NumType, Numbers, Op, RankId, Refusal, Reply,
-    Rows, Stage, Store, ThreadId, WriteNotify, are_in_type,
+    Bytes, Call, CallerId, Coll, Event, GroupAdd, GroupDelete, NoMemory, NumType, Numbers, Op,
+    PassiveReceive, PassiveSend, RankId, Refusal, Reply, Rows, Stage, Store, ThreadId, WriteNotify,
+    are_in_type,
 };
 use std::alloc::Global;
 use std::test::Fail;
@@ -115,6 +116,47 @@ fn calls_are_written(rt: HostRuntime) -> Result<(), Fail> {
     assert!(rt; is_call_text(alloc, b"end")?);
     Ok(())
 }
+
+/// Whether a call is written so, and read back.
+fn call_is(alloc: Global, call: Call, text: &[u8]) -> Result<bool, NoMemory> {
+    let mut written: Bytes = Rows::new(alloc);
+    write_call(&mut written, &call)?;
+    let read = read_call(alloc, text)?;
+    Ok(written.as_slice() == text && read == Some(call))
+}
+
+#[test]
+fn calls_of_messages_and_groups_have_texts(rt: HostRuntime) -> Result<(), Fail> {
+    let alloc = rt.alloc();
+    let send = PassiveSend {
+        seg: 1,
+        offset: 2,
+        rank: 3,
+        size: 4,
+    };
+    let receive = PassiveReceive {
+        seg: 1,
+        offset: 2,
+        size: u64::MAX,
+    };
+    let add = GroupAdd { group: 1, rank: 2 };
+    let delete = GroupDelete { group: 7 };
+    assert!(rt; call_is(alloc, Call::PassiveSend(send), b"passive_send 1 2 3 4")?);
+    assert!(rt;
+        call_is(
+            alloc,
+            Call::PassiveReceive(receive),
+            b"passive_receive 1 2 18446744073709551615"
+        )?
+    );
+    assert!(rt; call_is(alloc, Call::GroupCreate, b"group_create")?);
+    assert!(rt; call_is(alloc, Call::GroupAdd(add), b"group_add 1 2")?);
+    assert!(rt; call_is(alloc, Call::GroupDelete(delete), b"group_delete 7")?);
+    assert!(rt; CallWord::PassiveSend.takes_timeout() && CallWord::PassiveReceive.takes_timeout());
+    assert!(rt; !CallWord::GroupAdd.takes_timeout());
+    Ok(())
+}
+
 /// Whether the end of thread 2 of rank 1 is written so with that reply, and read back.
 fn end_is(alloc: Global, reply: Reply, text: &[u8]) -> Result<bool, NoMemory> {
     let caller = CallerId {
