@@ -1,0 +1,146 @@
+//! The groups of one rank. (GASPI: groups)
+
+ghost use Rattle.std.specs.Prelude.{◌≡◌, ◌≤◌, ◌<◌, None, IfOk, OnOk, OnErr, IsOk};
+ghost use Rattle.gaspi_types.specs.Groups.{opening_handles, handle_at, next_group, with_group, stage_of, building_at, with_added, drop_checks, without_group, commit_list, with_committed};
+
+use crate::handles::{building_at, handle_at, opening_handles, put};
+use gaspi_types::{
+    GroupId, Handle, Handles, NoMemory, RankId, Refusal, Stage, is_member, with_member,
+};
+use std::alloc::Global;
+use std::marker::Model;
+
+/// The groups of one rank, by their numbers: group 0, which has every rank and stays, and up to seven that the rank has made.
+/// Contracts see the rank and the handles of its groups.
+///
+/// The numbers of groups are those that a caller wrote, so any number may come.
+#[derive(Debug, Drop)]
+pub struct Groups {
+    me: RankId,
+    handles: Handles,
+}
+
+impl Model for Groups {
+    ghost use Rattle.group_registry.specs.Registry.{Registry, IsRegistry};
+
+    ghost Value = { Registry };
+
+    ghost view = { λ groups. record { me = groups.me; groups = groups.handles } };
+
+    ghost invariant = { λ groups. IsRegistry groups.handles };
+}
+
+impl Groups {
+    ghost use Rattle.group_registry.specs.Registry.{IsRegistry, add_checks, AddsRank, with_groups};
+
+    /// The groups of a rank at the start, in a world of 1 to 16 ranks: group 0 with every rank, committed. All room is taken here,
+    /// and no memory after. (GASPI: groups)
+    pub fn new(alloc: Global, rank: RankId, ranks: u32) -> Result<Groups, NoMemory>
+        requires least { 1 ≤ ranks }
+        requires greatest { ranks ≤ 16 }
+        requires own { rank < ranks }
+        ensures { IfOk result (λ groups. groups ≡ record { me = rank; groups = opening_handles ranks }) }
+    {
+        Ok(Groups {
+            me: rank,
+            handles: opening_handles(alloc, ranks)?,
+        })
+    }
+
+    /// The number that `create` would give to a group; `GroupsFull` where it would make none.
+    pub fn next(&self) -> Result<GroupId, Refusal>
+        ensures answer { result ≡ next_group self.now.groups }
+        ensures registry { IsRegistry self.now.groups }
+    {
+        if self.handles.made >= 7 {
+            return Err(Refusal::GroupsFull);
+        }
+        Ok(GroupId::of(self.handles.made + 1))
+    }
+
+    /// Makes a group without ranks, to be built. It has the next number: these rise from 1 to 7, and none is given again.
+    /// `GroupsFull` where all are given. (GASPI: group_create)
+    pub fn create(&mut self) -> Result<GroupId, Refusal>
+        ensures answer { result ≡ next_group self.old.groups }
+        ensures made { OnOk result (self.new ≡ with_groups self.old (with_group self.old.groups)) }
+        ensures fresh { IfOk result (λ id. handle_at self.old.groups id ≡ None) }
+        ensures refused { OnErr result (self.new ≡ self.old) }
+    {
+        let id = self.next()?;
+        let handle = Handle {
+            stage: Stage::Building,
+            members: 0,
+        };
+        put(&mut self.handles, id.index(), Some(handle));
+        self.handles.made = id.number();
+        Ok(id)
+    }
+
+    /// Adds a rank to a group; one that is there changes nothing. `NoGroup`, or `GroupStage` where the group is committed.
+    /// (GASPI: group_add)
+    pub fn add(&mut self, group: u64, rank: RankId) -> Result<(), Refusal>
+        ensures answer { result ≡ add_checks self.old.groups group }
+        ensures added { OnOk result (self.new ≡ with_groups self.old (with_added self.old.groups group rank)) }
+        ensures alone { OnOk result (AddsRank self.old.groups self.new.groups group rank) }
+        ensures refused { OnErr result (self.new ≡ self.old) }
+    {
+        let handle = building_at(&self.handles, group)?;
+        let members = with_member(handle.members, rank);
+        put(
+            &mut self.handles,
+            group as usize,
+            Some(Handle { members, ..handle }),
+        );
+        Ok(())
+    }
+
+    /// Drops a group. `NoGroup`, or `GroupStage` for group 0, which stays. (GASPI: group_delete)
+    pub fn delete(&mut self, group: u64) -> Result<(), Refusal>
+        ensures answer { result ≡ drop_checks self.old.groups group }
+        ensures dropped { OnOk result (self.new ≡ with_groups self.old (without_group self.old.groups group)) }
+        ensures refused { OnErr result (self.new ≡ self.old) }
+    {
+        handle_at(&self.handles, group).ok_or(Refusal::NoGroup)?;
+        if group == 0 {
+            return Err(Refusal::GroupStage {
+                stage: Stage::Committed,
+            });
+        }
+        put(&mut self.handles, group as usize, None);
+        Ok(())
+    }
+
+    /// The stage of a group; `NoGroup` where it is not there.
+    pub fn stage(&self, group: u64) -> Result<Stage, Refusal>
+        ensures { result ≡ stage_of self.now.groups group }
+    {
+        let handle = handle_at(&self.handles, group).ok_or(Refusal::NoGroup)?;
+        Ok(handle.stage)
+    }
+
+    /// The list of ranks that the rank is to commit for a group: bit r for rank r. `NoGroup`; `GroupStage` where the group is
+    /// committed; `NotMember` where the list lacks this rank. (GASPI: group_commit)
+    pub fn commit_list(&self, group: u64) -> Result<u32, Refusal>
+        ensures answer { result ≡ commit_list self.now.groups self.now.me group }
+        ensures built { OnOk result (IsOk (building_at self.now.groups group)) }
+    {
+        let members = building_at(&self.handles, group)?.members;
+        if !is_member(members, self.me) {
+            return Err(Refusal::NotMember);
+        }
+        Ok(members)
+    }
+
+    /// Marks a group committed: one that is built yet, as `commit_list` tells. (GASPI: group_commit)
+    pub fn committed(&mut self, group: u64)
+        requires { IsOk (building_at self.old.groups group) }
+        ensures { self.new ≡ with_groups self.old (with_committed self.old.groups group) }
+    {
+        let handle = building_at(&self.handles, group).unwrap();
+        let handle = Handle {
+            stage: Stage::Committed,
+            ..handle
+        };
+        put(&mut self.handles, group as usize, Some(handle));
+    }
+}
