@@ -21,9 +21,7 @@ use crate::group_calls::{
 use crate::looks::Finding;
 use crate::memory_calls::{load_finds, store_finds, store_leaves};
 use crate::notification_calls::{reset_finds, reset_leaves, waitsome_finds};
-use crate::passive_calls::{
-    message_of, receive_finds, receive_leaves, send_finds, send_leaves,
-};
+use crate::passive_calls::{message_of, receive_finds, receive_leaves, send_finds, send_leaves};
 use crate::post_calls::posting_finds;
 use crate::posting::post;
 use crate::queue_calls::{closed, purge_finds, purged, qsize_finds, state_finds, wait_finds};
@@ -35,7 +33,8 @@ use crate::segment_calls::{
 use crate::threads::{end_thread, is_running, thread_at};
 use gaspi_model::{Memory, Posts};
 use gaspi_types::{
-    Call, CompareSwap, FetchAdd, Kind, Limits, Message, NoMemory, RankId, Ready, Refusal, Reply, ThreadId,
+    Call, CompareSwap, FetchAdd, Kind, Limits, Message, NoMemory, RankId, Ready, Refusal, Reply,
+    ThreadId,
 };
 use segment_tables::Kinds;
 use std::alloc::Global;
@@ -150,9 +149,7 @@ pub fn look(
     ensures idle { is_send call.now ≡ true → is_idle (recorded_reply (answer limits.now me posts.now memory.now thread call.now)) ≡ true → IsOk result }
 {
     if !is_running(thread_at(posts, thread)) {
-        return Ok(Finding::plain(Ready::Reply(Reply::Refused(
-            Refusal::CallerEnded,
-        ))));
+        return Ok(Finding::plain(Ready::Reply(Reply::Refused(Refusal::CallerEnded))));
     }
     match call.row().posting {
         Some(to) => {

@@ -18,8 +18,8 @@ pub use stored::{
     add_to_segment, bytes_of, is_generation, new_segment, segment_in, store_bytes, swap_in_segment,
 };
 pub use tables::{
-    add_own, check_alloc, check_message_range, check_own_range, extent_in, known_extent, next_generation, remove_own,
-    set_known,
+    add_own, check_alloc, check_message_range, check_own_range, extent_in, known_extent,
+    next_generation, remove_own, set_known,
 };
 pub use words::{add_to_word, check_word, swap_word, word_at};
 
