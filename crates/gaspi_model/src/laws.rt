@@ -76,6 +76,8 @@ ghost use Rattle.gaspi_model.specs.declared.states.State.{State};
 /// which is at most DEPTH; a queue is broken exactly while it has a failed entry, and then has just one; the generations
 /// and sizes in a rank's table of segments are those in its memory; the own segment of a posted write, and of a posted or
 /// carried read or notification of a read, is there in its generation; and the ranges of entries lie within their segments.
+/// Group 0 of a rank is committed and has every rank; its other groups have the first numbers from 1 on, up to 7, and ranks
+/// of the world alone; and an inbox has at most INBOX messages, each from a rank of the world and of 1 to 4,096 bytes.
 pub fn soundness()
     ensures opens { (w : World) → IsWorld w → IsSound (opening w) }
     ensures steps { (s t : State) (e : Event) → IsSound s → step s e ≡ Ok t → IsSound t }

@@ -26,7 +26,7 @@ use Rattle.rank_script.specs.WorldText.{AreScriptsOf}
 use Rattle.rank_script.specs.declared.scripts.Script.{Script}
 use Rattle.rank_script.specs.declared.scripts.ScriptLine.{ScriptLine}
 use Rattle.rank_script.specs.declared.scripts.RunOutcome.{RunOutcome}
-use Rattle.gaspi_run.specs.Schedule.{started, turn, turns, candidates, AreDeclared, IsScheduled, HasSettled, HaveEnded}
+use Rattle.gaspi_run.specs.Schedule.{started, turn, turns, candidates, AreDeclared, HasSettled, HaveEnded}
 use Rattle.gaspi_run.specs.declared.turns.Finished.{Finished}
 use Rattle.gaspi_run.specs.declared.turns.Waiting.{Waiting}
 use Rattle.gaspi_run.specs.declared.turns.Turns.{Turns}

@@ -1,20 +1,17 @@
 -- A call that posts nothing and purges nothing leaves the transfers that may come next as they are.
-use Rattle.std.proofs.Common.{◌≡◌, ℕ, Bool, true, false, ◌&&◌, List, length, Option, None, Some, Result, Ok, Err, is_none, if◌then◌else◌, refl, sym, ap, ◌∙◌, inl, inr}
+use Rattle.std.proofs.Common.{◌≡◌, ℕ, Bool, true, false, List, length, Option, None, Some, Result, Ok, Err, is_none, if◌then◌else◌, refl, sym, ap, ◌∙◌, inl, inr}
 use Rattle.std.specs.List.{flat_map, enumerate_from, slice_set}
 use Rattle.gaspi_types.specs.CallRows.{row_of}
 use Rattle.gaspi_types.specs.Replies.{is_idle}
-use Rattle.gaspi_types.specs.declared.call_rows.Posting.{Posting}
 use Rattle.gaspi_types.specs.declared.calls.Call.{Call}
 use Rattle.gaspi_types.specs.declared.entries.Queue.{Queue}
 use Rattle.gaspi_types.specs.declared.events.Event.{Event}
 use Rattle.gaspi_types.specs.declared.events.Event.TheVariants.{Called}
-use Rattle.gaspi_types.specs.declared.events.Transfer.{Transfer}
 use Rattle.gaspi_types.specs.declared.replies.Reply.{Reply}
 use Rattle.gaspi_types.specs.declared.shapes.CallerId.{CallerId}
 use Rattle.gaspi_types.specs.declared.shapes.Limits.{Limits}
 use Rattle.gaspi_types.proofs.Chains.{both}
-use Rattle.gaspi_model.specs.Calls.{posts_done, posts_after, peer_after}
-use Rattle.gaspi_model.specs.Posting.{counted}
+use Rattle.gaspi_model.specs.Calls.{posts_done, posts_after}
 use Rattle.gaspi_model.specs.Step.{call_brought, step, Steps}
 use Rattle.gaspi_model.specs.Transfers.{queue_transfers, rank_transfers, transfers, Worked}
 use Rattle.gaspi_model.specs.declared.states.Posts.{Posts}

@@ -164,8 +164,8 @@ fn record_in(
             record_on(ranks, memory, alloc, caller, call, look)
         }
         Reach::BothMemories(peer) => {
-            let memory = memories.at_mut(peer.index());
-            record_on(ranks, memory, alloc, caller, call, look)
+            let target = memories.at_mut(peer.index());
+            record_on(ranks, target, alloc, caller, call, look)
         }
         Reach::PeerPosts(peer) => record_telling(ranks, memories, alloc, caller, call, look, peer),
     }

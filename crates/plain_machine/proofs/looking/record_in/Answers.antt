@@ -1,6 +1,5 @@
 use Rattle.std.proofs.Common.{sym, refl, ◌∙◌}
 use Rattle.gaspi_types.specs.declared.touches.Reach.TheVariants.{Alone, OwnMemory, PeerMemory, BothMemories}
-use Rattle.gaspi_model.specs.Calls.{recorded_reply}
 use Rattle.gaspi_types.proofs.Items.{set-there}
 use Rattle.plain_calls.specs.Looks.{made_of}
 use Rattle.plain_machine.proofs.Recorded.{called_ranks}
@@ -27,7 +26,7 @@ returns-in-PeerMemory-clause-step c =
 
 pub returns-in-BothMemories-clause-step : goal.returns-in-BothMemories-clause-step
 returns-in-BothMemories-clause-step c =
-    let there = rw c.index-in-BothMemories.ensures.value at c.at_mut-memory-in-BothMemories.ensures.value in
+    let there = rw c.index-in-BothMemories.ensures.value at c.at_mut-target.ensures.value in
     rw c.index-in-BothMemories.ensures.value
     (called_ranks c.args.ranks.now c.record_on-in-BothMemories.new.ranks c.args.memories.now c.args.caller c.args.call.now c.args.look (BothMemories c.in-BothMemories.peer) (made_of c.record_on-in-BothMemories.result) _ c.record_on-in-BothMemories.new.memory
     c.requires.declared (sym c.call_reach.ensures ∙ c.in-BothMemories.is) (rw there refl) (set-there c.args.memories.now c.in-BothMemories.peer _ there) (λ change all. refl) c.record_on-in-BothMemories.ensures.limits c.record_on-in-BothMemories.ensures.groups c.requires.look c.record_on-in-BothMemories.ensures.step)
