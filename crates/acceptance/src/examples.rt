@@ -123,12 +123,28 @@ const OWN_READER: &str = "world 1 1 4 8 1 100\nsegment 0 0 16\nrank 0 thread 0\n
 const READ: &str = "store 0 0 aabb -> done\nread_notify 0 8 0 0 0 2 5 0 -> done\n\
 waitsome 0 5 1 block -> id 5\nreset 0 5 -> value 1\nload 0 8 2 -> bytes aabb";
 
+/// One rank with a segment of 8 bytes and room for one message; its calls begin in line 4.
+const OWN_SENDER: &str = "world 1 1 1 1 1 100\nsegment 0 0 8\nrank 0 thread 0\n";
+
+/// A script of its caller: it sends to itself, and a message that is too long stays.
+const MESSAGES: &str = "passive_receive 0 0 8 test -> timeout\npassive_send 0 0 0 8 test -> done\n\
+passive_send 0 0 0 1 test -> timeout\npassive_receive 0 0 4 test -> refused 13 8\n\
+passive_receive 0 0 8 test -> id 0";
+
+/// A script of groups: seven numbers, and no more; group 0 stays.
+const GROUPS: &str = "group_create -> id 1\ngroup_create -> id 2\ngroup_create -> id 3\n\
+group_create -> id 4\ngroup_create -> id 5\ngroup_create -> id 6\ngroup_create -> id 7\n\
+group_create -> refused 24\ngroup_delete 0 -> refused 15 committed\n\
+group_add 1 0 -> done\ngroup_add 1 1 -> done\ngroup_add 0 1 -> refused 15 committed";
+
 #[test]
 fn scripts_are_told(rt: HostRuntime) -> Result<(), Fail> {
     let alloc = rt.alloc();
     calls_are_told(&rt, alloc, ONE_CALLER, 5, SCRIPTS)?;
     calls_are_told(&rt, alloc, FULL, 5, LARGEST)?;
     calls_are_told(&rt, alloc, OWN_READER, 4, READ)?;
+    calls_are_told(&rt, alloc, OWN_SENDER, 4, MESSAGES)?;
+    calls_are_told(&rt, alloc, ONE_CALLER, 5, GROUPS)?;
     let text = "world 1 1 1 1 1 9\nrank 0 thread 0\nqsize 0 = value 1\n";
     words_run_to(&rt, alloc, &STEP, text, 3, "0.0 3 value 0\n0.0 failed 3\n")?;
     Ok(())
