@@ -48,14 +48,12 @@ pub record IsOnlyCounted (s t : State) (rank : ℕ) : Type 0 where
 pub record IsWritten (s t : State) (me rank segment offset : ℕ) (written : List ℕ) : Type 0 where
   pub posts : Posts
   pub posts_there : slice_get s.posts me ≡ Some posts
-  pub posts_after : t.posts ≡ slice_set s.posts me (counted posts)
   pub old : Memory
   pub new : Memory
   pub old_there : slice_get s.memories rank ≡ Some old
-  pub memories_after : t.memories ≡ slice_set s.memories rank new
+  pub after : t ≡ record s { posts = slice_set s.posts me (counted posts); memories = slice_set s.memories rank new }
+  pub kept : new ≡ record old { segments = new.segments }
   pub segments : IsSegmentWritten old.segments new.segments segment offset written
-  pub slots : new.slots ≡ old.slots
-  pub limits : t.limits ≡ s.limits
 
 -- what a call answers of a segment of a rank
 pub record IsAnswered (s : State) (rank segment : ℕ) (P : Segment → Type 0) : Type 0 where
@@ -99,9 +97,9 @@ pub record IsThere (memory : Memory) (segment generation : ℕ) : Type 0 where
 -- and a read store their bytes in their range, a notification sets its slot, and nothing else changes
 abbrev pub PutsTo : Destination → List ℕ → Memory → Memory → Type 0
 PutsTo (Range range) bytes old new =
-    IsThere old range.segment range.generation × IsSegmentWritten old.segments new.segments range.segment range.offset bytes × (length bytes ≡ range.size) × (new.slots ≡ old.slots)
+    IsThere old range.segment range.generation × IsSegmentWritten old.segments new.segments range.segment range.offset bytes × (length bytes ≡ range.size) × (new ≡ record old { segments = new.segments })
 PutsTo (Slot slot value) bytes old new =
-    IsThere old slot.segment slot.generation × IsSlotWritten old.slots new.slots slot.segment slot.note value × (new.segments ≡ old.segments)
+    IsThere old slot.segment slot.generation × IsSlotWritten old.slots new.slots slot.segment slot.note value × (new ≡ record old { slots = new.slots })
 
 abbrev pub Puts : Entry → Memory → Memory → Type 0
 Puts e old new = PutsTo (destination_of e.kind) (carried_bytes e.phase) old new
@@ -125,15 +123,16 @@ pub record IsPutDone (s t : State) (origin queue target number : ℕ) : Type 0 w
   pub numbered : entry.number ≡ number
   pub carried : is_carried entry ≡ true
   pub whole : q.broken ≡ None
-  pub posts_after : t.posts ≡ slice_set s.posts origin (record (counted posts) {
-    queues = slice_set posts.queues queue (record q { lanes = slice_set q.lanes target (remove lane place) });
-  })
   pub old : Memory
   pub new : Memory
   pub old_there : slice_get s.memories (put_rank origin target entry.kind) ≡ Some old
-  pub memories_after : t.memories ≡ slice_set s.memories (put_rank origin target entry.kind) new
   pub puts : Puts entry old new
-  pub limits : t.limits ≡ s.limits
+  pub after : t ≡ record s {
+    posts = slice_set s.posts origin (record (counted posts) {
+      queues = slice_set posts.queues queue (record q { lanes = slice_set q.lanes target (remove lane place) });
+    });
+    memories = slice_set s.memories (put_rank origin target entry.kind) new;
+  }
 
 -- the target's segment is gone in the generation of an entry
 abbrev pub NotIn : Memory → ℕ → ℕ → Type 0
@@ -242,7 +241,7 @@ pub record IsReset (s t : State) (me segment note value : ℕ) : Type 0 where
   pub new : Memory
   pub old_there : slice_get s.memories me ≡ Some old
   pub after : t ≡ record s { posts = slice_set s.posts me (counted posts); memories = slice_set s.memories me new }
-  pub segments : new.segments ≡ old.segments
+  pub kept : new ≡ record old { slots = new.slots }
   pub answered : slice_get (slots_of old segment) note ≡ Some value
   pub slots : IsSlotWritten old.slots new.slots segment note 0
 
@@ -372,23 +371,26 @@ pub record IsSent (s t : State) (me rank segment offset size : ℕ) : Type 0 whe
     memories = slice_set s.memories rank (record peer { inbox = peer.inbox ++ record { sender = me; bytes = range_of item.bytes offset size } ∷ [] });
   }
 
--- A receive that is done: the first message of the inbox of the caller's rank, which is not longer than the range, is gone
--- from it; its bytes, and no more, stand in the segment from the offset on; it answers the rank that sent it; and nothing else
--- has changed but the count of events of the caller's rank. (passive communication: passive_receive)
+-- A receive that is done: its range lies in a segment of the caller's rank; the first message of that rank's inbox, which is
+-- not longer than the range, is gone from it; its bytes, and no more, stand in the segment from the offset on; it answers the
+-- rank that sent it; and nothing else has changed but the count of events of the caller's rank. (passive communication:
+-- passive_receive)
 pub record IsReceived (s t : State) (me segment offset size sender : ℕ) : Type 0 where
   pub posts : Posts
   pub old : Memory
   pub new : Memory
+  pub item : Segment
   pub message : Message
   pub rest : List Message
   pub posts_there : slice_get s.posts me ≡ Some posts
   pub old_there : slice_get s.memories me ≡ Some old
+  pub item_there : segment_at old segment ≡ Some item
+  pub within : offset + size ≤ length item.bytes
   pub first : old.inbox ≡ message ∷ rest
   pub fits : length message.bytes ≤ size
   pub answers : sender ≡ message.sender
-  pub taken : new.inbox ≡ rest
+  pub kept : new ≡ record old { segments = new.segments; inbox = rest }
   pub segments : IsSegmentWritten old.segments new.segments segment offset message.bytes
-  pub slots : new.slots ≡ old.slots
   pub after : t ≡ record s { posts = slice_set s.posts me (counted posts); memories = slice_set s.memories me new }
 
 -- A group that is made: its number is the next one, at most 7, and the rank had no group of that number; it is built yet, and

@@ -1,9 +1,12 @@
 -- The shards of an event: the parts of the state that it reads and changes. A shard is the posts of a rank, the memory of a
 -- rank, or a group. (own choice)
-use Rattle.std.specs.Prelude.{◌≡◌, ℕ, Bool, true, false, ◌==◌, List, [], ◌∷◌, map, Option, None, Some, Result, Ok, Err, if◌then◌else◌, slice_get}
+use Rattle.std.specs.Prelude.{◌≡◌, ℕ, Bool, true, false, ◌==◌, nat_lt, List, [], ◌∷◌, map, Option, None, Some, Result, Ok, Err, if◌then◌else◌, slice_get}
 use Rattle.std.specs.List.{list_any}
 use Rattle.gaspi_types.specs.declared.entries.Entry.{Entry}
+use Rattle.gaspi_types.specs.declared.calls.Call.{Call}
+use Rattle.gaspi_types.specs.declared.calls.Call.TheVariants.{PassiveSend, GroupCreate, GroupAdd, GroupDelete}
 use Rattle.gaspi_types.specs.declared.events.Event.{Event}
+use Rattle.gaspi_types.specs.declared.events.Event.TheVariants.{Called}
 use Rattle.gaspi_types.specs.declared.touches.Reach.{Reach}
 use Rattle.gaspi_types.specs.declared.touches.Reach.TheVariants.{Alone, OwnMemory, PeerMemory, BothMemories, PeerPosts}
 use Rattle.gaspi_model.specs.Transfers.{entry_in}
@@ -37,6 +40,24 @@ footprint s e = by_posts (slice_get s.posts (owner_of e))
     by_posts : Option Posts → List Shard
     by_posts None = shards.Posts (owner_of e) ∷ []
     by_posts (Some posts) = reach_shards (owner_of e) (event_reach s.limits posts e)
+
+-- whether an event is a send, which has the memory of its own rank and that of the rank that it names; every other event has
+-- at most one shard beside its owner's posts
+abbrev pub is_send : Event → Bool
+is_send (Called c (PassiveSend call) reply) = true
+is_send e = false
+
+-- the memories of a send
+abbrev pub send_shards : ℕ → ℕ → ℕ → List Shard
+send_shards ranks me rank =
+    if rank == me then shards.Memory me ∷ [] else (if nat_lt rank ranks then shards.Memory me ∷ shards.Memory rank ∷ [] else [])
+
+-- the calls on the groups of a rank
+abbrev pub is_group_call : Call → Bool
+is_group_call GroupCreate = true
+is_group_call (GroupAdd call) = true
+is_group_call (GroupDelete call) = true
+is_group_call call = false
 
 abbrev pub same_shard : Shard → Shard → Bool
 same_shard (shards.Posts a) (shards.Posts b) = a == b

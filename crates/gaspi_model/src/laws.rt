@@ -56,7 +56,7 @@ ghost use Rattle.gaspi_types.specs.Lanes.{is_write, is_read};
 ghost use Rattle.gaspi_model.specs.Messages.{IsEarliest, inbox_of, sent_in, received_in};
 ghost use Rattle.gaspi_model.specs.Order.{AreStanding, IsNotificationStanding, IsReadNoteStanding, IsReadStanding, IsWriteStanding, is_purge_of};
 ghost use Rattle.gaspi_model.specs.RankGroups.{handle_of, is_drop_of};
-ghost use Rattle.gaspi_model.specs.Shards.{AgreeOn, ComeToSame, HaveSamePart, is_shard, same_shard, footprint, numbers_of, is_among};
+ghost use Rattle.gaspi_model.specs.Shards.{AgreeOn, ComeToSame, HaveSamePart, is_send, send_shards, is_group_call, is_shard, same_shard, footprint, numbers_of, is_among};
 ghost use Rattle.gaspi_model.specs.declared.states.Shard.{Shard};
 ghost use Rattle.gaspi_model.specs.declared.states.Shard.TheVariants as shards;
 ghost use Rattle.gaspi_model.specs.Settled.{AreLanesEmpty, IsSettled};
@@ -278,23 +278,29 @@ pub fn prefixes()
 {}
 
 /// An event is a matter of its shards: the posts of its owner's rank, and with them at most the memory or the posts that it
-/// touches; a post, a wait, a purge, the size of a queue and the state vector have their owner's posts alone. It leaves every other shard as it was; whether it is a step,
-/// the cause where it is none, and the new parts of its shards depend on the limits and on those parts alone; and which
-/// shards it has, its owner's posts among them and none twice, depends on the limits, on its owner's posts and on the event
-/// without its reply.
+/// touches, or, of a send, the memory of its own rank and that of the rank that it names. A receive has its own rank's memory;
+/// a post, a wait, a purge, the size of a queue, the state vector and the calls on groups have their owner's posts alone. It
+/// leaves every other shard as it was; whether it is a step, the cause where it is none, and the new parts of its shards depend
+/// on the limits and on those parts alone; and which shards it has, its owner's posts among them and none twice, depends on the
+/// limits, on its owner's posts and on the event without its reply.
 pub fn locality()
     ensures frame { (s t : State) (e : Event) (shard : Shard) → step s e ≡ Ok t → is_shard (footprint s e) shard ≡ false → HaveSamePart t s shard }
     ensures determined { (s s' : State) (e : Event) → AgreeOn (is_shard (footprint s e)) s s' → ComeToSame s s' (step s e) (step s' e) }
     ensures owner { (s : State) (e : Event) → is_shard (footprint s e) (shards.Posts (owner_of e)) ≡ true }
     ensures footprint { (s s' : State) (e : Event) → s.limits ≡ s'.limits → HaveSamePart s s' (shards.Posts (owner_of e)) → footprint s e ≡ footprint s' e }
     ensures reply { (s : State) (c : CallerId) (call : Call) (reply reply' : Reply) → footprint s (Called c call reply) ≡ footprint s (Called c call reply') }
-    ensures few { (s : State) (e : Event) → length (footprint s e) ≤ 3 }
+    ensures few { (s : State) (e : Event) → is_send e ≡ false → length (footprint s e) ≤ 2 }
     ensures posting { (s : State) (c : CallerId) (call : Call) (reply : Reply) (to : Posting) → (row_of call).posting ≡ Some to
         → footprint s (Called c call reply) ≡ shards.Posts c.rank ∷ [] }
     ensures waiting { (s : State) (c : CallerId) (call : wait.Wait) (reply : Reply) → footprint s (Called c (Wait call) reply) ≡ shards.Posts c.rank ∷ [] }
     ensures purging { (s : State) (c : CallerId) (call : purge.Purge) (reply : Reply) → footprint s (Called c (Purge call) reply) ≡ shards.Posts c.rank ∷ [] }
     ensures sizing { (s : State) (c : CallerId) (call : qsize.Qsize) (reply : Reply) → footprint s (Called c (Qsize call) reply) ≡ shards.Posts c.rank ∷ [] }
     ensures state { (s : State) (c : CallerId) (reply : Reply) → footprint s (Called c calls.State reply) ≡ shards.Posts c.rank ∷ [] }
+    ensures sending { (s : State) (posts : Posts) (c : CallerId) (call : send.PassiveSend) (reply : Reply) → slice_get s.posts c.rank ≡ Some posts
+        → footprint s (Called c (PassiveSend call) reply) ≡ shards.Posts c.rank ∷ send_shards s.limits.ranks c.rank call.rank }
+    ensures receiving { (s : State) (posts : Posts) (c : CallerId) (call : receive.PassiveReceive) (reply : Reply) → slice_get s.posts c.rank ≡ Some posts
+        → footprint s (Called c (PassiveReceive call) reply) ≡ shards.Posts c.rank ∷ shards.Memory c.rank ∷ [] }
+    ensures grouping { (s : State) (c : CallerId) (call : Call) (reply : Reply) → is_group_call call ≡ true → footprint s (Called c call reply) ≡ shards.Posts c.rank ∷ [] }
     ensures once { (s : State) (e : Event) (shard : Shard) → count_by (λ x. same_shard x shard) (footprint s e) ≤ 1 }
 {}
 

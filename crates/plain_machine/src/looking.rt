@@ -2,13 +2,15 @@
 
 ghost use Rattle.std.specs.Prelude.{◌≡◌, ◌≢◌, ◌<◌, ◌||◌, List, length, map, slice_get, IfOk, IsOk, Err, true, false, Some, None};
 ghost use Rattle.gaspi_types.specs.declared.events.Event.TheVariants.{Called};
+ghost use Rattle.gaspi_types.specs.declared.replies.Ready.{Ready};
 ghost use Rattle.gaspi_types.specs.declared.touches.Reach.TheVariants.{PeerPosts};
+ghost use Rattle.gaspi_types.specs.Replies.{is_idle};
 ghost use Rattle.gaspi_model.specs.Calls.{recorded_reply};
-ghost use Rattle.gaspi_model.specs.Step.{step, Steps, is_declared};
+ghost use Rattle.gaspi_model.specs.Step.{answer_in, step, Steps, is_declared};
 ghost use Rattle.gaspi_model.specs.declared.states.Memory.{Memory};
 ghost use Rattle.gaspi_model.specs.declared.states.Posts.{Posts};
 ghost use Rattle.plain_calls.specs.Looks.{made_of};
-ghost use Rattle.plain_calls.specs.Memory.{looks_with_memory, keeps_memory};
+ghost use Rattle.plain_calls.specs.Memory.{is_send, looks_with_memory, keeps_memory};
 ghost use Rattle.plain_machine.specs.Looking.{IsFindingIn, IsFindingOn, look_purge};
 ghost use Rattle.plain_machine.specs.Machine.{AreWhole, IsMachine, state_in, taken_of};
 ghost use Rattle.plain_machine.specs.Reaching.{call_reach, Lent, call_lent, AreRanks};
@@ -32,7 +34,7 @@ pub fn has_section(ranks: &Ranks, caller: &CallerId) -> bool
     }
 }
 
-/// Looks at a call of a caller. Only a load, the post of a list and a send take memory.
+/// Looks at a call of a caller. Only a load, the post of a list and a send take memory; of sends only one that is done.
 pub fn look_in(
     ranks: &Ranks,
     memories: &Rows<Memory>,
@@ -44,6 +46,7 @@ pub fn look_in(
     requires there { caller.now.rank < length ranks.now.posts }
     ensures look { IfOk result (λ look. IsFindingIn look (state_in ranks.now memories.now) caller.now call.now) }
     ensures ample { looks_with_memory call.now ≡ false → IsOk result }
+    ensures idle { (ready : Ready) → is_send call.now ≡ true → answer_in (state_in ranks.now memories.now) caller.now.rank caller.now.thread call.now ≡ Some ready → is_idle (recorded_reply ready) ≡ true → IsOk result }
 {
     let none = no_memory(alloc);
     let reach = call_reach(&ranks.limits, caller.rank, call);
@@ -62,7 +65,9 @@ pub fn look_in(
     )
 }
 
-/// Records a look at a call, on the posts of its rank and the memory that it works on.
+/// Records a look at a call, on the posts of its rank and the memory that it works on. This and the calls up to `record_named`
+/// are put into their callers, so that what was found is not moved from hand to hand.
+#[inline(always)]
 fn record_on(
     ranks: &mut Ranks,
     memory: &mut Memory,
@@ -98,6 +103,7 @@ fn record_on(
 }
 
 /// Records a look at a call that tells a peer.
+#[inline(always)]
 fn record_telling(
     ranks: &mut Ranks,
     memories: &Rows<Memory>,
@@ -134,6 +140,7 @@ fn record_telling(
 }
 
 /// Records a look at a call.
+#[inline(always)]
 fn record_in(
     ranks: &mut Ranks,
     memories: &mut Rows<Memory>,
@@ -172,6 +179,7 @@ fn record_in(
 }
 
 /// Records a look at a call that purges nothing, and names the lane to which it posts.
+#[inline(always)]
 fn record_posting(
     ranks: &mut Ranks,
     memories: &mut Rows<Memory>,
@@ -208,6 +216,7 @@ fn record_posting(
 /// Records a look at a call, and names the lane to which it posts; the lanes of a queue that it purges are named no more. It
 /// gives the reply with which the call was recorded. The look is one of this very call in this very state, so nothing is
 /// looked for again: what is left to check is that the rank has room.
+#[inline(always)]
 pub fn record_named(
     ranks: &mut Ranks,
     memories: &mut Rows<Memory>,

@@ -5,10 +5,12 @@ ghost use Rattle.gaspi_types.specs.CallRows.{need_of};
 ghost use Rattle.gaspi_model.specs.State.{opening};
 ghost use Rattle.gaspi_model.specs.Step.{step, Steps, answer_in, is_declared, is_active, room_taken, transfer_event};
 ghost use Rattle.gaspi_model.specs.Transfers.{transfers};
+ghost use Rattle.gaspi_types.specs.Replies.{is_idle};
 ghost use Rattle.gaspi_types.specs.declared.events.Event.TheVariants.{Called};
+ghost use Rattle.gaspi_types.specs.declared.replies.Ready.{Ready};
 ghost use Rattle.gaspi_model.specs.Calls.{recorded_reply};
 ghost use Rattle.plain_calls.specs.Looks.{made_of};
-ghost use Rattle.plain_calls.specs.Memory.{looks_with_memory, keeps_memory, takes_memory};
+ghost use Rattle.plain_calls.specs.Memory.{is_send, looks_with_memory, keeps_memory, takes_memory};
 ghost use Rattle.plain_machine.specs.Looking.{IsFindingIn};
 ghost use Rattle.plain_machine.specs.Machine.{is_still};
 
@@ -107,12 +109,14 @@ impl Machine {
     }
 
     /// Looks at a call of a caller: its refusal or its reply, or that it is not ready, and what it asks to be appended. Only
-    /// a load takes memory, for the bytes that it reads, the post of a list, for its entries, and a send, for its message.
+    /// a load takes memory, for the bytes that it reads, the post of a list, for its entries, and a send that is done, for its
+    /// message: a look at one that is refused or not ready takes none.
     pub fn look(&self, alloc: Global, caller: CallerId, call: &Call) -> Result<Finding, NoMemory>
         requires { is_declared self.now caller.rank caller.thread ≡ true }
         ensures look { IfOk result (λ look. IsFindingIn look self.now caller call.now) }
         ensures answer { IfOk result (λ look. answer_in self.now caller.rank caller.thread call.now ≡ Some look.ready) }
         ensures ample { looks_with_memory call.now ≡ false → IsOk result }
+        ensures idle { (ready : Ready) → is_send call.now ≡ true → answer_in self.now caller.rank caller.thread call.now ≡ Some ready → is_idle (recorded_reply ready) ≡ true → IsOk result }
     {
         let look = look_in(&self.ranks, &self.memories, alloc, &caller, call)?;
         Ok(look)
@@ -149,11 +153,12 @@ impl Machine {
     }
 
     /// What a look at a call answers: its refusal or its reply, or that it is not ready. Only a load, the post of a list
-    /// and a send take memory.
+    /// and a send that is done take memory.
     pub fn answer(&self, alloc: Global, caller: CallerId, call: &Call) -> Result<Ready, NoMemory>
         requires { is_declared self.now caller.rank caller.thread ≡ true }
         ensures answer { IfOk result (λ ready. answer_in self.now caller.rank caller.thread call.now ≡ Some ready) }
         ensures ample { looks_with_memory call.now ≡ false → IsOk result }
+        ensures idle { (ready : Ready) → is_send call.now ≡ true → answer_in self.now caller.rank caller.thread call.now ≡ Some ready → is_idle (recorded_reply ready) ≡ true → IsOk result }
     {
         let look = look_in(&self.ranks, &self.memories, alloc, &caller, call)?;
         Ok(look.ready)

@@ -113,15 +113,17 @@ message-received s t c call sender sound h =
       posts = posts;
       old = memory;
       new = new;
+      item = item.0;
       message = found.message;
       rest = found.rest;
       posts_there = m.posts_there;
       old_there = m.memory_there;
+      item_there = item.1;
+      within = omega arith;
       first = found.inbox;
       fits = fits;
       answers = same-id sender found.message.sender found.answers;
-      taken = refl;
+      kept = refl;
       segments = segment-written memory.segments call.seg call.offset found.message.bytes item.0 item.1 (omega arith);
-      slots = refl;
       after = m.leaves ∙ ap (λ (x : Memory). record s { posts = slice_set s.posts c.rank (counted posts); memories = slice_set s.memories c.rank x }) left;
     }

@@ -194,7 +194,7 @@ slot-reset s t c call value sound h =
       new = with_slots made.1 call.seg (slice_set (slots_of made.1 call.seg) call.note 0);
       old_there = m.memory_there;
       after = m.leaves;
-      segments = refl;
+      kept = refl;
       answered = ap (λ (o : Option (List ℕ)). slice_get (unwrap_or o []) call.note) slots.1
           ∙ at.1
           ∙ ap (λ (x : ℕ). Some x) (sym (index-there slots.0 call.note at.0 at.1) ∙ ap (λ (x : List ℕ). slice_index x call.note) (sym are) ∙ found.value_is);

@@ -140,11 +140,9 @@ put-done s t origin queue target number sound h =
       numbered = found-number at.lane number at.place at.entry m.is.is.numbered m.is.is.in_lane;
       carried = carried;
       whole = none-broken at.queue.broken m.is.whole;
-      posts_after = ap (λ (x : State). x.posts) m.leaves ∙ rw (m.is.leaves, m.is.is.in_posts) refl;
       old = made.1;
       new = memory_put made.1 at.entry;
       old_there = m.memory_there;
-      memories_after = ap (λ (x : State). x.memories) m.leaves ∙ rw m.is.leaves refl;
       puts = kind-puts s origin target made.0 theirs.0 made.1 at.entry.kind bytes sound.coherent m.posts_there theirs.1 m.memory_there m.is.fits fits.0 owns;
-      limits = ap (λ (x : State). x.limits) m.leaves;
+      after = m.leaves ∙ rw (m.is.leaves, m.is.is.in_posts) refl;
     }

@@ -60,14 +60,14 @@ written s t c call reply rank seg offset new posts memory memory' old m worked s
     record {
       posts = posts;
       posts_there = m.posts_there;
-      posts_after = ap (λ (x : State). x.posts) m.leaves ∙ same (slice_set s.posts c.rank (counted posts));
       old = memory;
       new = memory';
       old_there = ap (slice_get s.memories) (sym worked) ∙ m.memory_there;
-      memories_after = ap (λ (x : State). x.memories) m.leaves ∙ ap (λ (k : ℕ). slice_set s.memories k memory') worked;
+      after = m.leaves
+          ∙ ap (λ (x : List Posts). record s { posts = x; memories = slice_set s.memories (memory_rank s.limits c.rank call) memory' }) (same (slice_set s.posts c.rank (counted posts)))
+          ∙ ap (λ (k : ℕ). record s { posts = slice_set s.posts c.rank (counted posts); memories = slice_set s.memories k memory' }) worked;
+      kept = subst (λ (x : Memory). x ≡ record memory { segments = x.segments }) (sym leaves) refl;
       segments = subst (λ (x : Memory). IsSegmentWritten memory.segments x.segments seg offset new) (sym leaves) (segment-written memory.segments seg offset new old there within);
-      slots = ap (λ (x : Memory). x.slots) leaves;
-      limits = ap (λ (x : State). x.limits) m.leaves;
     }
 
 passed : {E : Type 0} (b : Bool) (e : E) (y : Unit {0}) → check b e ≡ Ok y → b ≡ true

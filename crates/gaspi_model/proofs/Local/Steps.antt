@@ -1,10 +1,10 @@
 -- An event reads and changes the parts of its shards alone.
-use Rattle.std.proofs.Common.{◌≡◌, ℕ, ◌+◌, ◌≤◌, Bool, true, false, ◌==◌, ◌||◌, List, [], ◌∷◌, map, length, Option, None, Some, Ok, refl, sym, ap, ◌∙◌, subst, arith, cond}
+use Rattle.std.proofs.Common.{◌≡◌, ℕ, ◌+◌, ◌≤◌, Bool, true, false, ◌==◌, nat_lt, ◌||◌, List, [], ◌∷◌, map, length, Option, None, Some, Ok, refl, sym, ap, ◌∙◌, subst, arith, cond, if◌then◌else◌}
 use Rattle.std.specs.List.{slice_get, count_by}
 use Rattle.std.proofs.lemmas.Bool.{eq-eqb, eqb-true}
 use Rattle.std.proofs.lemmas.List.Sums.{sum_by-cons}
 use Rattle.gaspi_types.specs.CallRows.{row_of}
-use Rattle.gaspi_types.specs.Touches.{reach_of}
+use Rattle.gaspi_types.specs.Touches.{reach_of, take_touch, put_touch}
 use Rattle.gaspi_types.specs.declared.shapes.CallerId.{CallerId}
 use Rattle.gaspi_types.specs.declared.shapes.Limits.{Limits}
 use Rattle.gaspi_types.specs.declared.calls.Call.{Call}
@@ -13,17 +13,23 @@ use Rattle.gaspi_types.specs.declared.calls.Call.TheVariants as calls
 use Rattle.gaspi_types.specs.declared.calls.queues.Wait as wait
 use Rattle.gaspi_types.specs.declared.calls.queues.Purge as purge
 use Rattle.gaspi_types.specs.declared.calls.queues.Qsize as qsize
+use Rattle.gaspi_types.specs.declared.calls.passive.PassiveSend as send
+use Rattle.gaspi_types.specs.declared.calls.passive.PassiveReceive as receive
+use Rattle.gaspi_types.specs.declared.entries.Entry.{Entry}
+use Rattle.gaspi_types.specs.declared.entries.Kind.{Kind}
+use Rattle.gaspi_types.specs.declared.entries.Kind.TheVariants as kinds
 use Rattle.gaspi_types.specs.declared.call_rows.Posting.{Posting}
 use Rattle.gaspi_types.specs.declared.replies.Reply.{Reply}
 use Rattle.gaspi_types.specs.declared.events.Event.{Event}
-use Rattle.gaspi_types.specs.declared.events.Event.TheVariants.{Called}
+use Rattle.gaspi_types.specs.declared.events.Event.TheVariants.{Called, Take, Put}
 use Rattle.gaspi_types.specs.declared.touches.Touch.{Touch}
 use Rattle.gaspi_types.specs.declared.touches.Touch.TheVariants as touches
 use Rattle.gaspi_types.specs.declared.touches.Reach.{Reach}
 use Rattle.gaspi_types.specs.declared.touches.Reach.TheVariants.{Alone, OwnMemory, PeerMemory, BothMemories, PeerPosts}
 use Rattle.gaspi_model.specs.Parts.{touched_of, lifted}
-use Rattle.gaspi_model.specs.Step.{step, owner_of, event_touch, event_reach, local_step, missing}
-use Rattle.gaspi_model.specs.Shards.{footprint, reach_shards, is_shard, same_shard, HaveSamePart, AgreeOn, ComeToSame, numbers_of, is_among, without_repeats}
+use Rattle.gaspi_model.specs.Step.{step, owner_of, entry_touch, event_touch, event_reach, local_step, missing}
+use Rattle.gaspi_model.specs.Transfers.{entry_in}
+use Rattle.gaspi_model.specs.Shards.{footprint, reach_shards, is_send, send_shards, is_group_call, is_shard, same_shard, HaveSamePart, AgreeOn, ComeToSame, numbers_of, is_among, without_repeats}
 use Rattle.gaspi_model.specs.declared.states.Posts.{Posts}
 use Rattle.gaspi_model.specs.declared.states.State.{State}
 use Rattle.gaspi_model.specs.declared.states.Shard.{Shard}
@@ -100,20 +106,63 @@ once s e shard = go (slice_get s.posts (owner_of e)) refl
         rw at (reach-once (owner_of e) (event_reach s.limits posts e) (λ rank is. (peer-touched s.limits.ranks (owner_of e) rank (event_touch posts e) is).1)
         (λ rank is. (both-touched s.limits.ranks (owner_of e) rank (event_touch posts e) is).1) shard)
 
--- an event has at most two shards beside its owner's posts
-reach-few : (me : ℕ) (r : Reach) → length (reach_shards me r) ≤ 3
-reach-few me Alone = omega arith
-reach-few me OwnMemory = omega arith
-reach-few me (PeerMemory rank) = omega arith
-reach-few me (BothMemories rank) = omega arith
-reach-few me (PeerPosts rank) = omega arith
+-- an event that is no send has at most one shard beside its owner's posts
+abbrev is_both : Touch → Bool
+is_both (touches.BothMemories rank) = true
+is_both touch = false
 
-pub few : (s : State) (e : Event) → length (footprint s e) ≤ 3
-few s e = go (slice_get s.posts (owner_of e)) refl
+touch-few : (ranks me : ℕ) (touch : Touch) → is_both touch ≡ false → length (reach_shards me (reach_of ranks me touch)) ≤ 2
+touch-few ranks me touches.Nothing h = omega arith
+touch-few ranks me touches.OwnMemory h = omega arith
+touch-few ranks me (touches.MemoryOf rank) h = go (rank == me) (nat_lt rank ranks)
   where
-    go : (o : Option Posts) → slice_get s.posts (owner_of e) ≡ o → length (footprint s e) ≤ 3
+    go : (b c : Bool) → length (reach_shards me (if b then OwnMemory else (if c then PeerMemory rank else Alone))) ≤ 2
+    go true c = omega arith
+    go false true = omega arith
+    go false false = omega arith
+touch-few ranks me (touches.BothMemories rank) h = absurd (let no : ⊥ = cc in no)
+touch-few ranks me (touches.PostsOf rank) h = go (rank == me) (nat_lt rank ranks)
+  where
+    go : (b c : Bool) → length (reach_shards me (if b then Alone else (if c then PeerPosts rank else Alone))) ≤ 2
+    go true c = omega arith
+    go false true = omega arith
+    go false false = omega arith
+
+call-both : (c : CallerId) (call : Call) (reply : Reply) → is_send (Called c call reply) ≡ false → is_both (row_of call).touch ≡ false
+call-both c (calls.PassiveSend call) reply h = absurd (let no : ⊥ = cc in no)
+call-both c call reply h = refl
+
+take-both : (target : ℕ) (o : Option Entry) → is_both (entry_touch (take_touch target) o) ≡ false
+take-both target None = refl
+take-both target (Some e) = by-kind e.kind
+  where
+    by-kind : (kind : Kind) → is_both (take_touch target kind) ≡ false
+    by-kind (kinds.Write own to) = refl
+    by-kind (kinds.Read own to) = refl
+    by-kind (kinds.Notify to value) = refl
+    by-kind (kinds.ReadNote own) = refl
+
+put-both : (target : ℕ) (o : Option Entry) → is_both (entry_touch (put_touch target) o) ≡ false
+put-both target None = refl
+put-both target (Some e) = by-kind e.kind
+  where
+    by-kind : (kind : Kind) → is_both (put_touch target kind) ≡ false
+    by-kind (kinds.Write own to) = refl
+    by-kind (kinds.Read own to) = refl
+    by-kind (kinds.Notify to value) = refl
+    by-kind (kinds.ReadNote own) = refl
+
+event-both : (posts : Posts) (e : Event) → is_send e ≡ false → is_both (event_touch posts e) ≡ false
+event-both posts (Called c call reply) h = call-both c call reply h
+event-both posts (Take origin queue target number outcome) h = take-both target (entry_in posts queue target number)
+event-both posts (Put origin queue target number outcome) h = put-both target (entry_in posts queue target number)
+
+pub few : (s : State) (e : Event) → is_send e ≡ false → length (footprint s e) ≤ 2
+few s e h = go (slice_get s.posts (owner_of e)) refl
+  where
+    go : (o : Option Posts) → slice_get s.posts (owner_of e) ≡ o → length (footprint s e) ≤ 2
     go None at = rw at (omega arith)
-    go (Some posts) at = rw at (reach-few (owner_of e) (event_reach s.limits posts e))
+    go (Some posts) at = rw at (touch-few s.limits.ranks (owner_of e) (event_touch posts e) (event-both posts e h))
 
 -- a call that posts reaches its owner's posts alone
 pub posting-reaches-none : (call : Call) (to : Posting) → (row_of call).posting ≡ Some to → (row_of call).touch ≡ touches.Nothing
@@ -149,6 +198,29 @@ qsize-alone s c call reply = untouched s c (calls.Qsize call) reply refl
 
 pub state-alone : (s : State) (c : CallerId) (reply : Reply) → footprint s (Called c calls.State reply) ≡ shards.Posts c.rank ∷ []
 state-alone s c reply = untouched s c calls.State reply refl
+
+group-touches : (call : Call) → is_group_call call ≡ true → (row_of call).touch ≡ touches.Nothing
+group-touches calls.GroupCreate h = refl
+group-touches (calls.GroupAdd call) h = refl
+group-touches (calls.GroupDelete call) h = refl
+group-touches call h = absurd (let no : ⊥ = cc in no)
+
+pub group-alone : (s : State) (c : CallerId) (call : Call) (reply : Reply) → is_group_call call ≡ true → footprint s (Called c call reply) ≡ shards.Posts c.rank ∷ []
+group-alone s c call reply is = untouched s c call reply (group-touches call is)
+
+pub receive-own : (s : State) (posts : Posts) (c : CallerId) (call : receive.PassiveReceive) (reply : Reply) → slice_get s.posts c.rank ≡ Some posts
+    → footprint s (Called c (calls.PassiveReceive call) reply) ≡ shards.Posts c.rank ∷ shards.Memory c.rank ∷ []
+receive-own s posts c call reply at = rw at refl
+
+pub send-both : (s : State) (posts : Posts) (c : CallerId) (call : send.PassiveSend) (reply : Reply) → slice_get s.posts c.rank ≡ Some posts
+    → footprint s (Called c (calls.PassiveSend call) reply) ≡ shards.Posts c.rank ∷ send_shards s.limits.ranks c.rank call.rank
+send-both s posts c call reply at = rw at (go (call.rank == c.rank) (nat_lt call.rank s.limits.ranks))
+  where
+    go : (b d : Bool) → reach_shards c.rank (if b then OwnMemory else (if d then BothMemories call.rank else Alone))
+        ≡ shards.Posts c.rank ∷ (if b then shards.Memory c.rank ∷ [] else (if d then shards.Memory c.rank ∷ shards.Memory call.rank ∷ [] else []))
+    go true d = refl
+    go false true = refl
+    go false false = refl
 
 -- Coarser shards.
 

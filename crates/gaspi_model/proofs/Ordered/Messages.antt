@@ -161,7 +161,7 @@ received-flows s t c call sender rank got = go (c.rank == rank) refl
         let before : inbox_of s rank ≡ got.message ∷ got.rest =
         subst (λ (k : ℕ). inbox_of s k ≡ got.message ∷ got.rest) here (ap (λ (o : Option Memory). (memory_or_none o).inbox) got.old_there ∙ got.first) in
         let now : inbox_of t rank ≡ got.rest = later ∙ subst (λ (k : ℕ). (memory_or_none (slice_get (slice_set s.memories c.rank got.new) k)).inbox ≡ got.rest) here
-        (ap (λ (o : Option Memory). (memory_or_none o).inbox) (slice_get-set_same s.memories c.rank got.old got.new got.old_there) ∙ got.taken) in
+        (ap (λ (o : Option Memory). (memory_or_none o).inbox) (slice_get-set_same s.memories c.rank got.old got.new got.old_there) ∙ ap (λ (x : Memory). x.inbox) got.kept) in
         let taken : take 1 (inbox_of s rank) ≡ got.message ∷ [] = ap (take 1) before in
         rw is (append-nil (inbox_of s rank) ∙ before ∙ ap (λ (x : List Message). got.message ∷ x) (sym now) ∙ ap (λ (x : List Message). x ++ inbox_of t rank) (sym taken))
     go false is =

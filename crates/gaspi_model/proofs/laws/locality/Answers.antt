@@ -1,4 +1,4 @@
-use Rattle.gaspi_model.proofs.Local.Steps.{frame, determined, owner-among, footprint-by-owner, footprint-by-call, once, few, posting-alone, wait-alone, purge-alone, qsize-alone, state-alone}
+use Rattle.gaspi_model.proofs.Local.Steps.{frame, determined, owner-among, footprint-by-owner, footprint-by-call, once, few, posting-alone, wait-alone, purge-alone, qsize-alone, state-alone, send-both, receive-own, group-alone}
 use Rattle.gaspi_model.proofs.laws.locality.Goals as goal
 
 pub returns-clause-frame : goal.returns-clause-frame
@@ -36,3 +36,12 @@ returns-clause-sizing c = qsize-alone
 
 pub returns-clause-state : goal.returns-clause-state
 returns-clause-state c = state-alone
+
+pub returns-clause-sending : goal.returns-clause-sending
+returns-clause-sending c = send-both
+
+pub returns-clause-receiving : goal.returns-clause-receiving
+returns-clause-receiving c = receive-own
+
+pub returns-clause-grouping : goal.returns-clause-grouping
+returns-clause-grouping c = group-alone
