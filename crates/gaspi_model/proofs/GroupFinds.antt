@@ -1,6 +1,6 @@
 -- What the calls on groups have found that are done.
 use Rattle.std.proofs.Common.{◌≡◌, ◌+◌, true, not, ◌==◌, nat_lt, Option, None, Some, Ok}
-use Rattle.gaspi_types.specs.Groups.{is_building, handle_at, next_group, building_at, drop_checks, is_idle_group}
+use Rattle.gaspi_types.specs.Groups.{is_building, handle_at, next_group, building_at, drop_checks, idle_checks}
 use Rattle.gaspi_types.specs.Tables.{entry_at}
 use Rattle.gaspi_types.specs.declared.calls.groups.GroupAdd as group_add
 use Rattle.gaspi_types.specs.declared.calls.groups.GroupDelete as group_delete
@@ -39,7 +39,7 @@ pub add-found : (limits : Limits) (posts : Posts) (call : group_add.GroupAdd) (r
 add-found limits posts call reply h =
     check_then (nat_lt call.rank limits.ranks) BadRank _ (Some reply) h (λ ranked h1.
     bind_then (building_at posts.groups call.group) _ (Some reply) h1 (λ handle found h2.
-    bind_then (is_idle_group posts.pending call.group) _ (Some reply) h2 (λ u idle h3.
+    bind_then (idle_checks posts.pending call.group) _ (Some reply) h2 (λ u idle h3.
     found_then (handle_at posts.groups call.group) NoGroup _ handle found (λ x there h4.
     check_then (is_building x.stage) _ _ handle h4 (λ building h5.
     let same : x ≡ handle = same_Ok _ _ h5 in
@@ -57,7 +57,7 @@ pub record IsDropFound (posts : Posts) (call : group_delete.GroupDelete) (reply 
 pub drop-found : (posts : Posts) (call : group_delete.GroupDelete) (reply : Reply) → group_delete_finds posts call ≡ Ok (Some reply) → IsDropFound posts call reply
 drop-found posts call reply h =
     bind_then (drop_checks posts.groups call.group) _ (Some reply) h (λ v found h1.
-    bind_then (is_idle_group posts.pending call.group) _ (Some reply) h1 (λ u idle h2.
+    bind_then (idle_checks posts.pending call.group) _ (Some reply) h1 (λ u idle h2.
     found_then (handle_at posts.groups call.group) NoGroup _ v found (λ handle there h3.
     let some : ◌≡◌ {A = Option Reply} (Some replies.Done) (Some reply) = same_Ok _ _ h2 in
     record { handle = handle; there = there; other = check_holds _ _ v h3; idle = absent_none _ _ u idle; done = (let is : reply ≡ replies.Done = cc in is) })))

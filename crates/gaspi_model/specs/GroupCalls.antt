@@ -1,7 +1,7 @@
 -- The calls on the groups of a rank: what they find, and what they leave. (GASPI: groups)
 use Rattle.std.specs.Prelude.{nat_lt, Option, Some, Result, Ok}
 use Rattle.gaspi_types.specs.Checks.{◌>>=◌, check}
-use Rattle.gaspi_types.specs.Groups.{next_group, with_group, building_at, with_added, drop_checks, without_group, is_idle_group}
+use Rattle.gaspi_types.specs.Groups.{next_group, with_group, building_at, with_added, drop_checks, without_group, idle_checks}
 use Rattle.gaspi_types.specs.declared.calls.groups.GroupAdd as group_add
 use Rattle.gaspi_types.specs.declared.calls.groups.GroupDelete as group_delete
 use Rattle.gaspi_types.specs.declared.shapes.Limits.{Limits}
@@ -25,7 +25,7 @@ abbrev pub group_add_finds : Limits → Posts → group_add.GroupAdd → Result 
 group_add_finds limits posts call = do
   ranked ← check (nat_lt call.rank limits.ranks) BadRank
   handle ← building_at posts.groups call.group
-  idle ← is_idle_group posts.pending call.group
+  idle ← idle_checks posts.pending call.group
   Ok (Some replies.Done)
 
 abbrev pub group_add_leaves : Posts → group_add.GroupAdd → Posts
@@ -35,7 +35,7 @@ group_add_leaves posts call = record posts { groups = with_added posts.groups ca
 abbrev pub group_delete_finds : Posts → group_delete.GroupDelete → Result (Option Reply) Refusal
 group_delete_finds posts call = do
   there ← drop_checks posts.groups call.group
-  idle ← is_idle_group posts.pending call.group
+  idle ← idle_checks posts.pending call.group
   Ok (Some replies.Done)
 
 abbrev pub group_delete_leaves : Posts → group_delete.GroupDelete → Posts

@@ -2,15 +2,15 @@
 use Rattle.std.specs.Prelude.{ℕ, ◌+◌, ◌*◌, Bool, true, false, not, ◌&&◌, length, Option, None, Some, is_some, if◌then◌else◌}
 use Rattle.gaspi_types.specs.Posts.{is_list_length}
 use Rattle.gaspi_types.specs.declared.calls.Call.{Call}
-use Rattle.gaspi_types.specs.declared.calls.Call.TheVariants.{Alloc, Register, Delete, Store, Load, Write, Read, Notify, WriteNotify, ReadNotify, WriteList, WriteListNotify, ReadList, ReadListNotify, Wait, Purge, Qsize, Waitsome, Reset, PassiveSend, PassiveReceive, FetchAdd, CompareSwap, GroupCreate, GroupAdd, GroupDelete, State, End}
+use Rattle.gaspi_types.specs.declared.calls.Call.TheVariants.{Alloc, Register, Delete, Store, Load, Write, Read, Notify, WriteNotify, ReadNotify, WriteList, WriteListNotify, ReadList, ReadListNotify, Wait, Purge, Qsize, Waitsome, Reset, PassiveSend, PassiveReceive, FetchAdd, CompareSwap, GroupCreate, GroupAdd, GroupDelete, Commit, Barrier, Allreduce, Create, State, End}
 use Rattle.gaspi_types.specs.declared.call_rows.Posting.{Posting}
 use Rattle.gaspi_types.specs.declared.call_rows.CallRow.{CallRow}
 use Rattle.gaspi_types.specs.declared.touches.Touch.{Touch}
-use Rattle.gaspi_types.specs.declared.touches.Touch.TheVariants.{Nothing, OwnMemory, MemoryOf, BothMemories, PostsOf}
+use Rattle.gaspi_types.specs.declared.touches.Touch.TheVariants.{Nothing, OwnMemory, MemoryOf, BothMemories, PostsOf, GroupOf, GroupAndMemory}
 
 -- a call that touches that, and does no more of what rows tell
 abbrev pub row_touching : Touch → CallRow
-row_touching touch = record { touch = touch; posting = None; times_out = false; takes_memory = false; ends = false }
+row_touching touch = record { touch = touch; posting = None; group = None; times_out = false; takes_memory = false; ends = false }
 
 -- a call that appends so many entries to the lane of a rank and a queue
 abbrev pub row_posting : ℕ → ℕ → ℕ → CallRow
@@ -21,6 +21,10 @@ with_memory row = record row { takes_memory = true }
 
 abbrev pub with_timeout : CallRow → CallRow
 with_timeout row = record row { times_out = true }
+
+-- a collective on a group, which takes a timeout, and touches that
+abbrev pub row_joining : ℕ → Touch → CallRow
+row_joining group touch = record (with_timeout (row_touching touch)) { group = Some group }
 
 -- How many entries a list post asks for: one for each of its items, and so many more. Own choice: one whose length is
 -- outside its limits asks for none.
@@ -54,6 +58,10 @@ row_of (CompareSwap call) = row_touching (MemoryOf call.rank)
 row_of GroupCreate = row_touching Nothing
 row_of (GroupAdd call) = row_touching Nothing
 row_of (GroupDelete call) = row_touching Nothing
+row_of (Commit call) = row_joining call.group (GroupOf call.group)
+row_of (Barrier call) = row_joining call.group (GroupOf call.group)
+row_of (Allreduce call) = with_memory (row_joining call.group (GroupOf call.group))
+row_of (Create call) = with_memory (row_joining call.group (GroupAndMemory call.group))
 row_of State = row_touching Nothing
 row_of End = record (row_touching Nothing) { ends = true }
 
@@ -73,7 +81,12 @@ is_post call = is_some (row_of call).posting
 abbrev pub is_end : Call → Bool
 is_end call = (row_of call).ends
 
--- own choice: the events that the call may bring: itself, and the two transfers of each of its entries. The end of
--- a caller has its room from the start. Whether a collective is pending makes no difference to these calls.
+-- whether it is a collective
+abbrev pub is_collective : Call → Bool
+is_collective call = is_some (row_of call).group
+
+-- own choice: the events that the call may bring: itself, the two transfers of each of its entries, and its join, where it is a
+-- collective and none is pending for its caller on that group. The end of a caller has its room from the start.
 abbrev pub need_of : Call → Bool → Bool → ℕ
-need_of call pending ended = if is_end call && not ended then 0 else 1 + 2 * entries_of call
+need_of call pending ended =
+    if is_end call && not ended then 0 else (if is_collective call && not pending then 2 else 1 + 2 * entries_of call)

@@ -1,5 +1,6 @@
 pub mod CallRows
 pub mod Checks
+pub mod Collectives
 pub mod Copies
 pub mod Groups
 pub mod Inboxes

@@ -1,4 +1,4 @@
--- Sets of ranks as one number: bit r for rank r. (GASPI: state vector)
+-- Sets of ranks as one number: bit r for rank r. (GASPI: state vector, groups)
 use Rattle.std.specs.Prelude.{ℕ, ◌+◌, ◌*◌, ◌^◌, ◌-◌, Bool, false, ◌==◌, List, [], ◌∷◌, Option, None, Some, if◌then◌else◌}
 use Rattle.std.specs.Int.{bit_at}
 use Rattle.std.specs.Int.RustNames.{bit_or}

@@ -5,15 +5,18 @@ use Rattle.gaspi_types.specs.declared.entries.Kind.TheVariants.{Write, Read, Not
 use Rattle.gaspi_types.specs.declared.touches.Touch.{Touch}
 use Rattle.gaspi_types.specs.declared.touches.Touch.TheVariants as touches
 use Rattle.gaspi_types.specs.declared.touches.Reach.{Reach}
-use Rattle.gaspi_types.specs.declared.touches.Reach.TheVariants.{Alone, OwnMemory, PeerMemory, BothMemories, PeerPosts}
+use Rattle.gaspi_types.specs.declared.touches.Reach.TheVariants.{Alone, OwnMemory, PeerMemory, BothMemories, PeerPosts, Group, GroupAndMemory}
 
--- in a world of so many ranks, by an event of a rank; what is no rank has no part, and a peer that is the owner is none
+-- in a world of so many ranks, by an event of a rank; what is no rank or no number of a group has no part, and a peer that is
+-- the owner is none
 abbrev pub reach_of : ℕ → ℕ → Touch → Reach
 reach_of ranks me touches.Nothing = Alone
 reach_of ranks me touches.OwnMemory = OwnMemory
 reach_of ranks me (touches.MemoryOf rank) = if rank == me then OwnMemory else (if nat_lt rank ranks then PeerMemory rank else Alone)
 reach_of ranks me (touches.BothMemories rank) = if rank == me then OwnMemory else (if nat_lt rank ranks then BothMemories rank else Alone)
 reach_of ranks me (touches.PostsOf rank) = if rank == me then Alone else (if nat_lt rank ranks then PeerPosts rank else Alone)
+reach_of ranks me (touches.GroupOf group) = if nat_lt group 8 then Group group else Alone
+reach_of ranks me (touches.GroupAndMemory group) = if nat_lt group 8 then GroupAndMemory group else Alone
 
 -- a write takes its bytes from its own segment, a read from its target's, and notifications take nothing
 abbrev pub take_touch : ℕ → Kind → Touch

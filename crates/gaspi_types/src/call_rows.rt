@@ -1,7 +1,7 @@
 //! What calls share: a row for each call.
 
 ghost use Rattle.std.specs.Prelude.{◌≡◌, ◌≤◌, OnSome, Some, None, true, false};
-ghost use Rattle.gaspi_types.specs.CallRows.{row_of, row_touching, row_posting, list_entries, entries_in, need_of};
+ghost use Rattle.gaspi_types.specs.CallRows.{row_of, row_touching, row_posting, row_joining, list_entries, entries_in, need_of};
 ghost use Rattle.gaspi_types.specs.declared.touches.Touch.TheVariants.{Nothing};
 
 use crate::calls::{Call, is_list_length};
@@ -22,6 +22,8 @@ pub struct CallRow {
     pub touch: Touch,
     /// What it appends, where it posts. (GASPI: one-sided communication)
     pub posting: Option<Posting>,
+    /// The group that it joins, where it is a collective. (GASPI: collectives)
+    pub group: Option<u64>,
     /// Whether it takes a timeout. (GASPI: timeouts)
     pub times_out: bool,
     /// Whether it may take memory. (own choice)
@@ -38,6 +40,7 @@ impl CallRow {
         CallRow {
             touch,
             posting: None,
+            group: None,
             times_out: false,
             takes_memory: false,
             ends: false,
@@ -55,6 +58,16 @@ impl CallRow {
                 queue,
             }),
             ..CallRow::touching(Touch::Nothing)
+        }
+    }
+
+    /// A collective on a group, which takes a timeout, and touches that.
+    fn collective(group: u64, touch: Touch) -> CallRow
+        ensures { result ≡ row_joining group touch }
+    {
+        CallRow {
+            group: Some(group),
+            ..CallRow::touching(touch).with_timeout()
         }
     }
 
@@ -151,6 +164,14 @@ impl Call {
             Call::GroupCreate => CallRow::touching(Touch::Nothing),
             Call::GroupAdd(_) => CallRow::touching(Touch::Nothing),
             Call::GroupDelete(_) => CallRow::touching(Touch::Nothing),
+            Call::Commit(call) => CallRow::collective(call.group, Touch::GroupOf(call.group)),
+            Call::Barrier(call) => CallRow::collective(call.group, Touch::GroupOf(call.group)),
+            Call::Allreduce(call) => {
+                CallRow::collective(call.group, Touch::GroupOf(call.group)).with_memory()
+            }
+            Call::Create(call) => {
+                CallRow::collective(call.group, Touch::GroupAndMemory(call.group)).with_memory()
+            }
             Call::State => CallRow::touching(Touch::Nothing),
             Call::End => CallRow {
                 ends: true,
@@ -161,16 +182,17 @@ impl Call {
 }
 
 /// How many events of its caller's rank a call needs room for: none for the end of a caller that has not ended, one
-/// and two for each entry for a post, and one for every other call, also for a list post whose length is outside its
-/// limits. Whether a collective is pending for the caller
-/// makes no difference to the calls that are there.
+/// and two for each entry for a post, two for a collective where none is pending for the caller on that group, which joins
+/// first, and one for every other call, also for a list post whose length is outside its limits.
 pub fn need(call: &Call, pending: bool, ended: bool) -> u64
     ensures { result ≡ need_of call.now pending ended }
 {
-    let _ = pending;
     let row = call.row();
     if row.ends && !ended {
         return 0;
+    }
+    if row.group.is_some() && !pending {
+        return 2;
     }
     1 + 2 * u64::from(row.entries())
 }

@@ -4,6 +4,7 @@ ghost use Rattle.std.specs.Prelude.{◌≡◌, IfOk, IsOk, true};
 ghost use Rattle.gaspi_types.specs.Copies.{is_listless_call};
 
 mod atomics;
+mod collectives;
 mod groups;
 mod memory;
 mod notifications;
@@ -14,6 +15,7 @@ mod segments;
 
 use crate::memory::NoMemory;
 pub use atomics::{CompareSwap, FetchAdd};
+pub use collectives::{Allreduce, Barrier, Commit, Create};
 pub use groups::{GroupAdd, GroupDelete};
 pub use memory::{Load, Store};
 pub use notifications::{Reset, Waitsome};
@@ -57,6 +59,10 @@ pub enum Call {
     GroupCreate,
     GroupAdd(GroupAdd),
     GroupDelete(GroupDelete),
+    Commit(Commit),
+    Barrier(Barrier),
+    Allreduce(Allreduce),
+    Create(Create),
     /// Which ranks are corrupt for the caller's rank. (GASPI: state_vec_get)
     State,
     /// The end of a caller. (own choice)
@@ -105,6 +111,10 @@ impl Call {
             Call::GroupCreate => Ok(Call::GroupCreate),
             Call::GroupAdd(call) => Ok(Call::GroupAdd(*call)),
             Call::GroupDelete(call) => Ok(Call::GroupDelete(*call)),
+            Call::Commit(call) => Ok(Call::Commit(*call)),
+            Call::Barrier(call) => Ok(Call::Barrier(*call)),
+            Call::Allreduce(call) => Ok(Call::Allreduce(call.copy(alloc)?)),
+            Call::Create(call) => Ok(Call::Create(*call)),
             Call::State => Ok(Call::State),
             Call::End => Ok(Call::End),
         }

@@ -4,7 +4,8 @@ ghost use Rattle.std.specs.Prelude.{◌≡◌, IfOk, IsOk, true};
 ghost use Rattle.gaspi_types.specs.Copies.{is_listless_event};
 
 use crate::calls::Call;
-use crate::ids::{QueueId, RankId};
+use crate::groups::Args;
+use crate::ids::{GroupId, QueueId, RankId};
 use crate::memory::NoMemory;
 use crate::replies::Reply;
 use crate::shapes::CallerId;
@@ -23,6 +24,8 @@ pub enum Outcome {
 pub enum Event {
     /// A caller's call with its reply.
     Called(CallerId, Call, Reply),
+    /// A caller's collective joins its group, with these arguments. (GASPI: collectives)
+    Joined(CallerId, GroupId, Args),
     /// The entry with that number of that origin, queue and target takes its bytes.
     Take(RankId, QueueId, RankId, u32, Outcome),
     /// That entry puts them, or sets its slot.
@@ -51,6 +54,9 @@ impl Event {
                 call.copy(alloc)?,
                 reply.copy(alloc)?,
             )),
+            Event::Joined(caller, group, args) => {
+                Ok(Event::Joined(*caller, *group, args.copy(alloc)?))
+            }
             Event::Take(origin, queue, target, number, outcome) => {
                 Ok(Event::Take(*origin, *queue, *target, *number, *outcome))
             }

@@ -19,15 +19,15 @@ mod touches;
 
 pub use call_rows::{CallRow, Posting, need};
 pub use calls::{
-    Alloc, Call, CompareSwap, Delete, FetchAdd, GroupAdd, GroupDelete, Item, Load, Notify,
-    PassiveReceive, PassiveSend, Purge, Qsize, Read, ReadList, ReadListNotify, ReadNotify,
-    Register, Reset, Store, Timeout, Wait, Waitsome, Write, WriteList, WriteListNotify,
-    WriteNotify, is_list_length,
+    Alloc, Allreduce, Barrier, Call, Commit, CompareSwap, Create, Delete, FetchAdd, GroupAdd,
+    GroupDelete, Item, Load, Notify, PassiveReceive, PassiveSend, Purge, Qsize, Read, ReadList,
+    ReadListNotify, ReadNotify, Register, Reset, Store, Timeout, Wait, Waitsome, Write, WriteList,
+    WriteListNotify, WriteNotify, is_list_length,
 };
 pub use collectives::{Coll, NumType, Numbers, Op, Stage, are_in_type, is_in_type};
 pub use entries::{ByteRange, Destination, Direction, Ends, Entry, Kind, NoteSlot, Phase, Queue};
 pub use events::{Event, Outcome, Transfer};
-pub use groups::{Args, Contribution, Group, Handle, Handles, Part, Pending};
+pub use groups::{Args, Contribution, Group, Handle, Handles, Made, Part, Pending, Resume};
 pub use ids::{GroupId, NoteId, QueueId, RankId, SegId, ThreadId};
 pub use inboxes::{Message, Messages, is_passive_size};
 pub use lists::{Bytes, Rows};

@@ -5,6 +5,7 @@ ghost use Rattle.gaspi_types.specs.Copies.{is_listless_reply};
 ghost use Rattle.gaspi_types.specs.Replies.{refusal_number};
 
 use crate::collectives::{Coll, Numbers, Stage};
+use crate::groups::Args;
 use crate::lists::{Bytes, Rows};
 use crate::memory::NoMemory;
 use std::alloc::Global;
@@ -127,6 +128,8 @@ pub enum Reply {
 pub enum Ready {
     /// The call is refused or ready, with this reply.
     Reply(Reply),
+    /// It is a collective that may join its group, with these arguments. (GASPI: collectives)
+    Join(Args),
     /// It is neither.
     NotReady,
 }

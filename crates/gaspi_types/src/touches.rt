@@ -4,9 +4,9 @@ ghost use Rattle.std.specs.Prelude.{◌≡◌, ◌≤◌};
 ghost use Rattle.gaspi_types.specs.Touches.{reach_of, take_touch, put_touch};
 
 use crate::entries::Kind;
-use crate::ids::RankId;
+use crate::ids::{GroupId, RankId};
 
-/// What an event touches beside its owner's posts. A rank is any number, as a caller wrote it. (own choice)
+/// What an event touches beside its owner's posts. A rank and a group are any numbers, as a caller wrote them. (own choice)
 #[derive(Clone, Copy, Debug, PartialEq, Eq)]
 pub enum Touch {
     Nothing,
@@ -18,10 +18,14 @@ pub enum Touch {
     BothMemories(u64),
     /// The posts of a rank.
     PostsOf(u64),
+    /// A group, by its number.
+    GroupOf(u64),
+    /// A group, and the memory of its owner's rank.
+    GroupAndMemory(u64),
 }
 
 /// The parts that an event reaches beside its owner's posts: what it touches, where it is there. A peer is a rank of the
-/// world that is not the owner's.
+/// world that is not the owner's; a group has a number below 8.
 #[derive(Clone, Copy, Debug, PartialEq, Eq)]
 pub enum Reach {
     Alone,
@@ -29,6 +33,8 @@ pub enum Reach {
     PeerMemory(RankId),
     BothMemories(RankId),
     PeerPosts(RankId),
+    Group(GroupId),
+    GroupAndMemory(GroupId),
 }
 
 impl Touch {
@@ -63,6 +69,20 @@ impl Touch {
                     Reach::Alone
                 } else if rank < u64::from(ranks) {
                     Reach::PeerPosts(RankId::of(rank as u32))
+                } else {
+                    Reach::Alone
+                }
+            }
+            Touch::GroupOf(group) => {
+                if group < 8 {
+                    Reach::Group(GroupId::of(group as u32))
+                } else {
+                    Reach::Alone
+                }
+            }
+            Touch::GroupAndMemory(group) => {
+                if group < 8 {
+                    Reach::GroupAndMemory(GroupId::of(group as u32))
                 } else {
                     Reach::Alone
                 }

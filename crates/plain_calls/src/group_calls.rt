@@ -1,7 +1,7 @@
 //! The calls on the groups of a rank: what they find, and what they leave. (GASPI: groups)
 
 ghost use Rattle.std.specs.Prelude.{◌≡◌, ◌+◌, ◌<◌, ◌^◌, slice_set};
-ghost use Rattle.gaspi_types.specs.Groups.{handle_at, building_at, is_idle_group};
+ghost use Rattle.gaspi_types.specs.Groups.{handle_at, building_at, idle_checks};
 ghost use Rattle.gaspi_model.specs.GroupCalls.{group_create_finds, group_create_leaves, group_add_finds, group_add_leaves, group_delete_finds, group_delete_leaves};
 
 use gaspi_model::Posts;
@@ -35,7 +35,7 @@ fn building_at(groups: &Handles, id: u64) -> Result<Handle, Refusal>
 
 /// Checks that no collective of the rank is pending on a group.
 fn check_idle(pending: &Rows<Option<Pending>>, id: u64) -> Result<(), Refusal>
-    ensures { result ≡ is_idle_group pending.now id }
+    ensures { result ≡ idle_checks pending.now id }
 {
     match pending.get(id as usize) {
         Some(Some(collective)) => Err(Refusal::ActiveCollective {

@@ -1,0 +1,195 @@
+-- Collectives: what ranks give to the turns of a group, when a turn is full, and what it comes to. Most words speak of one turn by
+-- what each rank has given to it, so that they serve lists of turns that only grow and buffers alike. (GASPI: collectives)
+use Rattle.std.specs.Prelude.{ℕ, ◌+◌, ℤ, pos, ◌+ℤ◌, Bool, true, false, not, ◌==◌, ◌&&◌, nat_eq, List, [], ◌∷◌, ◌++◌, map, filter, Option, None, Some, is_some, Result, Ok, slice_get}
+use Rattle.std.specs.Cmp.Lexicographic.{pointwise}
+use Rattle.std.specs.Int.{int_min, int_max, int_wrap, cast_unsigned, w32, w64}
+use Rattle.std.specs.List.{list_all, range_with_len}
+use Rattle.gaspi_types.specs.Checks.{◌>>=◌, check}
+use Rattle.gaspi_types.specs.Masks.{is_member}
+use Rattle.gaspi_types.specs.NumberTypes.{TypedNumbers}
+use Rattle.gaspi_types.specs.Ranges.{is_between}
+use Rattle.gaspi_types.specs.Replies.{coll_fields, same_numbers}
+use Rattle.gaspi_types.specs.Tables.{changed_at}
+use Rattle.gaspi_types.specs.declared.collectives.Coll.{Coll}
+use Rattle.gaspi_types.specs.declared.collectives.Coll.TheVariants.{Barrier, Allreduce, Create, Commit}
+use Rattle.gaspi_types.specs.declared.collectives.NumType.{NumType}
+use Rattle.gaspi_types.specs.declared.collectives.NumType.TheVariants.{Int, Uint, Long, Ulong, Float, Double}
+use Rattle.gaspi_types.specs.declared.collectives.Op.{Op}
+use Rattle.gaspi_types.specs.declared.collectives.Op.TheVariants.{Min, Max, Sum}
+use Rattle.gaspi_types.specs.declared.groups.Args.{Args}
+use Rattle.gaspi_types.specs.declared.groups.Contribution.{Contribution}
+use Rattle.gaspi_types.specs.declared.groups.Group.{Group}
+use Rattle.gaspi_types.specs.declared.groups.Made.{Made}
+use Rattle.gaspi_types.specs.declared.groups.Part.{Part}
+use Rattle.gaspi_types.specs.declared.groups.Pending.{Pending}
+use Rattle.gaspi_types.specs.declared.groups.Resume.{Resume}
+use Rattle.gaspi_types.specs.declared.groups.Resume.TheVariants.{Fresh, Same}
+use Rattle.gaspi_types.specs.declared.replies.Refusal.{Refusal}
+use Rattle.gaspi_types.specs.declared.replies.Refusal.TheVariants.{ActiveCollective, ResumeOther, CollectiveMismatch, BadCount, FloatType}
+
+-- Numbers reduced. (GASPI: allreduce)
+
+-- what is left of a number in the bits of a type; that of FLOAT and DOUBLE is as of LONG
+abbrev pub wrapped : NumType → ℤ → ℤ
+wrapped Int z = int_wrap w32 z
+wrapped Uint z = pos (cast_unsigned w32 z)
+wrapped Long z = int_wrap w64 z
+wrapped Ulong z = pos (cast_unsigned w64 z)
+wrapped Float z = int_wrap w64 z
+wrapped Double z = int_wrap w64 z
+
+-- the lesser, the greater, or the sum, which wraps
+abbrev pub reduced : Op → NumType → ℤ → ℤ → ℤ
+reduced Min t a b = int_min a b
+reduced Max t a b = int_max a b
+reduced Sum t a b = wrapped t (a +ℤ b)
+
+-- item by item
+abbrev pub combined : Op → NumType → List ℤ → List ℤ → List ℤ
+combined op t (a ∷ total) (b ∷ values) = reduced op t a b ∷ combined op t total values
+combined op t total values = []
+
+-- own choice: how many elements an allreduce may have
+abbrev pub is_element_count : ℕ → Bool
+is_element_count count = is_between 1 255 count
+
+abbrev pub is_float : NumType → Bool
+is_float Int = false
+is_float Uint = false
+is_float Long = false
+is_float Ulong = false
+is_float Float = true
+is_float Double = true
+
+-- what an allreduce is refused for, whatever its group
+abbrev pub count_checks : ℕ → Result (Unit {0}) Refusal
+count_checks count = check (is_element_count count) BadCount
+
+abbrev pub type_checks : NumType → Result (Unit {0}) Refusal
+type_checks t = check (not (is_float t)) FloatType
+
+-- Arguments compared, and a pending collective resumed. (GASPI: timeouts)
+
+abbrev pub same_coll : Coll → Coll → Bool
+same_coll a b = pointwise nat_eq (coll_fields a) (coll_fields b)
+
+abbrev pub same_args : Args → Args → Bool
+same_args a b = same_coll a.coll b.coll && same_numbers a.values b.values
+
+-- whether those are the arguments that are kept; a call may have none that could be kept
+abbrev pub asks_same : Option Args → Args → Bool
+asks_same None kept = false
+asks_same (Some args) kept = same_args args kept
+
+-- What a collective of a thread meets where that one of the rank is pending on its group, or none: it is new; or it is the one
+-- that is pending, which is resumed; or that is another thread's, or differs from it in kind, arguments or values.
+abbrev pub resume : Option Pending → ℕ → Option Args → Result Resume Refusal
+resume None thread args = Ok Fresh
+resume (Some p) thread args = do
+  mine ← check (p.thread == thread) (ActiveCollective p.thread)
+  same ← check (asks_same args p.args) (ResumeOther p.args.coll)
+  Ok Same
+
+-- One turn, by what each rank has given to it.
+
+-- the ranks of a set, by rising number
+abbrev pub members_of : ℕ → List ℕ
+members_of mask = filter (is_member mask) (range_with_len 0 16)
+
+-- every member has given
+abbrev pub is_full : (ℕ → Option Contribution) → List ℕ → Bool
+is_full given members = list_all (λ m. is_some (given m)) members
+
+-- what the first member has given that has given
+abbrev pub or_later : Option Contribution → Option Contribution → Option Contribution
+or_later None later = later
+or_later (Some c) later = Some c
+
+abbrev pub first_given : (ℕ → Option Contribution) → List ℕ → Option Contribution
+first_given given [] = None
+first_given given (m ∷ members) = or_later (given m) (first_given given members)
+
+-- a collective fits a turn where what members have given to it is of that kind and those arguments, values aside
+abbrev pub fits : Option Contribution → Coll → Result (Unit {0}) Refusal
+fits None coll = Ok tt
+fits (Some c) coll = check (same_coll c.args.coll coll) (CollectiveMismatch c.args.coll)
+
+abbrev pub values_in : Option Contribution → List ℤ
+values_in None = []
+values_in (Some c) = c.args.values.items
+
+-- what all members' values come to, in the order of their ranks (allreduce)
+abbrev pub folded_onto : (ℕ → Option Contribution) → Op → NumType → List ℤ → List ℕ → List ℤ
+folded_onto given op t total [] = total
+folded_onto given op t total (m ∷ members) = folded_onto given op t (combined op t total (values_in (given m))) members
+
+abbrev pub folded : (ℕ → Option Contribution) → Op → NumType → List ℕ → List ℤ
+folded given op t [] = []
+folded given op t (m ∷ members) = folded_onto given op t (values_in (given m)) members
+
+abbrev pub fold_of : (ℕ → Option Contribution) → Op → NumType → List ℕ → TypedNumbers
+fold_of given op t members = record { num_type = t; items = folded given op t members }
+
+abbrev pub generation_in : Option Contribution → ℕ
+generation_in None = 0
+generation_in (Some c) = c.generation
+
+-- in which generation each member has made its segment (segment_create)
+abbrev pub made_by : (ℕ → Option Contribution) → List ℕ → List Made
+made_by given members = map (λ m. record { rank = m; generation = generation_in (given m) }) members
+
+-- A group of the whole world: lists of turns that only grow.
+
+abbrev pub no_part : Part
+no_part = record { contributions = []; completed = 0 }
+
+abbrev pub part_of : Group → ℕ → Part
+part_of g rank = part_or_none (slice_get g.parts rank)
+  where
+    part_or_none : Option Part → Part
+    part_or_none None = no_part
+    part_or_none (Some part) = part
+
+-- what a rank has given to a turn
+abbrev pub given_in : Group → ℕ → ℕ → Option Contribution
+given_in g turn rank = slice_get (part_of g rank).contributions turn
+
+abbrev pub members_in : Group → List ℕ
+members_in g = members_or_none g.members
+  where
+    members_or_none : Option ℕ → List ℕ
+    members_or_none None = []
+    members_or_none (Some mask) = members_of mask
+
+-- the turn of a rank: the first that it has not completed
+abbrev pub turn_of : Group → ℕ → ℕ
+turn_of g rank = (part_of g rank).completed
+
+abbrev pub is_turn_full : Group → ℕ → Bool
+is_turn_full g rank = is_full (given_in g (turn_of g rank)) (members_in g)
+
+abbrev pub turn_checks : Group → ℕ → Coll → Result (Unit {0}) Refusal
+turn_checks g rank coll = fits (first_given (given_in g (turn_of g rank)) (members_in g)) coll
+
+abbrev pub turn_fold : Group → ℕ → Op → NumType → TypedNumbers
+turn_fold g rank op t = fold_of (given_in g (turn_of g rank)) op t (members_in g)
+
+abbrev pub turn_made : Group → ℕ → List Made
+turn_made g rank = made_by (given_in g (turn_of g rank)) (members_in g)
+
+-- own choice: the first commit fixes the members
+abbrev pub fixed_by : Option ℕ → Coll → Option ℕ
+fixed_by (Some mask) coll = Some mask
+fixed_by None (Commit mask) = Some mask
+fixed_by None coll = None
+
+-- a rank joins: it gives to its turn
+abbrev pub with_joined : Group → ℕ → Contribution → Group
+with_joined g rank c = record {
+  members = fixed_by g.members c.args.coll;
+  parts = changed_at g.parts rank (λ (p : Part). record p { contributions = p.contributions ++ c ∷ [] });
+}
+
+-- a rank has completed its turn
+abbrev pub with_completed : Group → ℕ → Group
+with_completed g rank = record g { parts = changed_at g.parts rank (λ (p : Part). record p { completed = p.completed + 1 }) }
