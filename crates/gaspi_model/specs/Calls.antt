@@ -80,9 +80,11 @@ answer limits me posts memory thread call =
     then ready_of (call_finds limits me posts memory call)
     else ready.Reply (replies.Refused CallerEnded)
 
--- the one reply with which the call may be recorded: what it answers, or where it is not ready a timeout (timeouts)
+-- the one reply with which the call may be recorded: what it answers, or where it is not ready a timeout (timeouts); a collective
+-- that may join has none before it has joined
 abbrev pub recorded_reply : Ready → Reply
 recorded_reply (ready.Reply reply) = reply
+recorded_reply (ready.Join args) = replies.Timeout
 recorded_reply ready.NotReady = replies.Timeout
 
 -- What a call leaves that was answered neither with a refusal nor with a timeout.

@@ -14,6 +14,8 @@ pub mod Transfers
 pub mod Parts
 pub mod Step
 pub mod Coherence
+pub mod CollectiveCalls
+pub mod Contributions
 pub mod Sound
 pub mod Shards
 pub mod Changes

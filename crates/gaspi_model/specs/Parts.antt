@@ -1,25 +1,29 @@
 -- The parts of the state that an event touches, and how a step on them alone is a step of the whole state. (own choice)
 use Rattle.std.specs.Prelude.{ℕ, List, [], Option, None, Some, Result, Ok, slice_get, slice_set}
 use Rattle.gaspi_types.specs.Checks.{◌>>=◌, found}
+use Rattle.gaspi_types.specs.declared.groups.Group as groups
 use Rattle.gaspi_types.specs.declared.touches.Reach.{Reach}
-use Rattle.gaspi_types.specs.declared.touches.Reach.TheVariants.{Alone, OwnMemory, PeerMemory, BothMemories, PeerPosts}
+use Rattle.gaspi_types.specs.declared.touches.Reach.TheVariants.{Alone, OwnMemory, PeerMemory, BothMemories, PeerPosts, Group, GroupAndMemory}
 use Rattle.gaspi_model.specs.declared.states.Posts.{Posts}
 use Rattle.gaspi_model.specs.declared.states.Memory.{Memory}
 use Rattle.gaspi_model.specs.declared.states.State.{State}
 use Rattle.gaspi_model.specs.declared.states.Why.{Why}
 
--- which parts are touched beside the owner's posts, by the numbers of their ranks
+-- which parts are touched beside the owner's posts, by the numbers of their ranks and the number of the group
 pub record Touched : Type 0 where
   pub memory : Option ℕ
   pub peer_posts : Option ℕ
   pub peer_memory : Option ℕ
+  pub group : Option ℕ
 
 abbrev pub touched_of : ℕ → Reach → Touched
-touched_of me Alone = record { memory = None; peer_posts = None; peer_memory = None }
-touched_of me OwnMemory = record { memory = Some me; peer_posts = None; peer_memory = None }
-touched_of me (PeerMemory rank) = record { memory = None; peer_posts = None; peer_memory = Some rank }
-touched_of me (BothMemories rank) = record { memory = Some me; peer_posts = None; peer_memory = Some rank }
-touched_of me (PeerPosts rank) = record { memory = None; peer_posts = Some rank; peer_memory = None }
+touched_of me Alone = record { memory = None; peer_posts = None; peer_memory = None; group = None }
+touched_of me OwnMemory = record { memory = Some me; peer_posts = None; peer_memory = None; group = None }
+touched_of me (PeerMemory rank) = record { memory = None; peer_posts = None; peer_memory = Some rank; group = None }
+touched_of me (BothMemories rank) = record { memory = Some me; peer_posts = None; peer_memory = Some rank; group = None }
+touched_of me (PeerPosts rank) = record { memory = None; peer_posts = Some rank; peer_memory = None; group = None }
+touched_of me (Group id) = record { memory = None; peer_posts = None; peer_memory = None; group = Some id }
+touched_of me (GroupAndMemory id) = record { memory = Some me; peer_posts = None; peer_memory = None; group = Some id }
 
 -- the owner's posts, and of the others those that are touched
 pub record Parts : Type 0 where
@@ -27,6 +31,7 @@ pub record Parts : Type 0 where
   pub memory : Option Memory
   pub peer_posts : Option Posts
   pub peer_memory : Option Memory
+  pub group : Option groups.Group
 
 -- an item of a table that is touched, and the table with it replaced
 abbrev pub part_at : {A : Type 0} → List A → Option ℕ → Option A
@@ -44,12 +49,14 @@ parts_of s posts touched = record {
   memory = part_at s.memories touched.memory;
   peer_posts = part_at s.posts touched.peer_posts;
   peer_memory = part_at s.memories touched.peer_memory;
+  group = part_at s.groups touched.group;
 }
 
 abbrev pub with_parts : State → ℕ → Touched → Parts → State
 with_parts s me touched parts = record s {
   posts = with_part (slice_set s.posts me parts.posts) touched.peer_posts parts.peer_posts;
   memories = with_part (with_part s.memories touched.memory parts.memory) touched.peer_memory parts.peer_memory;
+  groups = with_part s.groups touched.group parts.group;
 }
 
 -- A step on the parts that are touched, for the whole state: they are looked up, the step is made on them, and they are
@@ -75,6 +82,8 @@ worked_memory OwnMemory parts = memory_or_none parts.memory
 worked_memory (PeerMemory rank) parts = memory_or_none parts.peer_memory
 worked_memory (BothMemories rank) parts = memory_or_none parts.peer_memory
 worked_memory (PeerPosts rank) parts = no_memory
+worked_memory (Group id) parts = no_memory
+worked_memory (GroupAndMemory id) parts = memory_or_none parts.memory
 
 abbrev pub with_worked_memory : Reach → Parts → Memory → Parts
 with_worked_memory Alone parts memory = parts
@@ -82,3 +91,13 @@ with_worked_memory OwnMemory parts memory = record parts { memory = Some memory 
 with_worked_memory (PeerMemory rank) parts memory = record parts { peer_memory = Some memory }
 with_worked_memory (BothMemories rank) parts memory = record parts { peer_memory = Some memory }
 with_worked_memory (PeerPosts rank) parts memory = parts
+with_worked_memory (Group id) parts memory = parts
+with_worked_memory (GroupAndMemory id) parts memory = record parts { memory = Some memory }
+
+-- a group without members and parts, and a group that may be missing
+abbrev pub no_group : groups.Group
+no_group = record { members = None; parts = [] }
+
+abbrev pub group_or_none : Option groups.Group → groups.Group
+group_or_none None = no_group
+group_or_none (Some group) = group

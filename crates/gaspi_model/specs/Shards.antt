@@ -8,7 +8,7 @@ use Rattle.gaspi_types.specs.declared.calls.Call.TheVariants.{PassiveSend, Group
 use Rattle.gaspi_types.specs.declared.events.Event.{Event}
 use Rattle.gaspi_types.specs.declared.events.Event.TheVariants.{Called}
 use Rattle.gaspi_types.specs.declared.touches.Reach.{Reach}
-use Rattle.gaspi_types.specs.declared.touches.Reach.TheVariants.{Alone, OwnMemory, PeerMemory, BothMemories, PeerPosts}
+use Rattle.gaspi_types.specs.declared.touches.Reach.TheVariants.{Alone, OwnMemory, PeerMemory, BothMemories, PeerPosts, Group, GroupAndMemory}
 use Rattle.gaspi_model.specs.Transfers.{entry_in}
 use Rattle.gaspi_model.specs.Step.{owner_of, event_reach}
 use Rattle.gaspi_model.specs.declared.states.Posts.{Posts}
@@ -32,6 +32,8 @@ reach_shards me OwnMemory = shards.Posts me ∷ shards.Memory me ∷ []
 reach_shards me (PeerMemory rank) = shards.Posts me ∷ shards.Memory rank ∷ []
 reach_shards me (BothMemories rank) = shards.Posts me ∷ shards.Memory me ∷ shards.Memory rank ∷ []
 reach_shards me (PeerPosts rank) = shards.Posts me ∷ shards.Posts rank ∷ []
+reach_shards me (Group id) = shards.Posts me ∷ shards.Group id ∷ []
+reach_shards me (GroupAndMemory id) = shards.Posts me ∷ shards.Memory me ∷ shards.Group id ∷ []
 
 -- The footprint of an event: its shards, told by its owner's posts and the event without its reply.
 abbrev pub footprint : State → Event → List Shard

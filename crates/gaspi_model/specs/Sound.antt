@@ -13,6 +13,7 @@ use Rattle.gaspi_types.specs.World.{are_limits}
 use Rattle.gaspi_types.specs.declared.shapes.Limits.{Limits}
 use Rattle.gaspi_model.specs.State.{owed}
 use Rattle.gaspi_model.specs.Coherence.{IsCoherent}
+use Rattle.gaspi_model.specs.Contributions.{AreSoundCollectives}
 use Rattle.gaspi_types.specs.declared.entries.Queue.{Queue}
 use Rattle.gaspi_model.specs.declared.states.Posts.{Posts}
 use Rattle.gaspi_model.specs.declared.states.Memory.{Memory}
@@ -102,6 +103,7 @@ pub record IsSound (s : State) : Type 0 where
   pub posts : (rank : ℕ) (posts : Posts) → slice_get s.posts rank ≡ Some posts → IsSoundPosts s.limits posts
   pub inboxes : (rank : ℕ) (memory : Memory) → slice_get s.memories rank ≡ Some memory → IsSoundInbox s.limits memory.inbox
   pub coherent : IsCoherent s
+  pub collectives : AreSoundCollectives s
 
 -- the events that may still be recorded, in all ranks
 abbrev pub events_left : State → ℕ

@@ -1,8 +1,8 @@
 -- The step of the machine, and its legal histories.
-use Rattle.std.specs.Prelude.{◌&&◌, ◌≡◌, ℕ, ◌+◌, Bool, true, false, nat_le, List, [], ◌∷◌, Option, None, Some, Result, Ok, Err, if◌then◌else◌, slice_get, is_ok}
+use Rattle.std.specs.Prelude.{◌&&◌, ◌≡◌, ◌==◌, ℕ, ◌+◌, Bool, true, false, nat_le, nat_lt, List, [], ◌∷◌, Option, None, Some, Result, Ok, Err, if◌then◌else◌, slice_get, is_ok}
 use Rattle.gaspi_types.specs.Checks.{◌>>=◌, check}
 use Rattle.gaspi_types.specs.CallRows.{row_of, is_end}
-use Rattle.gaspi_types.specs.Replies.{same_reply}
+use Rattle.gaspi_types.specs.Replies.{is_idle, same_reply}
 use Rattle.gaspi_types.specs.Touches.{reach_of, take_touch, put_touch}
 use Rattle.std.specs.Option.{option_map}
 use Rattle.gaspi_types.specs.World.{World, is_caller}
@@ -11,6 +11,7 @@ use Rattle.gaspi_types.specs.declared.entries.Entry.{Entry}
 use Rattle.gaspi_types.specs.declared.touches.Touch.{Touch}
 use Rattle.gaspi_types.specs.declared.touches.Touch.TheVariants as touches
 use Rattle.gaspi_types.specs.declared.touches.Reach.{Reach}
+use Rattle.gaspi_types.specs.declared.shapes.CallerId.{CallerId}
 use Rattle.gaspi_types.specs.declared.shapes.Limits.{Limits}
 use Rattle.gaspi_types.specs.declared.calls.Call.{Call}
 use Rattle.gaspi_types.specs.declared.replies.Reply.{Reply}
@@ -19,12 +20,21 @@ use Rattle.gaspi_types.specs.declared.events.Outcome.{Outcome}
 use Rattle.gaspi_types.specs.declared.events.Outcome.TheVariants.{Failed}
 use Rattle.gaspi_types.specs.declared.events.Transfer.{Transfer}
 use Rattle.gaspi_types.specs.declared.events.Event.{Event}
-use Rattle.gaspi_types.specs.declared.events.Event.TheVariants.{Called, Take, Put}
+use Rattle.gaspi_types.specs.declared.events.Event.TheVariants.{Called, Joined, Take, Put}
 use Rattle.gaspi_model.specs.State.{opening, owed, thread_at, is_running}
 use Rattle.gaspi_model.specs.Calls.{answer, recorded_reply, charge, posts_after, memory_after, peer_after}
 use Rattle.gaspi_model.specs.PassiveCalls.{brought_by}
+use Rattle.gaspi_model.specs.CollectiveCalls.{collective_answer, is_reply_of, is_join_of, joining_call, joined_posts, made_memory, contribution_of, completed_posts}
+use Rattle.gaspi_model.specs.Posting.{counted}
+use Rattle.gaspi_types.specs.Collectives.{with_joined, with_completed}
+use Rattle.gaspi_types.specs.Tables.{entry_at}
+use Rattle.gaspi_types.specs.declared.collectives.Coll.{Coll}
+use Rattle.gaspi_types.specs.declared.collectives.Coll.TheVariants.{Barrier, Allreduce, Create, Commit}
+use Rattle.gaspi_types.specs.declared.groups.Args.{Args}
+use Rattle.gaspi_types.specs.declared.groups.Group.{Group}
+use Rattle.gaspi_types.specs.declared.groups.Pending.{Pending}
 use Rattle.gaspi_types.specs.declared.inboxes.Message.{Message}
-use Rattle.gaspi_model.specs.Parts.{Parts, touched_of, parts_of, part_at, lifted, memory_or_none, worked_memory, with_worked_memory}
+use Rattle.gaspi_model.specs.Parts.{Parts, touched_of, parts_of, part_at, lifted, memory_or_none, group_or_none, worked_memory, with_worked_memory}
 use Rattle.gaspi_model.specs.Transfers.{take, put, Worked, Found, find_entry, entry_in, take_outcome, put_outcome}
 use Rattle.gaspi_model.specs.declared.states.ThreadState.{ThreadState}
 use Rattle.gaspi_model.specs.declared.states.ThreadState.TheVariants.{Absent, Running, Ended}
@@ -50,19 +60,54 @@ called limits me posts brought memory thread call reply = do
   room ← check (nat_le (posts.events + owed posts + charge (thread_at posts thread) call reply) limits.events) whys.Limit
   Ok (record { posts = posts_after limits me posts thread call reply; memory = memory_after limits posts brought memory call reply })
 
+-- what is left of its caller's posts and of its group by a collective
+pub record Met : Type 0 where
+  pub posts : Posts
+  pub group : Group
+
+-- A collective with its reply: its caller has a section, the reply is the one that may be recorded, and the rank has room. A refusal
+-- or a timeout changes nothing but the count of events. (collectives)
+abbrev pub completed : Limits → ℕ → Posts → Group → ℕ → ℕ → Call → Reply → Result Met Why
+completed limits me posts group thread id call reply = do
+  there ← check (is_there (thread_at posts thread)) whys.Caller
+  answered ← check (is_reply_of (collective_answer posts group me thread id call) reply) whys.Reply
+  room ← check (nat_le (posts.events + owed posts + 1) limits.events) whys.Limit
+  Ok (record {
+    posts = counted (if is_idle reply then posts else completed_posts posts group me id call);
+    group = if is_idle reply then group else with_completed group me;
+  })
+
+-- A join: its caller has a section, its collective may join with these arguments, and the rank has room. It is pending then for its
+-- caller, and the rank has given to its turn.
+abbrev pub joined : Limits → ℕ → Posts → Group → ℕ → ℕ → Args → Result Met Why
+joined limits me posts group thread id args = do
+  there ← check (is_there (thread_at posts thread)) whys.Caller
+  joins ← check (is_join_of (collective_answer posts group me thread id (joining_call id args)) args) whys.Join
+  room ← check (nat_le (posts.events + owed posts + 1) limits.events) whys.Limit
+  Ok (record { posts = counted (joined_posts posts thread id args); group = with_joined group me (contribution_of posts args) })
+
 -- the rank that records an event: its caller's, or its origin
 abbrev pub owner_of : Event → ℕ
 owner_of (Called c call reply) = c.rank
+owner_of (Joined c id args) = c.rank
 owner_of (Take origin queue target number outcome) = origin
 owner_of (Put origin queue target number outcome) = origin
 
--- what an event touches beside its owner's posts: a call what its row says, a transfer what its entry's kind says
+-- what an event touches beside its owner's posts: a call what its row says, a join its group and, where it makes a segment, the own
+-- memory, a transfer what its entry's kind says
+abbrev pub join_touch : ℕ → Coll → Touch
+join_touch id Barrier = touches.GroupOf id
+join_touch id (Allreduce op num_type count) = touches.GroupOf id
+join_touch id (Create seg size) = touches.GroupAndMemory id
+join_touch id (Commit mask) = touches.GroupOf id
+
 abbrev pub entry_touch : (Kind → Touch) → Option Entry → Touch
 entry_touch touch None = touches.Nothing
 entry_touch touch (Some e) = touch e.kind
 
 abbrev pub event_touch : Posts → Event → Touch
 event_touch posts (Called c call reply) = (row_of call).touch
+event_touch posts (Joined c id args) = join_touch id args.coll
 event_touch posts (Take origin queue target number outcome) = entry_touch (take_touch target) (entry_in posts queue target number)
 event_touch posts (Put origin queue target number outcome) = entry_touch (put_touch target) (entry_in posts queue target number)
 
@@ -72,16 +117,38 @@ event_reach limits posts e = reach_of limits.ranks (owner_of e) (event_touch pos
 -- why an event is no step whose owner is no rank
 abbrev pub missing : Event → Why
 missing (Called c call reply) = whys.Caller
+missing (Joined c id args) = whys.Caller
 missing (Take origin queue target number outcome) = whys.Take
 missing (Put origin queue target number outcome) = whys.Put
 
 -- The local step: an event of that reach on the parts that it touches.
-abbrev pub on_parts : Limits → Reach → Event → Parts → Result Parts Why
-on_parts limits reach (Called c call reply) parts = do
+
+-- a call that is no collective
+abbrev pub called_on : Limits → Reach → CallerId → Call → Reply → Parts → Result Parts Why
+called_on limits reach c call reply parts = do
   after ← called limits c.rank parts.posts (brought_by c.rank (memory_or_none parts.memory) call) (worked_memory reach parts) c.thread call reply
   Ok (record (with_worked_memory reach parts after.memory) {
     posts = after.posts;
     peer_posts = option_map (peer_after c.rank parts.posts call reply) parts.peer_posts;
+  })
+
+-- a collective on a group
+abbrev pub completed_on : Limits → CallerId → ℕ → Call → Reply → Parts → Result Parts Why
+completed_on limits c id call reply parts = do
+  after ← completed limits c.rank parts.posts (group_or_none parts.group) c.thread id call reply
+  Ok (record parts { posts = after.posts; group = Some after.group })
+
+abbrev pub answered_on : Limits → Reach → CallerId → Call → Reply → Parts → Option ℕ → Result Parts Why
+answered_on limits reach c call reply parts None = called_on limits reach c call reply parts
+answered_on limits reach c call reply parts (Some id) = completed_on limits c id call reply parts
+
+abbrev pub on_parts : Limits → Reach → Event → Parts → Result Parts Why
+on_parts limits reach (Called c call reply) parts = answered_on limits reach c call reply parts (row_of call).group
+on_parts limits reach (Joined c id args) parts = do
+  after ← joined limits c.rank parts.posts (group_or_none parts.group) c.thread id args
+  Ok (record (with_worked_memory reach parts (made_memory limits parts.posts (worked_memory reach parts) args.coll)) {
+    posts = after.posts;
+    group = Some after.group;
   })
 on_parts limits reach (Take origin queue target number outcome) parts = do
   after ← take limits parts.posts (worked_memory reach parts) queue target number outcome
@@ -136,13 +203,37 @@ call_memory s rank posts call = memory_at (reach_of s.limits.ranks rank (row_of 
 abbrev pub call_brought : State → ℕ → Call → Option Message
 call_brought s rank call = brought_by rank (memory_or_none (part_at s.memories (touched_of rank (reach_of s.limits.ranks rank (row_of call).touch)).memory)) call
 
+-- the group with a number in a state; where there is none, one without members
+abbrev pub group_in : State → ℕ → Group
+group_in s id = group_or_none (if nat_lt id 8 then slice_get s.groups id else None)
+
 -- what a look at a call of a caller answers in a state; of a rank that is not there, nothing
+abbrev pub answer_for : State → ℕ → ℕ → Call → Posts → Option ℕ → Ready
+answer_for s rank thread call posts None = answer s.limits rank posts (call_memory s rank posts call) thread call
+answer_for s rank thread call posts (Some id) = collective_answer posts (group_in s id) rank thread id call
+
 abbrev pub answer_in : State → ℕ → ℕ → Call → Option Ready
 answer_in s rank thread call = answer_with (slice_get s.posts rank)
   where
     answer_with : Option Posts → Option Ready
     answer_with None = None
-    answer_with (Some posts) = Some (answer s.limits rank posts (call_memory s rank posts call) thread call)
+    answer_with (Some posts) = Some (answer_for s rank thread call posts (row_of call).group)
+
+-- whether a collective is pending for a caller on the group that a call names
+abbrev pub is_pending_of : ℕ → Option Pending → Bool
+is_pending_of thread None = false
+is_pending_of thread (Some p) = p.thread == thread
+
+abbrev pub is_pending_on : ℕ → Posts → Option ℕ → Bool
+is_pending_on thread posts None = false
+is_pending_on thread posts (Some id) = is_pending_of thread (entry_at posts.pending id)
+
+abbrev pub is_pending : State → ℕ → ℕ → Call → Bool
+is_pending s rank thread call = in_posts (slice_get s.posts rank)
+  where
+    in_posts : Option Posts → Bool
+    in_posts None = false
+    in_posts (Some posts) = is_pending_on thread posts (row_of call).group
 
 -- a caller that has a section
 abbrev pub is_declared : State → ℕ → ℕ → Bool

@@ -1,0 +1,198 @@
+-- The collective calls: whether one may join its group, is not ready, or what it answers; and what a join and a completion leave. A
+-- call of a rank `me` on a group with the number `id` reads that rank's posts and that group. (GASPI: collectives, groups,
+-- segments, timeouts)
+use Rattle.std.specs.Prelude.{ℕ, ◌+◌, ◌&&◌, Bool, false, not, nat_lt, List, [], ◌∷◌, length, Option, None, Some, Result, Ok, Err, if◌then◌else◌, slice_set}
+use Rattle.gaspi_types.specs.Checks.{◌>>=◌, check, found}
+use Rattle.gaspi_types.specs.Collectives.{count_checks, type_checks, same_args, resume, is_turn_full, turn_checks, turn_fold, turn_made, with_joined, with_completed}
+use Rattle.gaspi_types.specs.Groups.{is_building, handle_at, building_at, with_committed, fix_checks}
+use Rattle.gaspi_types.specs.Masks.{is_member}
+use Rattle.gaspi_types.specs.NumberTypes.{TypedNumbers}
+use Rattle.gaspi_types.specs.Replies.{same_reply}
+use Rattle.gaspi_types.specs.SegmentTables.{alloc_checks, next_generation}
+use Rattle.gaspi_types.specs.Tables.{entry_at}
+use Rattle.gaspi_types.specs.declared.calls.Call.{Call}
+use Rattle.gaspi_types.specs.declared.calls.Call.TheVariants as calls
+use Rattle.gaspi_types.specs.declared.calls.segments.Alloc as alloc
+use Rattle.gaspi_types.specs.declared.collectives.Coll.{Coll}
+use Rattle.gaspi_types.specs.declared.collectives.Coll.TheVariants.{Barrier, Allreduce, Create, Commit}
+use Rattle.gaspi_types.specs.declared.collectives.NumType.TheVariants.{Int}
+use Rattle.gaspi_types.specs.declared.groups.Args.{Args}
+use Rattle.gaspi_types.specs.declared.groups.Contribution.{Contribution}
+use Rattle.gaspi_types.specs.declared.groups.Group.{Group}
+use Rattle.gaspi_types.specs.declared.groups.Handle.{Handle}
+use Rattle.gaspi_types.specs.declared.groups.Handles.{Handles}
+use Rattle.gaspi_types.specs.declared.groups.Made.{Made}
+use Rattle.gaspi_types.specs.declared.groups.Pending.{Pending}
+use Rattle.gaspi_types.specs.declared.groups.Resume.{Resume}
+use Rattle.gaspi_types.specs.declared.groups.Resume.TheVariants.{Fresh, Same}
+use Rattle.gaspi_types.specs.declared.shapes.Limits.{Limits}
+use Rattle.gaspi_types.specs.declared.replies.Refusal.{Refusal}
+use Rattle.gaspi_types.specs.declared.replies.Refusal.TheVariants.{BadSize, NoGroup, GroupStage, NotMember, CallerEnded}
+use Rattle.gaspi_types.specs.declared.replies.Reply.{Reply}
+use Rattle.gaspi_types.specs.declared.replies.Reply.TheVariants as replies
+use Rattle.gaspi_types.specs.declared.replies.Ready.{Ready}
+use Rattle.gaspi_types.specs.declared.replies.Ready.TheVariants as ready
+use Rattle.gaspi_model.specs.SegmentCalls.{with_own, alloc_leaves, with_known}
+use Rattle.gaspi_model.specs.State.{thread_at, is_running}
+use Rattle.gaspi_model.specs.declared.states.Posts.{Posts}
+use Rattle.gaspi_model.specs.declared.states.Memory.{Memory}
+
+-- What a collective finds.
+
+-- an allreduce is refused for the count of its elements, and then for their type, whatever its group (allreduce)
+abbrev pub element_checks : Call → Result (Unit {0}) Refusal
+element_checks (calls.Allreduce call) = do
+  counted ← count_checks (length call.values.items)
+  type_checks call.values.num_type
+element_checks call = Ok tt
+
+-- a group that is committed
+abbrev pub committed_at : Handles → ℕ → Result Handle Refusal
+committed_at groups id = do
+  handle ← found (handle_at groups id) NoGroup
+  committed ← check (not (is_building handle.stage)) (GroupStage handle.stage)
+  Ok handle
+
+-- a group that is built yet and has the rank
+abbrev pub building_with : Handles → ℕ → ℕ → Result Handle Refusal
+building_with groups me id = do
+  handle ← building_at groups id
+  mine ← check (is_member handle.members me) NotMember
+  Ok handle
+
+-- the group on which a collective may be called: a commit on one that is built yet, each other on one that is committed
+abbrev pub staged_at : Handles → ℕ → ℕ → Call → Result Handle Refusal
+staged_at groups me id (calls.Commit call) = building_with groups me id
+staged_at groups me id call = committed_at groups id
+
+abbrev pub no_values : TypedNumbers
+no_values = record { num_type = Int; items = [] }
+
+abbrev pub plain_args : Coll → Args
+plain_args coll = record { coll = coll; values = no_values }
+
+-- The arguments of a collective, where its group has those members. Own choice: a segment_create whose numbers are over 32 bits
+-- has none that could be kept.
+abbrev pub args_of : ℕ → Call → Option Args
+args_of members (calls.Commit call) = Some (plain_args (Commit members))
+args_of members (calls.Barrier call) = Some (plain_args Barrier)
+args_of members (calls.Allreduce call) = Some (record { coll = Allreduce call.op call.values.num_type (length call.values.items); values = call.values })
+args_of members (calls.Create call) =
+    if nat_lt call.seg 4294967296 && nat_lt call.size 4294967296 then Some (plain_args (Create call.seg call.size)) else None
+args_of members call = None
+
+-- what a collective that makes a segment is refused for where it is not pending (segment_create)
+abbrev pub segment_checks : Posts → Call → Result (Unit {0}) Refusal
+segment_checks posts (calls.Create call) = alloc_checks posts.segments.own call.seg call.size
+segment_checks posts call = Ok tt
+
+-- what a collective is refused for by what other ranks have brought to the group: a commit by the list that is fixed, each other by
+-- the turn
+abbrev pub meeting_checks : Group → ℕ → Coll → Result (Unit {0}) Refusal
+meeting_checks group me (Commit mask) = fix_checks group.members mask
+meeting_checks group me coll = turn_checks group me coll
+
+-- one that is not pending may join
+abbrev pub fresh_finds : Posts → Group → ℕ → ℕ → Call → Result Ready Refusal
+fresh_finds posts group me members call = do
+  free ← segment_checks posts call
+  args ← found (args_of members call) BadSize
+  meets ← meeting_checks group me args.coll
+  Ok (ready.Join args)
+
+-- what it answers whose turn is full (allreduce: the numbers of all members)
+abbrev pub full_reply : Group → ℕ → Call → Reply
+full_reply group me (calls.Allreduce call) = replies.List (turn_fold group me call.op call.values.num_type)
+full_reply group me call = replies.Done
+
+-- one that is pending for its caller is ready where its turn is full
+abbrev pub resumed_finds : Group → ℕ → Call → Ready
+resumed_finds group me call = if is_turn_full group me then ready.Reply (full_reply group me call) else ready.NotReady
+
+abbrev pub met_finds : Resume → Posts → Group → ℕ → ℕ → Call → Result Ready Refusal
+met_finds Fresh posts group me members call = fresh_finds posts group me members call
+met_finds Same posts group me members call = Ok (resumed_finds group me call)
+
+abbrev pub collective_finds : Posts → Group → ℕ → ℕ → ℕ → Call → Result Ready Refusal
+collective_finds posts group me thread id call = do
+  elements ← element_checks call
+  handle ← staged_at posts.groups me id call
+  resumed ← resume (entry_at posts.pending id) thread (args_of handle.members call)
+  met_finds resumed posts group me handle.members call
+
+abbrev pub collective_ready : Result Ready Refusal → Ready
+collective_ready (Ok found) = found
+collective_ready (Err refusal) = ready.Reply (replies.Refused refusal)
+
+-- what a look at a collective answers: that the caller has ended comes before everything else
+abbrev pub collective_answer : Posts → Group → ℕ → ℕ → ℕ → Call → Ready
+collective_answer posts group me thread id call =
+    if is_running (thread_at posts thread)
+    then collective_ready (collective_finds posts group me thread id call)
+    else ready.Reply (replies.Refused CallerEnded)
+
+-- whether a reply is the one with which a collective may be recorded that was looked at: one that has not joined has none
+abbrev pub is_reply_of : Ready → Reply → Bool
+is_reply_of (ready.Reply found) reply = same_reply reply found
+is_reply_of (ready.Join args) reply = false
+is_reply_of ready.NotReady reply = same_reply reply replies.Timeout
+
+-- whether it may join with those arguments
+abbrev pub is_join_of : Ready → Args → Bool
+is_join_of (ready.Reply found) args = false
+is_join_of (ready.Join may) args = same_args may args
+is_join_of ready.NotReady args = false
+
+-- the collective that joins with those arguments
+abbrev pub joining_call : ℕ → Args → Call
+joining_call id args = of_coll args.coll
+  where
+    of_coll : Coll → Call
+    of_coll Barrier = calls.Barrier (record { group = id })
+    of_coll (Allreduce op num_type count) = calls.Allreduce (record { group = id; op = op; values = args.values })
+    of_coll (Create seg size) = calls.Create (record { seg = seg; size = size; group = id })
+    of_coll (Commit mask) = calls.Commit (record { group = id })
+
+-- What a join leaves.
+
+-- the generation of the segment that a collective makes as it joins (own choice)
+abbrev pub made_generation : Posts → Coll → ℕ
+made_generation posts (Create seg size) = next_generation posts.segments.next_generations seg
+made_generation posts coll = 0
+
+abbrev pub contribution_of : Posts → Args → Contribution
+contribution_of posts args = record { args = args; generation = made_generation posts args.coll }
+
+-- it makes its segment (segment_create)
+abbrev pub made_posts : Posts → Coll → Posts
+made_posts posts (Create seg size) = with_own posts seg size
+made_posts posts coll = posts
+
+abbrev pub made_memory : Limits → Posts → Memory → Coll → Memory
+made_memory limits posts memory (Create seg size) = alloc_leaves limits posts memory (record { seg = seg; size = size })
+made_memory limits posts memory coll = memory
+
+-- and is pending for its caller
+abbrev pub with_pending : ℕ → Option Pending → Posts → Posts
+with_pending id pending posts = record posts { pending = slice_set posts.pending id pending }
+
+abbrev pub joined_posts : Posts → ℕ → ℕ → Args → Posts
+joined_posts posts thread id args = with_pending id (Some (record { thread = thread; args = args })) (made_posts posts args.coll)
+
+-- What a completion leaves.
+
+-- the segments of members known, in the generations in which they were made (segment_create)
+abbrev pub with_made_known : ℕ → ℕ → List Made → Posts → Posts
+with_made_known seg size [] posts = posts
+with_made_known seg size (m ∷ made) posts =
+    with_made_known seg size made (with_known m.rank seg (Some (record { generation = m.generation; size = size })) posts)
+
+-- a commit marks the group committed, and a segment_create makes the segments of all members known
+abbrev pub told_posts : Group → ℕ → ℕ → Call → Posts → Posts
+told_posts group me id (calls.Commit call) posts = record posts { groups = with_committed posts.groups id }
+told_posts group me id (calls.Create call) posts = with_made_known call.seg call.size (turn_made group me) posts
+told_posts group me id call posts = posts
+
+-- and none is pending
+abbrev pub completed_posts : Posts → Group → ℕ → ℕ → Call → Posts
+completed_posts posts group me id call = with_pending id None (told_posts group me id call posts)

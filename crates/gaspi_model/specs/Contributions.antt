@@ -1,0 +1,75 @@
+-- What ranks have given to groups, and what is pending of it, in the states of legal histories. (GASPI: collectives, groups, segments)
+use Rattle.std.specs.Prelude.{◌≡◌, ℕ, ◌+◌, ◌≤◌, true, length, List, slice_get, Option, None, Some}
+use Rattle.gaspi_types.specs.Collectives.{part_of, given_in}
+use Rattle.gaspi_types.specs.Groups.{handle_at}
+use Rattle.gaspi_types.specs.Masks.{is_member}
+use Rattle.gaspi_types.specs.SegmentTables.{extent_in}
+use Rattle.gaspi_types.specs.Tables.{entry_at}
+use Rattle.gaspi_types.specs.declared.collectives.Coll.{Coll}
+use Rattle.gaspi_types.specs.declared.collectives.Coll.TheVariants.{Barrier, Allreduce, Create, Commit}
+use Rattle.gaspi_types.specs.declared.collectives.NumType.{NumType}
+use Rattle.gaspi_types.specs.declared.collectives.Stage.TheVariants.{Committed}
+use Rattle.gaspi_types.specs.declared.groups.Args.{Args}
+use Rattle.gaspi_types.specs.declared.groups.Contribution.{Contribution}
+use Rattle.gaspi_types.specs.declared.groups.Group.{Group}
+use Rattle.gaspi_types.specs.declared.groups.Handle.{Handle}
+use Rattle.gaspi_types.specs.declared.groups.Part.{Part}
+use Rattle.gaspi_types.specs.declared.groups.Pending.{Pending}
+use Rattle.gaspi_types.specs.declared.segments.Extent.{Extent}
+use Rattle.gaspi_model.specs.Coherence.{Tables, WasMade, tables_of}
+use Rattle.gaspi_model.specs.declared.states.Posts.{Posts}
+use Rattle.gaspi_model.specs.declared.states.State.{State}
+
+-- how many collectives of a rank are pending on a group
+abbrev pub waits : Option Pending → ℕ
+waits None = 0
+waits (Some p) = 1
+
+-- an allreduce has as many values as it says, of its type
+abbrev pub AreWholeFor : Coll → Args → Type 0
+AreWholeFor (Allreduce op num_type count) args = (args.values.num_type ≡ num_type) × (length args.values.items ≡ count)
+AreWholeFor Barrier args = Unit {0}
+AreWholeFor (Create seg size) args = Unit {0}
+AreWholeFor (Commit mask) args = Unit {0}
+
+abbrev pub AreWhole : Args → Type 0
+AreWhole args = AreWholeFor args.coll args
+
+-- a rank is one of members that are fixed
+pub record IsOneOf (members : Option ℕ) (rank : ℕ) : Type 0 where
+  pub mask : ℕ
+  pub fixed : members ≡ Some mask
+  pub member : is_member mask rank ≡ true
+
+-- A rank has given to one turn more than it has completed where a collective of it is pending on the group, which is the one that it
+-- has given last, and else to as many; and it has completed no more turns than it has recorded events.
+pub record IsSoundPart (events : ℕ) (pending : Option Pending) (part : Part) : Type 0 where
+  pub count : length part.contributions ≡ part.completed + waits pending
+  pub last : (p : Pending) → pending ≡ Some p → (c : Contribution) × (slice_get part.contributions part.completed ≡ Some c) × (c.args ≡ p.args)
+  pub few : part.completed ≤ events
+
+-- What is given to one turn agrees in all but values and generation; who gives is a member; and a commit has the list of ranks that
+-- is fixed.
+pub record IsSoundGroup (ranks : ℕ) (g : Group) : Type 0 where
+  pub parts : length g.parts ≡ ranks
+  pub agree : (turn rank other : ℕ) (c d : Contribution) → given_in g turn rank ≡ Some c → given_in g turn other ≡ Some d → c.args.coll ≡ d.args.coll
+  pub whole : (turn rank : ℕ) (c : Contribution) → given_in g turn rank ≡ Some c → AreWhole c.args
+  pub members : (turn rank : ℕ) (c : Contribution) → given_in g turn rank ≡ Some c → IsOneOf g.members rank
+  pub commits : (turn rank : ℕ) (c : Contribution) (mask : ℕ) → given_in g turn rank ≡ Some c → c.args.coll ≡ Commit mask → g.members ≡ Some mask
+
+-- a segment of that number and generation was made, and has that size where it is there
+abbrev pub WasMadeSo : Tables → ℕ → ℕ → ℕ → Type 0
+WasMadeSo tables segment generation size =
+    WasMade tables segment generation × ((x : Extent) → extent_in tables.own segment ≡ Some x → x.generation ≡ generation → x.size ≡ size)
+
+-- There are eight groups. Of a group that a rank has committed the same ranks are members in the whole world, and that rank is one.
+-- And each segment that a rank has given to a turn was made.
+pub record AreSoundCollectives (s : State) : Type 0 where
+  pub eight : length s.groups ≡ 8
+  pub groups : (id : ℕ) (g : Group) → slice_get s.groups id ≡ Some g → IsSoundGroup s.limits.ranks g
+  pub parts : (id : ℕ) (g : Group) (rank : ℕ) (posts : Posts) → slice_get s.groups id ≡ Some g → slice_get s.posts rank ≡ Some posts
+      → IsSoundPart posts.events (entry_at posts.pending id) (part_of g rank)
+  pub committed : (id : ℕ) (g : Group) (rank : ℕ) (posts : Posts) (h : Handle) → slice_get s.groups id ≡ Some g → slice_get s.posts rank ≡ Some posts
+      → handle_at posts.groups id ≡ Some h → h.stage ≡ Committed → (g.members ≡ Some h.members) × (is_member h.members rank ≡ true)
+  pub made : (id : ℕ) (g : Group) (rank : ℕ) (posts : Posts) → slice_get s.groups id ≡ Some g → slice_get s.posts rank ≡ Some posts
+      → (turn : ℕ) (c : Contribution) (seg size : ℕ) → given_in g turn rank ≡ Some c → c.args.coll ≡ Create seg size → WasMadeSo (tables_of posts) seg c.generation size
