@@ -1,8 +1,8 @@
 -- Collectives: what ranks give to the turns of a group, when a turn is full, and what it comes to. Most words speak of one turn by
 -- what each rank has given to it, so that they serve lists of turns that only grow and buffers alike. (GASPI: collectives)
-use Rattle.std.specs.Prelude.{ℕ, ◌+◌, ℤ, pos, ◌+ℤ◌, Bool, true, false, not, ◌==◌, ◌&&◌, nat_eq, List, [], ◌∷◌, ◌++◌, map, filter, Option, None, Some, is_some, Result, Ok, slice_get}
+use Rattle.std.specs.Prelude.{ℕ, ◌+◌, ◌^◌, ℤ, pos, ◌+ℤ◌, Bool, true, false, not, ◌==◌, ◌&&◌, nat_eq, List, [], ◌∷◌, ◌++◌, map, filter, Option, None, Some, is_some, Result, Ok, slice_get}
 use Rattle.std.specs.Cmp.Lexicographic.{pointwise}
-use Rattle.std.specs.Int.{int_min, int_max, int_wrap, cast_unsigned, w32, w64}
+use Rattle.std.specs.Int.{int_min, int_max, int_wrap, int_rem_euclid, w32, w64}
 use Rattle.std.specs.List.{list_all, range_with_len}
 use Rattle.gaspi_types.specs.Checks.{◌>>=◌, check}
 use Rattle.gaspi_types.specs.Masks.{is_member}
@@ -32,9 +32,9 @@ use Rattle.gaspi_types.specs.declared.replies.Refusal.TheVariants.{ActiveCollect
 -- what is left of a number in the bits of a type; that of FLOAT and DOUBLE is as of LONG
 abbrev pub wrapped : NumType → ℤ → ℤ
 wrapped Int z = int_wrap w32 z
-wrapped Uint z = pos (cast_unsigned w32 z)
+wrapped Uint z = int_rem_euclid z (pos (2 ^ 32))
 wrapped Long z = int_wrap w64 z
-wrapped Ulong z = pos (cast_unsigned w64 z)
+wrapped Ulong z = int_rem_euclid z (pos (2 ^ 64))
 wrapped Float z = int_wrap w64 z
 wrapped Double z = int_wrap w64 z
 
