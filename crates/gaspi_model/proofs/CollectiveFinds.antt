@@ -1,8 +1,8 @@
 -- What a collective that is done, and one that may join, has found.
-use Rattle.std.proofs.Common.{◌≡◌, ℕ, Bool, true, false, ◌==◌, List, Option, None, Some, Result, Ok, Err, refl, sym, ap, ◌∙◌, subst, if◌then◌else◌}
+use Rattle.std.proofs.Common.{◌≡◌, ℕ, Bool, true, false, ◌==◌, Option, None, Some, Result, Ok, Err, refl, sym, ap, ◌∙◌, subst, if◌then◌else◌}
 use Rattle.std.proofs.lemmas.Bool.{eqb-true}
 use Rattle.gaspi_types.specs.Collectives.{resume, asks_same, is_turn_full}
-use Rattle.gaspi_types.specs.Replies.{is_idle, same_reply}
+use Rattle.gaspi_types.specs.Replies.{is_idle}
 use Rattle.gaspi_types.specs.Tables.{entry_at}
 use Rattle.gaspi_types.specs.declared.calls.Call.{Call}
 use Rattle.gaspi_types.specs.declared.groups.Args.{Args}
@@ -17,7 +17,7 @@ use Rattle.gaspi_types.specs.declared.replies.Refusal.{Refusal}
 use Rattle.gaspi_types.specs.declared.replies.Refusal.TheVariants.{ActiveCollective, ResumeOther, BadSize, CallerEnded}
 use Rattle.gaspi_types.specs.declared.replies.Reply.{Reply}
 use Rattle.gaspi_types.specs.declared.replies.Reply.TheVariants as replies
-use Rattle.gaspi_model.specs.CollectiveCalls.{element_checks, staged_at, args_of, segment_checks, meeting_checks, fresh_finds, full_reply, resumed_finds, met_finds, collective_finds, collective_ready, collective_answer, is_reply_of, is_join_of}
+use Rattle.gaspi_model.specs.CollectiveCalls.{element_checks, staged_at, args_of, segment_checks, meeting_checks, full_reply, met_finds, collective_finds, collective_ready, collective_answer, is_reply_of, is_join_of}
 use Rattle.gaspi_model.specs.State.{thread_at, is_running}
 use Rattle.gaspi_model.specs.declared.states.Posts.{Posts}
 use Rattle.gaspi_types.proofs.Chains.{bind_then, check_then, found_then, same_Ok}

@@ -14,13 +14,13 @@ use Rattle.gaspi_types.specs.declared.replies.Reply.{Reply}
 use Rattle.gaspi_types.specs.declared.shapes.CallerId.{CallerId}
 use Rattle.gaspi_types.specs.declared.shapes.Limits.{Limits}
 use Rattle.gaspi_types.specs.declared.touches.Reach.{Reach}
-use Rattle.gaspi_types.specs.declared.touches.Reach.TheVariants.{Alone, OwnMemory, PeerMemory, BothMemories, PeerPosts, Group, GroupAndMemory}
+use Rattle.gaspi_types.specs.declared.touches.Reach.TheVariants.{Alone, Group, GroupAndMemory}
 use Rattle.gaspi_types.specs.declared.touches.Touch.{Touch}
 use Rattle.gaspi_types.specs.declared.touches.Touch.TheVariants as touches
 use Rattle.gaspi_types.specs.Replies.{is_idle}
 use Rattle.gaspi_types.specs.Collectives.{with_joined, with_completed}
 use Rattle.gaspi_model.specs.CollectiveCalls.{collective_answer, is_reply_of, is_join_of, joining_call, joined_posts, made_memory, contribution_of, completed_posts}
-use Rattle.gaspi_model.specs.Parts.{no_group, group_or_none, part_at, with_part, parts_of, with_parts, touched_of, worked_memory, with_worked_memory}
+use Rattle.gaspi_model.specs.Parts.{group_or_none, parts_of, with_parts, touched_of, worked_memory, with_worked_memory}
 use Rattle.gaspi_model.specs.Posting.{counted}
 use Rattle.gaspi_model.specs.State.{owed, thread_at}
 use Rattle.gaspi_model.specs.Step.{step, Met, completed, joined, completed_on, join_touch, group_in, is_there, on_parts}
@@ -30,7 +30,7 @@ use Rattle.gaspi_model.specs.declared.states.State.{State}
 use Rattle.gaspi_model.specs.declared.states.Why.TheVariants as whys
 use Rattle.gaspi_types.proofs.Chains.{bind_then, check_then, found_then, same_Ok}
 use Rattle.gaspi_types.proofs.Items.{set-there}
-use Rattle.gaspi_model.proofs.Made.{memory_at, memories_at, worked-at, memories-same, part-same}
+use Rattle.gaspi_model.proofs.Made.{memory_at, memories_at, worked-at, part-same}
 
 -- a collective that was answered
 pub record IsCompleted (limits : Limits) (me : ℕ) (posts : Posts) (group : groups.Group) (thread id : ℕ) (call : Call) (reply : Reply) (after : Met) : Type 0 where

@@ -1,28 +1,12 @@
 -- Histories, one event after another.
-use Rattle.std.proofs.Common.{◌≡◌, true, List, [], ◌∷◌, ◌++◌, Result, Ok, Err, refl, sym, ap, ◌∙◌, is_ok, ℕ, Option, None, Some}
-use Rattle.std.specs.List.{slice_set}
-use Rattle.gaspi_types.specs.Replies.{is_idle}
+use Rattle.std.proofs.Common.{◌≡◌, true, List, [], ◌∷◌, ◌++◌, Result, Ok, Err, refl, sym, ap, ◌∙◌, is_ok}
 use Rattle.gaspi_types.specs.World.{World, IsWorld}
-use Rattle.gaspi_types.specs.declared.shapes.CallerId.{CallerId}
-use Rattle.gaspi_types.specs.declared.calls.Call.{Call}
-use Rattle.gaspi_types.specs.declared.replies.Reply.{Reply}
 use Rattle.gaspi_types.specs.declared.events.Event.{Event}
-use Rattle.gaspi_types.specs.declared.events.Event.TheVariants.{Called}
 use Rattle.gaspi_model.specs.State.{opening}
-use Rattle.gaspi_model.specs.Posting.{counted}
 use Rattle.gaspi_model.specs.Step.{step, after, reached, is_legal}
 use Rattle.gaspi_model.specs.Sound.{IsSound}
-use Rattle.gaspi_model.specs.Changes.{IsOnlyCounted}
-use Rattle.gaspi_model.specs.declared.states.Posts.{Posts}
-use Rattle.gaspi_model.specs.declared.states.Memory.{Memory}
 use Rattle.gaspi_model.specs.declared.states.State.{State}
 use Rattle.gaspi_model.specs.declared.states.Why.{Why}
-use Rattle.gaspi_types.specs.CallRows.{row_of}
-use Rattle.gaspi_types.specs.declared.groups.Group.{Group}
-use Rattle.gaspi_model.specs.Step.{group_in}
-use Rattle.gaspi_model.proofs.GroupSteps.{with_group_at, group-same, step-completed}
-use Rattle.gaspi_model.proofs.Made.{memories_at, call_reach, memories-same, step-called}
-use Rattle.gaspi_model.proofs.Sound.Told.{told-idle}
 use Rattle.gaspi_model.proofs.Sound.Opening.{opens}
 use Rattle.gaspi_model.proofs.Sound.Steps.{steps, limits-stay}
 

@@ -1,22 +1,17 @@
 -- Events that change nothing but the count of events.
-use Rattle.std.proofs.Common.{◌≡◌, true, List, [], ◌∷◌, ◌++◌, Result, Ok, Err, refl, sym, ap, ◌∙◌, is_ok, ℕ, Option, None, Some}
+use Rattle.std.proofs.Common.{◌≡◌, true, List, Ok, refl, ap, ◌∙◌, ℕ, Option, None, Some}
 use Rattle.std.specs.List.{slice_set}
 use Rattle.gaspi_types.specs.Replies.{is_idle}
-use Rattle.gaspi_types.specs.World.{World, IsWorld}
 use Rattle.gaspi_types.specs.declared.shapes.CallerId.{CallerId}
 use Rattle.gaspi_types.specs.declared.calls.Call.{Call}
 use Rattle.gaspi_types.specs.declared.replies.Reply.{Reply}
-use Rattle.gaspi_types.specs.declared.events.Event.{Event}
 use Rattle.gaspi_types.specs.declared.events.Event.TheVariants.{Called}
-use Rattle.gaspi_model.specs.State.{opening}
 use Rattle.gaspi_model.specs.Posting.{counted}
-use Rattle.gaspi_model.specs.Step.{step, after, reached, is_legal}
-use Rattle.gaspi_model.specs.Sound.{IsSound}
+use Rattle.gaspi_model.specs.Step.{step}
 use Rattle.gaspi_model.specs.Changes.{IsOnlyCounted}
 use Rattle.gaspi_model.specs.declared.states.Posts.{Posts}
 use Rattle.gaspi_model.specs.declared.states.Memory.{Memory}
 use Rattle.gaspi_model.specs.declared.states.State.{State}
-use Rattle.gaspi_model.specs.declared.states.Why.{Why}
 use Rattle.gaspi_types.specs.CallRows.{row_of}
 use Rattle.gaspi_types.specs.declared.groups.Group.{Group}
 use Rattle.gaspi_model.specs.Step.{group_in}

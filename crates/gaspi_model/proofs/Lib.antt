@@ -3,6 +3,7 @@ pub mod FoundEntries
 pub mod Made
 pub mod Same
 pub mod GroupSteps
+pub mod GroupEffects
 pub mod CollectiveFinds
 pub mod MetPosts
 pub mod FoundReplies

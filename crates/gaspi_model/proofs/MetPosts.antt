@@ -1,5 +1,5 @@
 -- What an event on a group leaves of its owner's posts, and that it leaves all else of the ranks.
-use Rattle.std.proofs.Common.{◌≡◌, ℕ, ◌+◌, Bool, true, false, List, [], ◌∷◌, Option, None, Some, Ok, refl, sym, ap, ◌∙◌, subst, if◌then◌else◌}
+use Rattle.std.proofs.Common.{◌≡◌, ℕ, ◌+◌, Bool, true, false, List, [], ◌∷◌, Option, Some, Ok, refl, ap, if◌then◌else◌}
 use Rattle.std.specs.List.{slice_get, slice_set}
 use Rattle.gaspi_types.specs.CallRows.{row_of}
 use Rattle.gaspi_types.specs.Replies.{is_idle}
@@ -14,9 +14,9 @@ use Rattle.gaspi_types.specs.declared.groups.Made.{Made}
 use Rattle.gaspi_types.specs.declared.replies.Reply.{Reply}
 use Rattle.gaspi_types.specs.declared.segments.Extent.{Extent}
 use Rattle.gaspi_types.specs.declared.shapes.CallerId.{CallerId}
-use Rattle.gaspi_model.specs.CollectiveCalls.{with_made_known, told_posts, completed_posts, joined_posts, made_memory}
+use Rattle.gaspi_model.specs.CollectiveCalls.{with_made_known, told_posts, completed_posts, joined_posts}
 use Rattle.gaspi_model.specs.Posting.{counted}
-use Rattle.gaspi_model.specs.Step.{step, Met, group_in}
+use Rattle.gaspi_model.specs.Step.{step, group_in}
 use Rattle.gaspi_model.specs.declared.states.Posts.{Posts}
 use Rattle.gaspi_model.specs.declared.states.State.{State}
 use Rattle.gaspi_model.proofs.GroupSteps.{step-completed, step-joined}

@@ -3,3 +3,4 @@ pub mod Groups
 pub mod Messages
 pub mod Notifications
 pub mod Posts
+pub mod Collectives

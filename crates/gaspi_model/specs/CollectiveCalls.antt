@@ -1,9 +1,9 @@
 -- The collective calls: whether one may join its group, is not ready, or what it answers; and what a join and a completion leave. A
 -- call of a rank `me` on a group with the number `id` reads that rank's posts and that group. (GASPI: collectives, groups,
 -- segments, timeouts)
-use Rattle.std.specs.Prelude.{ℕ, ◌+◌, ◌&&◌, Bool, true, false, not, nat_lt, List, [], ◌∷◌, length, Option, None, Some, Result, Ok, Err, if◌then◌else◌, slice_set}
+use Rattle.std.specs.Prelude.{ℕ, ◌&&◌, Bool, true, false, not, nat_lt, List, [], ◌∷◌, length, Option, None, Some, Result, Ok, Err, if◌then◌else◌, slice_set}
 use Rattle.gaspi_types.specs.Checks.{◌>>=◌, check, found}
-use Rattle.gaspi_types.specs.Collectives.{count_checks, type_checks, same_args, resume, is_turn_full, turn_checks, turn_fold, turn_made, with_joined, with_completed}
+use Rattle.gaspi_types.specs.Collectives.{count_checks, type_checks, same_args, resume, is_turn_full, turn_checks, turn_fold, turn_made}
 use Rattle.gaspi_types.specs.Groups.{is_building, handle_at, building_at, with_committed, fix_checks}
 use Rattle.gaspi_types.specs.Masks.{is_member}
 use Rattle.gaspi_types.specs.NumberTypes.{TypedNumbers}
@@ -12,7 +12,6 @@ use Rattle.gaspi_types.specs.SegmentTables.{alloc_checks, next_generation}
 use Rattle.gaspi_types.specs.Tables.{entry_at}
 use Rattle.gaspi_types.specs.declared.calls.Call.{Call}
 use Rattle.gaspi_types.specs.declared.calls.Call.TheVariants as calls
-use Rattle.gaspi_types.specs.declared.calls.segments.Alloc as alloc
 use Rattle.gaspi_types.specs.declared.collectives.Coll.{Coll}
 use Rattle.gaspi_types.specs.declared.collectives.Coll.TheVariants.{Barrier, Allreduce, Create, Commit}
 use Rattle.gaspi_types.specs.declared.collectives.NumType.TheVariants.{Int}

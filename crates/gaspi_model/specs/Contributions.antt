@@ -1,5 +1,5 @@
 -- What ranks have given to groups, and what is pending of it, in the states of legal histories. (GASPI: collectives, groups, segments)
-use Rattle.std.specs.Prelude.{◌≡◌, ℕ, ◌+◌, ◌<◌, ◌≤◌, true, length, List, slice_get, Option, None, Some}
+use Rattle.std.specs.Prelude.{◌≡◌, ℕ, ◌+◌, ◌<◌, ◌≤◌, true, length, slice_get, Option, None, Some}
 use Rattle.gaspi_types.specs.Collectives.{part_of, given_in}
 use Rattle.gaspi_types.specs.Groups.{handle_at}
 use Rattle.gaspi_types.specs.Masks.{is_member}
@@ -7,7 +7,6 @@ use Rattle.gaspi_types.specs.SegmentTables.{extent_in}
 use Rattle.gaspi_types.specs.Tables.{entry_at}
 use Rattle.gaspi_types.specs.declared.collectives.Coll.{Coll}
 use Rattle.gaspi_types.specs.declared.collectives.Coll.TheVariants.{Barrier, Allreduce, Create, Commit}
-use Rattle.gaspi_types.specs.declared.collectives.NumType.{NumType}
 use Rattle.gaspi_types.specs.declared.collectives.Stage.TheVariants.{Building, Committed}
 use Rattle.gaspi_types.specs.declared.groups.Args.{Args}
 use Rattle.gaspi_types.specs.declared.groups.Contribution.{Contribution}

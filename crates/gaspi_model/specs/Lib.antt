@@ -23,3 +23,4 @@ pub mod Messages
 pub mod RankGroups
 pub mod Order
 pub mod Settled
+pub mod Turns

@@ -4,7 +4,7 @@ ghost use Rattle.std.specs.Prelude.{◌==◌, ◌≡◌, ◌≢◌, ℕ, ◌+◌
 ghost use Rattle.byteorder.specs.Endian.{little_bytes};
 ghost use Rattle.gaspi_types.specs.CallRows.{need_of, row_of};
 ghost use Rattle.gaspi_types.specs.declared.call_rows.Posting.{Posting};
-ghost use Rattle.gaspi_types.specs.Groups.{handle_of_all};
+ghost use Rattle.gaspi_types.specs.Groups.{handle_of_all, with_committed};
 ghost use Rattle.gaspi_types.specs.declared.collectives.Stage.TheVariants.{Committed};
 ghost use Rattle.gaspi_types.specs.declared.groups.Handle.{Handle};
 ghost use Rattle.gaspi_types.specs.Replies.{is_idle, same_reply};
@@ -44,7 +44,17 @@ ghost use Rattle.gaspi_types.specs.declared.calls.groups.GroupDelete as group_de
 ghost use Rattle.gaspi_types.specs.declared.events.Event.{Event};
 ghost use Rattle.gaspi_types.specs.declared.events.Event.TheVariants.{Called, Joined, Take, Put};
 ghost use Rattle.gaspi_types.specs.declared.groups.Args.{Args};
+ghost use Rattle.gaspi_types.specs.declared.calls.collectives.Allreduce as allreduce;
+ghost use Rattle.gaspi_types.specs.declared.calls.collectives.Barrier as barrier;
+ghost use Rattle.gaspi_types.specs.declared.calls.collectives.Commit as commit;
 ghost use Rattle.gaspi_types.specs.declared.calls.collectives.Create as create;
+ghost use Rattle.gaspi_types.specs.declared.groups.Contribution.{Contribution};
+ghost use Rattle.gaspi_types.specs.declared.groups.Group.{Group};
+ghost use Rattle.gaspi_types.specs.Collectives.{given_in, turn_of, turn_made};
+ghost use Rattle.gaspi_types.specs.NumberTypes.{TypedNumbers};
+ghost use Rattle.gaspi_types.specs.Tables.{entry_at};
+ghost use Rattle.gaspi_model.specs.Contributions.{IsOneOf, waits};
+ghost use Rattle.gaspi_model.specs.Turns.{Grows, IsCompletionDone, IsFolded, IsJoinDone, completions_on, joins_on};
 ghost use Rattle.gaspi_types.specs.declared.events.Outcome.TheVariants.{Applied, Failed};
 ghost use Rattle.gaspi_types.specs.declared.events.Outcome.{Outcome};
 ghost use Rattle.gaspi_types.specs.declared.events.Transfer.{Transfer};
@@ -64,7 +74,7 @@ ghost use Rattle.gaspi_model.specs.declared.states.Shard.TheVariants as shards;
 ghost use Rattle.gaspi_model.specs.Settled.{AreLanesEmpty, IsSettled};
 ghost use Rattle.gaspi_model.specs.State.{opening};
 ghost use Rattle.gaspi_model.specs.Step.{step, owner_of, after, reached, own_calls, is_legal, ends_caller, answer_in, is_active, is_pending, room_taken, transfer_event};
-ghost use Rattle.gaspi_model.specs.CollectiveCalls.{is_joining, joining_call};
+ghost use Rattle.gaspi_model.specs.CollectiveCalls.{is_joining, joining_call, with_made_known};
 ghost use Rattle.gaspi_types.specs.declared.replies.Ready.TheVariants.{Join};
 ghost use Rattle.gaspi_model.specs.Sound.{IsSound, events_left};
 ghost use Rattle.gaspi_model.specs.Transfers.{transfers, is_earlier};
@@ -81,7 +91,9 @@ ghost use Rattle.gaspi_model.specs.declared.states.State.{State};
 /// and sizes in a rank's table of segments are those in its memory; the own segment of a posted write, and of a posted or
 /// carried read or notification of a read, is there in its generation; and the ranges of entries lie within their segments.
 /// Group 0 of a rank is committed and has every rank; its other groups have the first numbers from 1 on, up to 7, and ranks
-/// of the world alone; and an inbox has at most INBOX messages, each from a rank of the world and of 1 to 4,096 bytes.
+/// of the world alone; and an inbox has at most INBOX messages, each from a rank of the world and of 1 to 4,096 bytes. A rank has
+/// given to one turn of a group more than it has completed where a collective of it is pending there, which is the one that it has
+/// given last, and else to as many; what is given to one turn agrees in all but values and generation, and its givers are members.
 pub fn soundness()
     ensures opens { (w : World) → IsWorld w → IsSound (opening w) }
     ensures steps { (s t : State) (e : Event) → IsSound s → step s e ≡ Ok t → IsSound t }
@@ -132,10 +144,13 @@ pub fn enabled()
 /// changes exactly its range, and an atomic, which answers what stood there, exactly its word, a `compare_swap` only where it
 /// answers the comparator. A post that is done appends exactly the entries that it asks for, as many as its row says, to the
 /// lane of its queue and of the rank that it names, posted, with numbers one after another from its rank's next number on, and
-/// the queue, which is not broken, has room for them. A send puts one message, of the caller's rank and with the bytes of its range, at the end of the
-/// inbox of the rank that it names, which may be its own; a receive takes the first message of its rank's inbox, writes its
-/// bytes, no more, into its range, and answers who sent it. A group that is made has the next number of its rank, is built yet
-/// and empty; one rank is added to a group that is built yet; and a group that is dropped, not group 0, is gone. A refusal or a
+/// the queue, which is not broken, has room for them. A send puts one message, of the caller's rank and with the bytes of its
+/// range, at the end of the inbox of the rank that it names, which may be its own; a receive takes the first message of its
+/// rank's inbox, writes its bytes, no more, into its range, and answers who sent it. A group that is made has the next number of its rank, is built yet
+/// and empty; one rank is added to a group that is built yet; and a group that is dropped, not group 0, is gone. A join
+/// gives one contribution to its rank's turn, makes the segment of a segment_create, and is pending; a collective that is done was
+/// pending for its caller, every member has given to its turn, and it is pending no more: a commit marks its group committed, a
+/// segment_create makes the segments of all members known, and an allreduce answers the fold of what the members have given. A refusal or a
 /// timeout changes nothing; and in each case nothing else has changed but the count of events. (GASPI: one-sided
 /// communication, notifications, state vector, segments, atomics, passive communication, groups, timeouts)
 pub fn changes()
@@ -193,6 +208,17 @@ pub fn changes()
         → IsGroupAdded s t c.rank call.group call.rank }
     ensures group_dropped { (s t : State) (c : CallerId) (call : group_delete.GroupDelete) → IsSound s → step s (Called c (GroupDelete call) replies.Done) ≡ Ok t
         → IsGroupDropped s t c.rank call.group }
+    ensures joined { (s t : State) (c : CallerId) (id : ℕ) (args : Args) → IsSound s → step s (Joined c id args) ≡ Ok t → IsJoinDone s t c id args }
+    ensures committed { (s t : State) (c : CallerId) (call : commit.Commit) → IsSound s → step s (Called c (calls.Commit call) replies.Done) ≡ Ok t
+        → IsCompletionDone s t c call.group (λ g posts. record posts { groups = with_committed posts.groups call.group }) }
+    ensures barrier { (s t : State) (c : CallerId) (call : barrier.Barrier) → IsSound s → step s (Called c (calls.Barrier call) replies.Done) ≡ Ok t
+        → IsCompletionDone s t c call.group (λ g posts. posts) }
+    ensures created { (s t : State) (c : CallerId) (call : create.Create) → IsSound s → step s (Called c (calls.Create call) replies.Done) ≡ Ok t
+        → IsCompletionDone s t c call.group (λ g posts. with_made_known call.seg call.size (turn_made g c.rank) posts) }
+    ensures reduced { (s t : State) (c : CallerId) (call : allreduce.Allreduce) (answer : TypedNumbers) → IsSound s
+        → step s (Called c (calls.Allreduce call) (replies.List answer)) ≡ Ok t → IsCompletionDone s t c call.group (λ g posts. posts) }
+    ensures folded { (s t : State) (c : CallerId) (call : allreduce.Allreduce) (answer : TypedNumbers) → IsSound s
+        → step s (Called c (calls.Allreduce call) (replies.List answer)) ≡ Ok t → IsFolded s c call answer }
 {}
 
 /// A rank that is once corrupt in the state vector of a rank stays so. (GASPI: state vector)
@@ -369,4 +395,24 @@ pub fn endings()
 pub fn replies()
     ensures same { (a b : Reply) → same_reply a b ≡ true → a ≡ b }
     ensures itself { (a : Reply) → same_reply a a ≡ true }
+{}
+
+/// Collectives over legal histories. A rank has joined a group once for each collective that it has completed there, and once
+/// more where one is pending: no contribution counts twice. What is given to one turn agrees in all but values and generation, and
+/// stays given. Two members that complete the same turn of an allreduce get the same list, which is (as `changes` says) the fold of
+/// what exactly the members have given to that turn. A barrier that is done was joined by each member more often than its caller had
+/// completed collectives of the group before. (GASPI: collectives, allreduce, barrier)
+pub fn collectives()
+    ensures counted { (w : World) (history : List Event) (s : State) (rank id : ℕ) (posts : Posts) → IsWorld w → reached w history ≡ Ok s → slice_get s.posts rank ≡ Some posts → id < 8
+        → joins_on rank id history ≡ completions_on rank id history + waits (entry_at posts.pending id) }
+    ensures agree { (w : World) (history : List Event) (s : State) (id turn rank other : ℕ) (g : Group) (c d : Contribution) → IsWorld w → reached w history ≡ Ok s
+        → slice_get s.groups id ≡ Some g → given_in g turn rank ≡ Some c → given_in g turn other ≡ Some d → c.args.coll ≡ d.args.coll }
+    ensures grows { (s t : State) (e : Event) (id : ℕ) (g : Group) → IsSound s → step s e ≡ Ok t → slice_get s.groups id ≡ Some g
+        → (g' : Group) × (slice_get t.groups id ≡ Some g') × Grows g g' }
+    ensures same { (s t u v : State) (between : List Event) (c d : CallerId) (a b : allreduce.Allreduce) (x y : TypedNumbers) (g k : Group) → IsSound s
+        → step s (Called c (calls.Allreduce a) (replies.List x)) ≡ Ok t → after t between ≡ Ok u → step u (Called d (calls.Allreduce b) (replies.List y)) ≡ Ok v
+        → a.group ≡ b.group → slice_get s.groups a.group ≡ Some g → slice_get u.groups b.group ≡ Some k → turn_of g c.rank ≡ turn_of k d.rank → x ≡ y }
+    ensures barrier { (w : World) (history : List Event) (s t : State) (c : CallerId) (call : barrier.Barrier) (g : Group) (rank : ℕ) → IsWorld w → reached w history ≡ Ok s
+        → step s (Called c (calls.Barrier call) replies.Done) ≡ Ok t → slice_get s.groups call.group ≡ Some g → rank < s.limits.ranks → IsOneOf g.members rank
+        → completions_on c.rank call.group history < joins_on rank call.group history }
 {}

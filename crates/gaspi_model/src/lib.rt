@@ -5,7 +5,7 @@ mod laws;
 mod states;
 
 pub use laws::{
-    changes, coarser_locality, corruption, enabled, endings, groups, listing, locality, messages,
-    notification_order, prefixes, replies, settling, soundness,
+    changes, coarser_locality, collectives, corruption, enabled, endings, groups, listing,
+    locality, messages, notification_order, prefixes, replies, settling, soundness,
 };
 pub use states::{Memory, Posts, Shard, State, StepFault, ThreadState, Why};

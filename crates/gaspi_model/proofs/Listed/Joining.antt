@@ -1,11 +1,11 @@
 -- Joins that may come next, and what a join leaves to its caller.
-use Rattle.std.proofs.Common.{◌≡◌, ℕ, ◌+◌, ◌<◌, ◌≤◌, Bool, true, false, ◌==◌, ◌&&◌, nat_lt, List, length, Option, None, Some, Result, Ok, Err, refl, sym, ap, ◌∙◌, subst, arith, if◌then◌else◌, IsOk}
-use Rattle.std.specs.List.{slice_get, slice_set}
+use Rattle.std.proofs.Common.{◌≡◌, ℕ, ◌+◌, ◌<◌, ◌≤◌, Bool, true, false, ◌&&◌, nat_lt, List, length, Option, None, Some, Ok, refl, sym, ap, ◌∙◌, subst, arith, if◌then◌else◌, IsOk}
+use Rattle.std.specs.List.{slice_get}
 use Rattle.std.proofs.lemmas.Bool.{le-leb, eq-eqb}
 use Rattle.gaspi_types.specs.CallRows.{row_of, need_of}
 use Rattle.gaspi_types.specs.Checks.{◌>>=◌}
-use Rattle.gaspi_types.specs.Collectives.{same_coll, same_args}
-use Rattle.gaspi_types.specs.Replies.{coll_fields, type_number, same_numbers}
+use Rattle.gaspi_types.specs.Collectives.{same_args}
+use Rattle.gaspi_types.specs.Replies.{coll_fields}
 use Rattle.gaspi_types.specs.Tables.{entry_at}
 use Rattle.gaspi_types.specs.Touches.{reach_of}
 use Rattle.gaspi_types.specs.declared.calls.Call.{Call}
@@ -16,7 +16,6 @@ use Rattle.gaspi_types.specs.declared.events.Event.TheVariants.{Joined}
 use Rattle.gaspi_types.specs.declared.groups.Args.{Args}
 use Rattle.gaspi_types.specs.declared.groups.Group.{Group}
 use Rattle.gaspi_types.specs.declared.groups.Handle.{Handle}
-use Rattle.gaspi_types.specs.declared.groups.Pending.{Pending}
 use Rattle.gaspi_types.specs.declared.replies.Ready.{Ready}
 use Rattle.gaspi_types.specs.declared.replies.Ready.TheVariants as ready
 use Rattle.gaspi_types.specs.declared.shapes.CallerId.{CallerId}

@@ -1,12 +1,10 @@
 -- A collective that is done keeps a state sound.
-use Rattle.std.proofs.Common.{◌≡◌, ℕ, ◌+◌, ◌<◌, ◌≤◌, Bool, true, false, not, nat_le, nat_lt, List, [], ◌∷◌, length, Option, None, Some, Result, Ok, Err, refl, sym, ap, ◌∙◌, subst, arith, ◌⊎◌, inl, inr, if◌then◌else◌, ◌&&◌, map, is_some}
+use Rattle.std.proofs.Common.{◌≡◌, ℕ, ◌+◌, ◌<◌, Bool, true, false, not, nat_lt, List, [], ◌∷◌, length, Option, None, Some, Ok, refl, sym, ap, ◌∙◌, subst, arith, if◌then◌else◌, ◌&&◌, is_some}
 use Rattle.std.specs.List.{slice_get, slice_set, list_all}
 use Rattle.std.specs.Option.{option_map}
-use Rattle.std.proofs.lemmas.Bool.{lt-ltb, leb-true}
-use Rattle.std.proofs.lemmas.List.{length-set}
+use Rattle.std.proofs.lemmas.Bool.{lt-ltb}
 use Rattle.std.proofs.lemmas.Option.{slice_get_within}
-use Rattle.gaspi_types.specs.CallRows.{row_of}
-use Rattle.gaspi_types.specs.Collectives.{part_of, given_in, members_in, turn_of, is_full, turn_made, made_by, generation_in, with_completed}
+use Rattle.gaspi_types.specs.Collectives.{part_of, given_in, members_in, turn_of, turn_made, made_by, generation_in, with_completed}
 use Rattle.gaspi_types.specs.Groups.{is_building, handle_at, building_at, with_committed}
 use Rattle.gaspi_types.specs.Masks.{is_member}
 use Rattle.gaspi_types.specs.Tables.{entry_at}
@@ -14,7 +12,6 @@ use Rattle.gaspi_types.specs.declared.calls.Call.{Call}
 use Rattle.gaspi_types.specs.declared.calls.Call.TheVariants as calls
 use Rattle.gaspi_types.specs.declared.calls.collectives.Commit as commit
 use Rattle.gaspi_types.specs.declared.calls.collectives.Create as create
-use Rattle.gaspi_types.specs.declared.collectives.Coll.{Coll}
 use Rattle.gaspi_types.specs.declared.collectives.Coll.TheVariants as colls
 use Rattle.gaspi_types.specs.declared.collectives.Stage.{Stage}
 use Rattle.gaspi_types.specs.declared.collectives.Stage.TheVariants.{Building, Committed}
@@ -23,16 +20,13 @@ use Rattle.gaspi_types.specs.declared.groups.Contribution.{Contribution}
 use Rattle.gaspi_types.specs.declared.groups.Group.{Group}
 use Rattle.gaspi_types.specs.declared.groups.Handle.{Handle}
 use Rattle.gaspi_types.specs.declared.groups.Handles.{Handles}
-use Rattle.gaspi_types.specs.declared.groups.Made.{Made}
 use Rattle.gaspi_types.specs.declared.groups.Part.{Part}
 use Rattle.gaspi_types.specs.declared.groups.Pending.{Pending}
 use Rattle.gaspi_types.specs.declared.replies.Refusal.TheVariants.{NoGroup, GroupStage, NotMember}
 use Rattle.gaspi_types.specs.declared.replies.Reply.{Reply}
-use Rattle.gaspi_types.specs.declared.shapes.Limits.{Limits}
-use Rattle.gaspi_model.specs.Coherence.{Tables, Knows, tables_of, all_tables}
-use Rattle.gaspi_model.specs.CollectiveCalls.{committed_at, building_with, staged_at, plain_args, args_of, told_posts, completed_posts, with_made_known}
-use Rattle.gaspi_model.specs.Contributions.{waits, IsSoundPart, HasBegun, IsSoundGroup, AreSoundCollectives, WasMadeSo}
-use Rattle.gaspi_model.specs.Parts.{group_or_none}
+use Rattle.gaspi_model.specs.Coherence.{Tables, tables_of, all_tables}
+use Rattle.gaspi_model.specs.CollectiveCalls.{committed_at, building_with, staged_at, plain_args, args_of, told_posts, completed_posts}
+use Rattle.gaspi_model.specs.Contributions.{IsSoundPart, WasMadeSo}
 use Rattle.gaspi_model.specs.Posting.{counted}
 use Rattle.gaspi_model.specs.Sound.{IsSound, AreSoundGroups}
 use Rattle.gaspi_model.specs.Step.{group_in}
@@ -41,13 +35,12 @@ use Rattle.gaspi_model.specs.declared.states.State.{State}
 use Rattle.gaspi_types.proofs.Chains.{bind_then, both, check_then, found_then, same_Ok}
 use Rattle.gaspi_types.proofs.Items.{there-within, map-at}
 use Rattle.gaspi_model.proofs.CollectiveFinds.{IsDone}
-use Rattle.gaspi_model.proofs.GroupSteps.{with_group_at}
-use Rattle.gaspi_model.proofs.MetPosts.{KeepsRank, made-known, told-leaves}
+use Rattle.gaspi_model.proofs.MetPosts.{KeepsRank, made-known}
 use Rattle.gaspi_model.proofs.Sound.Contributions.{Meets, part-changed, part-there, part-other}
 use Rattle.gaspi_model.proofs.Sound.GroupPosts.{AreMadeSo, MakesKnown, completed-own}
 use Rattle.gaspi_model.proofs.Sound.GroupTables.{entry-set_other, entry-set_same, set-sound, building-other, made-there}
 use Rattle.gaspi_model.proofs.Sound.Successors.{Succeeds, succeeds-itself}
-use Rattle.gaspi_model.proofs.Sound.Turns.{each-passes, given-completed, completed-group, completed-part}
+use Rattle.gaspi_model.proofs.Sound.Turns.{given-completed, completed-group, completed-part}
 
 -- What a stage says of a group.
 

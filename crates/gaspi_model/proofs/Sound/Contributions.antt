@@ -1,12 +1,11 @@
 -- What ranks have given to groups stays sound.
-use Rattle.std.proofs.Common.{◌≡◌, ℕ, zero, suc, ◌+◌, ◌<◌, ◌≤◌, Bool, true, false, List, [], ◌∷◌, ◌++◌, length, Option, None, Some, refl, sym, ap, ◌∙◌, subst, arith, ◌⊎◌, inl, inr}
+use Rattle.std.proofs.Common.{◌≡◌, ℕ, zero, suc, ◌<◌, ◌≤◌, true, List, [], ◌∷◌, length, Option, None, Some, refl, sym, ap, ◌∙◌, subst, arith, ◌⊎◌, inl, inr}
 use Rattle.std.specs.List.{slice_get, slice_set}
-use Rattle.gaspi_types.specs.Collectives.{no_part, part_of, given_in, with_joined, with_completed, fixed_by}
+use Rattle.gaspi_types.specs.Collectives.{part_of, given_in}
 use Rattle.gaspi_types.specs.Groups.{handle_at}
 use Rattle.gaspi_types.specs.Masks.{is_member}
 use Rattle.gaspi_types.specs.SegmentTables.{extent_in, next_generation}
 use Rattle.gaspi_types.specs.Tables.{entry_at, changed_at}
-use Rattle.gaspi_types.specs.declared.collectives.Coll.{Coll}
 use Rattle.gaspi_types.specs.declared.collectives.Coll.TheVariants.{Create, Commit}
 use Rattle.gaspi_types.specs.declared.collectives.Stage.TheVariants.{Building, Committed}
 use Rattle.gaspi_types.specs.declared.groups.Contribution.{Contribution}
@@ -16,10 +15,10 @@ use Rattle.gaspi_types.specs.declared.groups.Part.{Part}
 use Rattle.gaspi_types.specs.declared.groups.Pending.{Pending}
 use Rattle.gaspi_types.specs.declared.segments.Extent.{Extent}
 use Rattle.gaspi_model.specs.Coherence.{Tables, WasMade, tables_of}
-use Rattle.gaspi_model.specs.Contributions.{waits, AreWhole, IsOneOf, IsSoundPart, HasBegun, IsSoundGroup, WasMadeSo, AreSoundCollectives}
+use Rattle.gaspi_model.specs.Contributions.{IsSoundPart, HasBegun, IsSoundGroup, WasMadeSo, AreSoundCollectives}
 use Rattle.gaspi_model.specs.declared.states.Posts.{Posts}
 use Rattle.gaspi_model.specs.declared.states.State.{State}
-use Rattle.gaspi_types.proofs.Items.{slice_get-set, slice_get-set_same, slice_get-set_other, same-or-not, changed_at-found}
+use Rattle.gaspi_types.proofs.Items.{slice_get-set_same, slice_get-set_other, same-or-not, changed_at-found}
 use Rattle.gaspi_model.proofs.Sound.Successors.{Succeeds}
 
 -- a segment that was made so was made so in tables that come after

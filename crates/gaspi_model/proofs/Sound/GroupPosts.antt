@@ -1,13 +1,13 @@
 -- The posts of a rank stay sound by an event on a group.
-use Rattle.std.proofs.Common.{◌≡◌, ℕ, zero, suc, ◌+◌, ◌*◌, ◌<◌, ◌≤◌, Bool, true, false, ◌==◌, nat_le, List, [], ◌∷◌, length, Option, None, Some, Ok, refl, sym, ap, ◌∙◌, subst, arith, ◌⊎◌, inl, inr, if◌then◌else◌, count_by}
+use Rattle.std.proofs.Common.{◌≡◌, ℕ, ◌+◌, ◌≤◌, Bool, true, false, ◌==◌, nat_le, List, [], ◌∷◌, length, Option, None, Some, refl, sym, ap, ◌∙◌, subst, arith, ◌⊎◌, inl, inr, if◌then◌else◌, count_by}
 use Rattle.std.specs.List.{slice_get, slice_set, sum_by}
 use Rattle.std.specs.Option.{option_map}
-use Rattle.std.proofs.lemmas.Bool.{leb-true, eqb-true, ltb-true}
+use Rattle.std.proofs.lemmas.Bool.{leb-true, eqb-true}
 use Rattle.std.proofs.lemmas.List.{length-set}
 use Rattle.gaspi_types.specs.Collectives.{turn_made}
-use Rattle.gaspi_types.specs.Groups.{handle_at, with_committed}
+use Rattle.gaspi_types.specs.Groups.{with_committed}
 use Rattle.gaspi_types.specs.Queues.{queue_owed}
-use Rattle.gaspi_types.specs.SegmentTables.{extent_in, next_generation, with_generation}
+use Rattle.gaspi_types.specs.SegmentTables.{extent_in, next_generation}
 use Rattle.gaspi_types.specs.Tables.{changed_at}
 use Rattle.gaspi_types.specs.declared.calls.Call.{Call}
 use Rattle.gaspi_types.specs.declared.calls.Call.TheVariants as calls
@@ -17,25 +17,24 @@ use Rattle.gaspi_types.specs.declared.entries.Entry.{Entry}
 use Rattle.gaspi_types.specs.declared.entries.Queue.{Queue}
 use Rattle.gaspi_types.specs.declared.groups.Args.{Args}
 use Rattle.gaspi_types.specs.declared.groups.Group.{Group}
-use Rattle.gaspi_types.specs.declared.groups.Handles.{Handles}
 use Rattle.gaspi_types.specs.declared.groups.Made.{Made}
 use Rattle.gaspi_types.specs.declared.groups.Pending.{Pending}
 use Rattle.gaspi_types.specs.declared.segments.Extent.{Extent}
 use Rattle.gaspi_types.specs.declared.shapes.Limits.{Limits}
-use Rattle.gaspi_model.specs.Coherence.{Tables, WasMade, AllFit, Knows, tables_of}
+use Rattle.gaspi_model.specs.Coherence.{Tables, AllFit, Knows, tables_of}
 use Rattle.gaspi_model.specs.CollectiveCalls.{with_made_known, told_posts, completed_posts, made_posts, joined_posts, with_pending}
 use Rattle.gaspi_model.specs.Contributions.{WasMadeSo}
 use Rattle.gaspi_model.specs.Posting.{counted}
-use Rattle.gaspi_model.specs.SegmentCalls.{with_known, with_own}
+use Rattle.gaspi_model.specs.SegmentCalls.{with_own}
 use Rattle.gaspi_model.specs.Sound.{HasTables, IsSoundPosts, IsSoundQueue, AreSoundGroups, AreRising}
 use Rattle.gaspi_model.specs.State.{owed}
 use Rattle.gaspi_model.specs.declared.states.Posts.{Posts}
 use Rattle.gaspi_model.specs.declared.states.ThreadState.{ThreadState}
 use Rattle.gaspi_model.specs.State.{is_running}
 use Rattle.gaspi_types.proofs.Extents.{extent-set, generation-within}
-use Rattle.gaspi_types.proofs.Items.{slice_get-set, length-changed_at}
+use Rattle.gaspi_types.proofs.Items.{slice_get-set}
 use Rattle.gaspi_model.proofs.MetPosts.{KeepsRank, made-known}
-use Rattle.gaspi_model.proofs.Sound.CallTables.{KeepsFit, fits-itself}
+use Rattle.gaspi_model.proofs.Sound.CallTables.{KeepsFit}
 use Rattle.gaspi_model.proofs.Sound.Successors.{Succeeds, succeeds-itself}
 use Rattle.gaspi_model.proofs.Sound.TableLengths.{known-tables, regrouped-tables, counted-tables}
 use Rattle.gaspi_model.proofs.Sound.Told.{changed_at-get}

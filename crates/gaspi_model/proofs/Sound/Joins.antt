@@ -1,21 +1,16 @@
 -- A join keeps a state sound.
-use Rattle.std.proofs.Common.{◌≡◌, ℕ, ◌+◌, ◌<◌, ◌≤◌, Bool, true, false, ◌==◌, nat_lt, List, [], ◌∷◌, ◌++◌, length, Option, None, Some, Result, Ok, Err, refl, sym, ap, ◌∙◌, subst, arith, ◌⊎◌, inl, inr, if◌then◌else◌, ◌&&◌}
+use Rattle.std.proofs.Common.{◌≡◌, ℕ, ◌+◌, ◌<◌, ◌≤◌, Bool, true, false, ◌==◌, nat_lt, List, [], ◌∷◌, ◌++◌, length, Option, None, Some, Ok, refl, sym, ap, ◌∙◌, subst, arith, ◌⊎◌, inl, inr}
 use Rattle.std.specs.List.{slice_get, slice_set}
-use Rattle.std.proofs.lemmas.Bool.{lt-ltb, ltb-true, eqb-true}
-use Rattle.gaspi_types.specs.CallRows.{row_of}
-use Rattle.gaspi_types.specs.Collectives.{part_of, given_in, members_in, turn_of, turn_checks, fixed_by, with_joined}
+use Rattle.std.proofs.lemmas.Bool.{ltb-true, eqb-true}
+use Rattle.gaspi_types.specs.Collectives.{part_of, given_in, turn_of, turn_checks, fixed_by, with_joined}
 use Rattle.gaspi_types.specs.Groups.{handle_at, handle_of_all, fix_checks}
-use Rattle.gaspi_types.specs.Masks.{is_member}
-use Rattle.gaspi_types.specs.SegmentTables.{extent_in, alloc_checks, next_generation, with_generation}
+use Rattle.gaspi_types.specs.SegmentTables.{extent_in, alloc_checks, next_generation}
 use Rattle.gaspi_types.specs.NumberTypes.{TypedNumbers}
 use Rattle.gaspi_types.specs.Tables.{entry_at}
-use Rattle.gaspi_types.specs.declared.calls.Call.{Call}
 use Rattle.gaspi_types.specs.declared.calls.Call.TheVariants as calls
 use Rattle.gaspi_types.specs.declared.collectives.Coll.{Coll}
 use Rattle.gaspi_types.specs.declared.collectives.Coll.TheVariants as colls
-use Rattle.gaspi_types.specs.declared.collectives.NumType.{NumType}
-use Rattle.gaspi_types.specs.declared.collectives.Op.{Op}
-use Rattle.gaspi_types.specs.declared.collectives.Stage.TheVariants.{Building, Committed}
+use Rattle.gaspi_types.specs.declared.collectives.Stage.TheVariants.{Committed}
 use Rattle.gaspi_types.specs.declared.groups.Args.{Args}
 use Rattle.gaspi_types.specs.declared.groups.Contribution.{Contribution}
 use Rattle.gaspi_types.specs.declared.groups.Group.{Group}
@@ -25,22 +20,22 @@ use Rattle.gaspi_types.specs.declared.groups.Part.{Part}
 use Rattle.gaspi_types.specs.declared.groups.Pending.{Pending}
 use Rattle.gaspi_types.specs.declared.replies.Refusal.TheVariants.{GroupMismatch}
 use Rattle.gaspi_types.specs.declared.segments.Extent.{Extent}
-use Rattle.gaspi_model.specs.Coherence.{Tables, AreMade, tables_of}
+use Rattle.gaspi_model.specs.Coherence.{tables_of}
 use Rattle.gaspi_model.specs.CollectiveCalls.{staged_at, plain_args, args_of, segment_checks, meeting_checks, joining_call, made_posts, contribution_of, made_generation, joined_posts}
-use Rattle.gaspi_model.specs.Contributions.{waits, AreWhole, IsOneOf, IsSoundPart, HasBegun, IsSoundGroup, AreSoundCollectives, WasMadeSo}
+use Rattle.gaspi_model.specs.Contributions.{AreWhole, IsOneOf, IsSoundPart, HasBegun, IsSoundGroup, WasMadeSo}
 use Rattle.gaspi_model.specs.Posting.{counted}
 use Rattle.gaspi_model.specs.SegmentCalls.{with_own}
-use Rattle.gaspi_model.specs.Sound.{IsSound, AreSoundGroups}
+use Rattle.gaspi_model.specs.Sound.{IsSound}
 use Rattle.gaspi_model.specs.declared.states.Posts.{Posts}
 use Rattle.gaspi_model.specs.declared.states.State.{State}
-use Rattle.gaspi_types.proofs.Chains.{bind_then, check_then, check_holds, absent_then, found_then, same_Ok}
+use Rattle.gaspi_types.proofs.Chains.{check_then, check_holds, absent_then}
 use Rattle.gaspi_types.proofs.Extents.{extent-set, generation-set}
 use Rattle.gaspi_model.proofs.CollectiveFinds.{MayJoin}
 use Rattle.gaspi_model.proofs.MetPosts.{KeepsRank}
-use Rattle.gaspi_model.proofs.Sound.Completions.{IsBuilt, built-there, committed-there, stage-apart, staged-there, IsThere}
+use Rattle.gaspi_model.proofs.Sound.Completions.{IsBuilt, built-there, committed-there, stage-apart, IsThere}
 use Rattle.gaspi_model.proofs.Sound.Contributions.{Meets, made-so-stays, part-changed, part-there, part-other}
 use Rattle.gaspi_model.proofs.Sound.GroupPosts.{joined-groups}
-use Rattle.gaspi_model.proofs.Sound.GroupTables.{entry-set_other, entry-set_same, made-there}
+use Rattle.gaspi_model.proofs.Sound.GroupTables.{entry-set_other, entry-set_same}
 use Rattle.gaspi_model.proofs.Sound.Successors.{Succeeds, succeeds-itself, alloc-succeeds}
 use Rattle.gaspi_model.proofs.Sound.Turns.{Brings, turn-fits, giver-ranked, given-joined, joined-group, joined-part, fixed-stays}
 

@@ -1,10 +1,9 @@
 -- What an event on no group keeps of what ranks have to do with groups.
-use Rattle.std.proofs.Common.{◌≡◌, ℕ, ◌+◌, ◌<◌, ◌≤◌, Bool, true, false, ◌==◌, List, Option, None, Some, Result, Ok, Err, refl, sym, ap, ◌∙◌, subst, arith, ◌⊎◌, inl, inr, if◌then◌else◌}
+use Rattle.std.proofs.Common.{◌≡◌, ℕ, ◌+◌, ◌<◌, ◌≤◌, Bool, true, false, List, Option, None, Some, Result, Ok, Err, refl, sym, ap, ◌∙◌, subst, arith, ◌⊎◌, inl, inr}
 use Rattle.std.specs.List.{slice_get, slice_set}
 use Rattle.std.specs.Option.{option_map}
-use Rattle.std.proofs.lemmas.Bool.{eqb-true}
 use Rattle.gaspi_types.specs.CallRows.{row_of}
-use Rattle.gaspi_types.specs.Groups.{is_building, new_handle, handle_at, with_group, with_added, without_group}
+use Rattle.gaspi_types.specs.Groups.{is_building, new_handle, handle_at}
 use Rattle.gaspi_types.specs.Masks.{with_member}
 use Rattle.gaspi_types.specs.Replies.{is_idle}
 use Rattle.gaspi_types.specs.declared.call_rows.Posting.{Posting}
@@ -32,9 +31,8 @@ use Rattle.gaspi_model.specs.Transfers.{Found, Worked}
 use Rattle.gaspi_model.specs.declared.states.Posts.{Posts}
 use Rattle.gaspi_model.specs.declared.states.Memory.{Memory}
 use Rattle.gaspi_model.specs.declared.states.State.{State}
-use Rattle.gaspi_types.proofs.Items.{slice_get-set, slice_get-set_same, slice_get-set_other, same-or-not}
 use Rattle.gaspi_model.proofs.FoundReplies.{found-reply}
-use Rattle.gaspi_model.proofs.GroupFinds.{create-found, add-found, drop-found}
+use Rattle.gaspi_model.proofs.GroupFinds.{add-found}
 use Rattle.gaspi_model.proofs.Made.{IsTake, IsPut}
 use Rattle.gaspi_model.proofs.Same.{same_reply-same}
 use Rattle.gaspi_model.proofs.Worked.{sound-called, sound-take, sound-put}

@@ -1,8 +1,7 @@
 -- At the start no rank has given anything to a group.
-use Rattle.std.proofs.Common.{◌≡◌, ℕ, zero, suc, ◌+◌, ◌<◌, ◌≤◌, Bool, true, false, ◌==◌, List, [], ◌∷◌, length, replicate, Option, None, Some, refl, sym, ap, ◌∙◌, subst, arith, if◌then◌else◌}
+use Rattle.std.proofs.Common.{◌≡◌, ℕ, zero, suc, ◌+◌, true, ◌==◌, [], length, replicate, Option, None, Some, refl, sym, ap, ◌∙◌, subst, arith, if◌then◌else◌}
 use Rattle.std.specs.List.{slice_get, range_with_len}
-use Rattle.std.specs.Option.{option_map, option_and_then}
-use Rattle.std.proofs.lemmas.Bool.{eqb-true}
+use Rattle.std.specs.Option.{option_and_then}
 use Rattle.std.proofs.lemmas.List.{length-replicate}
 use Rattle.std.proofs.lemmas.List.FromFn.{length-map-range_with_len}
 use Rattle.std.proofs.lemmas.Nat.Bits.{bit_at_ones}
@@ -11,20 +10,20 @@ use Rattle.gaspi_types.specs.Collectives.{part_of, given_in, no_part}
 use Rattle.gaspi_types.specs.Groups.{handle_at, handle_of_all, opening_handles}
 use Rattle.gaspi_types.specs.Masks.{is_member, all_below}
 use Rattle.gaspi_types.specs.Tables.{entry_at}
-use Rattle.gaspi_types.specs.World.{World, IsWorld}
+use Rattle.gaspi_types.specs.World.{World}
 use Rattle.gaspi_types.specs.declared.groups.Contribution.{Contribution}
 use Rattle.gaspi_types.specs.declared.groups.Group.{Group}
 use Rattle.gaspi_types.specs.declared.groups.Handle.{Handle}
 use Rattle.gaspi_types.specs.declared.groups.Part.{Part}
 use Rattle.gaspi_types.specs.declared.groups.Pending.{Pending}
-use Rattle.gaspi_model.specs.Contributions.{waits, IsSoundPart, IsSoundGroup, AreSoundCollectives}
+use Rattle.gaspi_model.specs.Contributions.{IsSoundGroup, AreSoundCollectives}
 use Rattle.gaspi_model.specs.State.{opening, opening_group, opening_part, opening_posts}
 use Rattle.gaspi_model.specs.declared.states.Posts.{Posts}
 use Rattle.gaspi_types.proofs.Items.{slice_get-replicate, map-at}
 use Rattle.gaspi_model.proofs.Sound.GroupTables.{opening-groups}
 use Rattle.gaspi_model.proofs.Sound.Turns.{in-range}
 
-opening-part : (ranks k rank : ℕ) → part_of (opening_group ranks k) rank ≡ no_part
+pub opening-part : (ranks k rank : ℕ) → part_of (opening_group ranks k) rank ≡ no_part
 opening-part ranks k rank = go (slice_get (replicate ranks opening_part) rank) refl
   where
     go : (o : Option Part) → slice_get (replicate ranks opening_part) rank ≡ o → part_of (opening_group ranks k) rank ≡ no_part

@@ -1,6 +1,6 @@
 -- The opening state is sound, and every step keeps a state sound.
 use Rattle.std.proofs.Common.{◌-◌, subst, ◌≡◌, ℕ, ◌+◌, ◌≤◌, Bool, true, false, List, ◌++◌, length, Option, None, Some, Result, Ok, Err, refl, sym, ap, ◌∙◌, arith, if◌then◌else◌, ◌⊎◌, inl, inr, remove, is_none, nat_le}
-use Rattle.std.specs.List.{sum_by, slice_get, slice_set}
+use Rattle.std.specs.List.{slice_get, slice_set}
 use Rattle.std.proofs.lemmas.Bool.{leb-true}
 use Rattle.std.proofs.lemmas.List.{length-set, length-map}
 use Rattle.gaspi_types.specs.Lanes.{posted_entries, is_posted, is_carried, is_failed}
@@ -44,7 +44,7 @@ use Rattle.gaspi_types.specs.declared.entries.Queue.{Queue}
 use Rattle.gaspi_model.specs.declared.states.Posts.{Posts}
 use Rattle.gaspi_model.specs.declared.states.Memory.{Memory}
 use Rattle.gaspi_model.specs.declared.states.State.{State}
-use Rattle.gaspi_types.proofs.Items.{sum_by-changed, slice_get-set, length-changed_at}
+use Rattle.gaspi_types.proofs.Items.{slice_get-set, length-changed_at}
 use Rattle.gaspi_model.proofs.Worked.{memory_rank, sound-called, sound-take, sound-put}
 use Rattle.gaspi_model.proofs.Sound.Told.{told, told-length, told-from, told-sum}
 use Rattle.gaspi_model.proofs.Sound.TableLengths.{after-tables, take-tables, put-tables, told-tables}
@@ -57,7 +57,6 @@ use Rattle.gaspi_model.proofs.Sound.CallAccounts.{HasLanes, with_post-events, ca
 use Rattle.gaspi_types.proofs.Chains.{both, same_Ok}
 use Rattle.gaspi_model.proofs.Sound.OpenCounts.{emptied-lane, posted-unfailed, carried-unfailed, queue-phase, queue-remove, carried-more, carried-failed}
 use Rattle.gaspi_types.specs.declared.shapes.CallerId.{CallerId}
-use Rattle.gaspi_types.specs.declared.groups.Args.{Args}
 use Rattle.gaspi_model.specs.Contributions.{AreSoundCollectives}
 use Rattle.gaspi_model.proofs.MetPosts.{met-called, met-joined}
 use Rattle.gaspi_model.proofs.Sound.GroupEvents.{posts-sound, left-set, steps-completed, steps-joined, counts-met}

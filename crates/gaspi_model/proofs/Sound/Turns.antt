@@ -1,23 +1,20 @@
 -- What joins and completions leave of a group is sound.
-use Rattle.std.proofs.Common.{◌≡◌, ℕ, zero, suc, ◌+◌, ◌<◌, ◌≤◌, Bool, true, false, ◌==◌, ◌&&◌, nat_lt, List, [], ◌∷◌, ◌++◌, length, map, filter, Option, None, Some, is_some, Result, Ok, Err, refl, sym, ap, ◌∙◌, subst, arith, ◌⊎◌, inl, inr, if◌then◌else◌}
-use Rattle.std.specs.List.{slice_get, slice_set, list_all, range_with_len}
-use Rattle.std.proofs.lemmas.Bool.{eqb-true, ltb-true, lt-ltb}
+use Rattle.std.proofs.Common.{◌≡◌, ℕ, zero, suc, ◌+◌, ◌<◌, ◌≤◌, Bool, true, false, nat_lt, List, [], ◌∷◌, ◌++◌, length, filter, Option, None, Some, Ok, refl, sym, ap, ◌∙◌, subst, arith, ◌⊎◌, inl, inr}
+use Rattle.std.specs.List.{slice_get, list_all, range_with_len}
+use Rattle.std.proofs.lemmas.Bool.{ltb-true, lt-ltb}
 use Rattle.std.proofs.lemmas.Option.{slice_get_within}
-use Rattle.gaspi_types.specs.Collectives.{same_coll, or_later, first_given, fits, is_full, members_of, members_in, part_of, given_in, turn_of, is_turn_full, turn_checks, turn_made, made_by, generation_in, fixed_by, with_joined, with_completed}
+use Rattle.gaspi_types.specs.Collectives.{same_coll, first_given, fits, members_in, given_in, turn_of, turn_checks, fixed_by, with_joined, with_completed}
 use Rattle.gaspi_types.specs.Masks.{is_member}
 use Rattle.gaspi_types.specs.declared.collectives.Coll.{Coll}
-use Rattle.gaspi_types.specs.declared.collectives.Coll.TheVariants.{Barrier, Allreduce, Create, Commit}
-use Rattle.gaspi_types.specs.declared.groups.Args.{Args}
+use Rattle.gaspi_types.specs.declared.collectives.Coll.TheVariants.{Commit}
 use Rattle.gaspi_types.specs.declared.groups.Contribution.{Contribution}
 use Rattle.gaspi_types.specs.declared.groups.Group.{Group}
-use Rattle.gaspi_types.specs.declared.groups.Made.{Made}
 use Rattle.gaspi_types.specs.declared.groups.Part.{Part}
 use Rattle.gaspi_types.specs.declared.groups.Pending.{Pending}
-use Rattle.gaspi_types.specs.declared.replies.Refusal.{Refusal}
 use Rattle.gaspi_types.specs.declared.replies.Refusal.TheVariants.{CollectiveMismatch}
-use Rattle.gaspi_model.specs.Contributions.{waits, AreWhole, IsOneOf, IsSoundPart, IsSoundGroup}
+use Rattle.gaspi_model.specs.Contributions.{AreWhole, IsOneOf, IsSoundPart, IsSoundGroup}
 use Rattle.gaspi_types.proofs.Chains.{both, check_holds}
-use Rattle.gaspi_types.proofs.Items.{same-or-not, there-within, length-changed_at, front-of-joined, behind-of-joined, append-parts}
+use Rattle.gaspi_types.proofs.Items.{same-or-not, length-changed_at, front-of-joined, behind-of-joined}
 use Rattle.gaspi_model.proofs.Same.{same_coll-same}
 use Rattle.gaspi_model.proofs.Sound.Contributions.{part-changed, part-there, part-other}
 

@@ -8,6 +8,7 @@ use Rattle.gaspi_model.proofs.Changed.QueueCalls.{purge-done, sized, state-answe
 use Rattle.gaspi_model.proofs.Changed.Messages.{message-sent, message-received}
 use Rattle.gaspi_model.proofs.Changed.GroupCalls.{group-made, group-added, group-dropped}
 use Rattle.gaspi_model.proofs.Changed.Posted.{post-done}
+use Rattle.gaspi_model.proofs.Ordered.Collectives.{join-done, commit-done, barrier-done, create-done, allreduce-done, allreduce-folded}
 use Rattle.gaspi_model.proofs.laws.changes.Goals as goal
 
 pub returns-clause-load : goal.returns-clause-load
@@ -90,3 +91,21 @@ returns-clause-group_dropped c = group-dropped
 
 pub returns-clause-posted : goal.returns-clause-posted
 returns-clause-posted c = post-done
+
+pub returns-clause-joined : goal.returns-clause-joined
+returns-clause-joined c = join-done
+
+pub returns-clause-committed : goal.returns-clause-committed
+returns-clause-committed c = commit-done
+
+pub returns-clause-barrier : goal.returns-clause-barrier
+returns-clause-barrier c = barrier-done
+
+pub returns-clause-created : goal.returns-clause-created
+returns-clause-created c = create-done
+
+pub returns-clause-reduced : goal.returns-clause-reduced
+returns-clause-reduced c = allreduce-done
+
+pub returns-clause-folded : goal.returns-clause-folded
+returns-clause-folded c = allreduce-folded

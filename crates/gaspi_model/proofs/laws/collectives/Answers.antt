@@ -1,0 +1,17 @@
+use Rattle.gaspi_model.proofs.Ordered.Collectives.{joins-counted, turns-agree, group-grows, same-fold, barrier-joined}
+use Rattle.gaspi_model.proofs.laws.collectives.Goals as goal
+
+pub returns-clause-counted : goal.returns-clause-counted
+returns-clause-counted c = joins-counted
+
+pub returns-clause-agree : goal.returns-clause-agree
+returns-clause-agree c = turns-agree
+
+pub returns-clause-grows : goal.returns-clause-grows
+returns-clause-grows c = group-grows
+
+pub returns-clause-same : goal.returns-clause-same
+returns-clause-same c = same-fold
+
+pub returns-clause-barrier : goal.returns-clause-barrier
+returns-clause-barrier c = barrier-joined
