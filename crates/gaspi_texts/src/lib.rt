@@ -1,10 +1,10 @@
 //! The texts of replies and events, both ways, and those of the calls below them.
 #![tactic(auto)]
 
+mod collective_texts;
 mod event_reading;
 mod event_texts;
 mod ranges;
-mod reply_elements;
 mod reply_reading;
 mod reply_texts;
 mod reply_words;
