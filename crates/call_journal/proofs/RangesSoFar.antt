@@ -1,8 +1,9 @@
 -- The ranges of the events of a journal, one after another.
 use Rattle.std.proofs.Common.{◌≡◌, ℕ, zero, suc, ◌+◌, ◌<◌, ◌⊎◌, inl, inr, List, length, get_or, refl, sym, ap, ◌∙◌, subst, arith}
+use Rattle.std.specs.List.{All}
 use Rattle.std.proofs.lemmas.List.{get_or_default}
 use Rattle.gaspi_types.specs.declared.events.Event.{Event}
-use Rattle.gaspi_texts.specs.EventText.{IsInEventRange}
+use Rattle.gaspi_texts.specs.EventText.{HasOwnValues, IsInEventRange}
 
 less-or-same : (k n : ℕ) → k < n + 1 → (k < n) ⊎ (k ≡ n)
 less-or-same zero zero h = inr refl
@@ -28,3 +29,7 @@ one-more journal count e inside at range before k d below = go (less-or-same k c
     go (inr same) =
         let here : IsInEventRange (get_or journal count d) = subst IsInEventRange (at ∙ get_or_default journal count e d inside) range in
         subst (λ (n : ℕ). IsInEventRange (get_or journal n d)) (sym same) here
+
+-- the event at a place has its own values where all have
+pub own-there : (journal : List Event) (count : ℕ) (e : Event) → count < length journal → e ≡ get_or journal count e → All HasOwnValues journal → HasOwnValues e
+own-there journal count e inside at own = subst HasOwnValues (sym at) (own count e inside)
