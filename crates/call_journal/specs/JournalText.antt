@@ -3,7 +3,7 @@ use Rattle.std.specs.Prelude.{◌≡◌, ◌≢◌, ◌≤◌, ℕ, ◌+◌, ◌
 use Rattle.std.specs.Fmt.{decimal}
 use Rattle.std.specs.List.{concat, All}
 use Rattle.gaspi_types.specs.declared.events.Event.{Event}
-use Rattle.gaspi_texts.specs.EventText.{event_text, IsInEventRange}
+use Rattle.gaspi_texts.specs.EventText.{event_text, HasOwnValues, IsInEventRange}
 use Rattle.text_lines.specs.Lines.{fed_lines}
 
 -- The lines, each with its line feed: the version, the events with their places, and the end with their number.
@@ -27,6 +27,10 @@ journal_lines journal = first_line ∷ (event_lines 0 journal ++ end_line (lengt
 
 abbrev pub journal_text : List Event → List ℕ
 journal_text journal = concat (journal_lines journal)
+
+-- what callers join has the values that it says, at all events
+abbrev pub HaveOwnValues : List Event → Type 0
+HaveOwnValues journal = All HasOwnValues journal
 
 -- the numbers of all events are those of their types
 abbrev pub AreInRange : List Event → Type 0

@@ -3,6 +3,7 @@
 
 mod laws;
 mod lines;
+mod own_values;
 mod ranges;
 mod reading;
 mod verdicts;
@@ -11,6 +12,7 @@ mod writing;
 use buffers::Buffer;
 use gaspi_types::{Event, Rows};
 pub use laws::journals_differ_in_text;
+pub use own_values::have_own_values;
 pub use ranges::journal_is_in_range;
 pub use reading::{JournalFault, read};
 pub use verdicts::{Verdict, check};

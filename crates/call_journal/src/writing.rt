@@ -3,7 +3,7 @@
 ghost use Rattle.std.specs.Prelude.{◌≡◌, ◌++◌, List, OnOk, OnErr};
 ghost use Rattle.gaspi_types.specs.declared.events.Event.{Event};
 ghost use Rattle.call_journal.specs.Additions.{KeepsFront};
-ghost use Rattle.call_journal.specs.JournalText.{event_line, end_line, journal_text, AreInRange};
+ghost use Rattle.call_journal.specs.JournalText.{event_line, end_line, journal_text, HaveOwnValues, AreInRange};
 
 use crate::Journal;
 use crate::laws::journals_differ_in_text;
@@ -44,9 +44,10 @@ fn append_journal(text: &mut Bytes, journal: &Journal) -> Result<(), NoMemory>
     append_end_line(text, journal.len() as u64)
 }
 
-/// Adds the text of a journal. Without memory nothing changes. What is written is the text of this journal and of no
-/// other, so `read` takes it, and gives this journal.
+/// Adds the text of a journal, where what callers join has the values that it says. Without memory nothing changes. What is
+/// written is the text of this journal and of no other, so `read` takes it, and gives this journal.
 pub fn write(text: &mut Bytes, journal: &Journal) -> Result<(), NoMemory>
+    requires { HaveOwnValues journal.now }
     ensures ok { OnOk result (text.new ≡ text.old ++ journal_text journal.now) }
     ensures err { OnErr result (text.new ≡ text.old) }
     ensures ranges { AreInRange journal.now }

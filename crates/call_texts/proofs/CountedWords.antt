@@ -1,16 +1,18 @@
 -- The words of what was read are as many as its form takes.
-use Rattle.std.proofs.Common.{◌≡◌, ℕ, zero, suc, ◌+◌, ◌*◌, List, [], ◌∷◌, length, drop, ◌==◌, true, Option, Some, refl, sym, ap, ◌∙◌, subst, arith}
+use Rattle.std.proofs.Common.{◌≡◌, ℕ, zero, suc, ◌+◌, ◌-◌, ◌*◌, List, [], ◌∷◌, length, drop, ◌≤◌, ◌==◌, true, nat_le, take, Option, Some, refl, sym, ap, ◌∙◌, subst, arith}
 use Rattle.std.proofs.lemmas.Bool.Decides.{nat_tests}
 use Rattle.std.proofs.lemmas.Grind.{common_steps}
 use Rattle.std.proofs.lemmas.Option.{option_and_then_some, cond_some, same_Some, none-some}
+use Rattle.gaspi_types.specs.NumberTypes.{TypedNumbers}
 use Rattle.gaspi_types.specs.declared.calls.Call.{Call}
 use Rattle.gaspi_types.specs.declared.calls.posts.Item.{Item}
 use Rattle.call_texts.specs.CallText.{form_of, arguments_of, call_with, call_taken, call_by}
-use Rattle.call_texts.specs.Fields.{FieldValue, Fields, first_spells, item_taken, items_taken, field_taken, fields_taken, field_words, form_words}
+use Rattle.call_texts.specs.Fields.{FieldValue, Fields, first_spells, item_taken, items_taken, words_taken, elements_taken, field_taken, fields_taken, field_words, form_words}
+use Rattle.call_texts.specs.Elements.{type_of, op_of, elements_of}
 use Rattle.call_texts.specs.Hex.{bytes_of}
 use Rattle.call_texts.specs.Numbers.{number_of, value_of}
 use Rattle.call_texts.specs.declared.fields.Field.{Field}
-use Rattle.call_texts.specs.declared.fields.Field.TheVariants.{Number, Value, Bytes, Items}
+use Rattle.call_texts.specs.declared.fields.Field.TheVariants.{Number, Value, Bytes, Items, Operation, Elements}
 use Rattle.call_texts.specs.declared.call_words.CallWord.{CallWord}
 
 -- words, and those that are left of them behind so many
@@ -92,12 +94,37 @@ list-counts words taken is =
     subst (λ (ws : List (List ℕ)). Counts (field_words Items ws) ws taken.1) (sym first.words_are)
     (record { count = 1 + 5 * count.0; is = rw first.value_is refl; behind = left-one (5 * count.0) first.word count.1 taken.1 items }))
 
+front-left : (count : ℕ) (words : List (List ℕ)) (taken : List (List ℕ) × List (List ℕ)) → words_taken count words ≡ Some taken → Left count words taken.1
+front-left count words taken is =
+    let cut = cond_some (nat_le count (length words)) (take count words, drop count words) taken is in
+    let within : count ≤ length words = grind (arith, nat_tests, cut.0) in
+    let rest : length (drop count words) ≡ length words - count = grind (arith, common_steps) in
+    subst (λ (t : List (List ℕ) × List (List ℕ)). Left count words t.1) cut.1 (record { dropped = refl; whole = omega (arith, within, rest) })
+
+elements-counts : (words : List (List ℕ)) (taken : TypedNumbers × List (List ℕ)) → elements_taken words ≡ Some taken
+    → Counts (field_words Elements words) words taken.1
+elements-counts words taken is =
+    option_and_then_some _ (first_spells type_of words) taken is (λ num_type first behind_type.
+    option_and_then_some _ (first_spells number_of num_type.1) taken behind_type (λ count second behind_count.
+    option_and_then_some _ (words_taken count.0 count.1) taken behind_count (λ front third behind_front.
+    option_and_then_some _ (elements_of num_type.0 front.0) taken behind_front (λ items fourth same.
+    let one = spells type_of words num_type first in
+    let two = spells number_of num_type.1 count second in
+    let left = left-one (1 + count.0) one.word (two.word ∷ count.1) front.1 (left-one count.0 two.word count.1 front.1 (front-left count.0 count.1 front third)) in
+    let sum : 1 + (1 + count.0) ≡ 2 + count.0 = omega arith in
+    let both : words ≡ one.word ∷ two.word ∷ count.1 = one.words_are ∙ ap (λ (ws : List (List ℕ)). one.word ∷ ws) two.words_are in
+    subst (λ (t : TypedNumbers × List (List ℕ)). Counts (field_words Elements words) words t.1) (same_Some (record { num_type = num_type.0; items = items }, front.1) taken same)
+    (subst (λ (ws : List (List ℕ)). Counts (field_words Elements ws) ws front.1) (sym both)
+    (record { count = 2 + count.0; is = rw two.value_is refl; behind = subst (λ (n : ℕ). Left n (one.word ∷ two.word ∷ count.1) front.1) sum left }))))))
+
 field-counts : (field : Field) (words : List (List ℕ)) (taken : FieldValue field × List (List ℕ)) → field_taken field words ≡ Some taken
     → Counts (field_words field words) words taken.1
 field-counts Number words taken is = record { count = 1; is = refl; behind = one-left number_of words taken is }
 field-counts Value words taken is = record { count = 1; is = refl; behind = one-left value_of words taken is }
 field-counts Bytes words taken is = record { count = 1; is = refl; behind = one-left bytes_of words taken is }
 field-counts Items words taken is = list-counts words taken is
+field-counts Operation words taken is = record { count = 1; is = refl; behind = one-left op_of words taken is }
+field-counts Elements words taken is = elements-counts words taken is
 
 -- Forms and calls.
 

@@ -6,24 +6,36 @@ use Rattle.std.proofs.lemmas.Grind.{common_steps}
 use Rattle.std.proofs.lemmas.List.{drop-map}
 use Rattle.std.proofs.lemmas.Option.{cond_some}
 use Rattle.call_texts.specs.CallText.{form_of, has_timeout, takes_items, given_count}
-use Rattle.call_texts.specs.Fields.{◌>>=◌, field_words, form_words}
+use Rattle.call_texts.specs.Fields.{field_words, form_words}
+use Rattle.call_texts.specs.Steps.{◌>>=◌}
 use Rattle.call_texts.specs.declared.call_words.CallWord.{CallWord}
-use Rattle.call_texts.specs.declared.call_words.CallWord.TheVariants.{WriteList, WriteListNotify, ReadList, ReadListNotify}
+use Rattle.call_texts.specs.declared.call_words.CallWord.TheVariants.{WriteList, WriteListNotify, ReadList, ReadListNotify, Allreduce}
 use Rattle.call_texts.specs.declared.fields.Field.{Field}
-use Rattle.call_texts.specs.declared.fields.Field.TheVariants.{Number, Value, Bytes, Items}
+use Rattle.call_texts.specs.declared.fields.Field.TheVariants.{Number, Value, Bytes, Items, Operation, Elements}
 
--- where no word is, each field takes one
-field-none : (field : Field) → field_words field [] ≡ Some 1
+-- where no word is, each field takes the least that it may take
+abbrev least : Field → ℕ
+least Elements = 2
+least field = 1
+
+field-none : (field : Field) → field_words field [] ≡ Some (least field)
 field-none Number = refl
 field-none Value = refl
 field-none Bytes = refl
 field-none Items = refl
+field-none Operation = refl
+field-none Elements = refl
 
-form-none : (form : List Field) → form_words form [] ≡ Some (length form)
+abbrev least_of : List Field → ℕ
+least_of [] = 0
+least_of (field ∷ form) = least field + least_of form
+
+none-left : (count : ℕ) (words : List (List ℕ)) → words ≡ [] → drop count words ≡ []
+none-left count words none = grind (arith, common_steps)
+
+form-none : (form : List Field) → form_words form [] ≡ Some (least_of form)
 form-none [] = refl
-form-none (field ∷ form) =
-    let one : 1 + length form ≡ length (field ∷ form) = omega arith in
-    rw (field-none field, form-none form, one) refl
+form-none (field ∷ form) = rw (field-none field, none-left (least field) [] refl, form-none form) refl
 
 length-rest : (words : List (Bor (List ℕ))) (count : ℕ) → length (drop count words) ≡ length words - count
 length-rest words count = grind (arith, common_steps)
@@ -49,7 +61,7 @@ counted-over : (field : Field) (form : List Field) (words : List (Bor (List ℕ)
     → length words < count → option_map (λ n. length words == n + more) (form_words (field ∷ form) (map (λ word. word.now) words)) ≡ Some false
 counted-over field form words count more is over =
     let dropped : drop count (map (λ (word : Bor (List ℕ)). word.now) words) ≡ [] = grind (arith, common_steps) in
-    let long : (length words == count + length form + more) ≡ false = grind (arith, nat_tests) in
+    let long : (length words == count + least_of form + more) ≡ false = grind (arith, nat_tests) in
     rw (sym is, dropped, form-none form, long) refl
 
 -- the words behind so many, where there are so many
@@ -89,4 +101,5 @@ plain_count WriteList words is = absurd (let no : ⊥ = cc in no)
 plain_count WriteListNotify words is = absurd (let no : ⊥ = cc in no)
 plain_count ReadList words is = absurd (let no : ⊥ = cc in no)
 plain_count ReadListNotify words is = absurd (let no : ⊥ = cc in no)
+plain_count Allreduce words is = absurd (let no : ⊥ = cc in no)
 plain_count word words is = refl

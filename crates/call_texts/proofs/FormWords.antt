@@ -1,15 +1,21 @@
 -- The words of a form, read back, and what they spell.
-use Rattle.std.proofs.Common.{◌≡◌, ℕ, zero, suc, ◌^◌, ◌<◌, List, [], ◌∷◌, ◌++◌, length, Option, Some, refl, sym, ap, subst, append_assoc}
+use Rattle.std.proofs.Common.{◌≡◌, ℕ, zero, suc, ◌^◌, ◌<◌, ◌≤◌, true, nat_le, List, [], ◌∷◌, ◌++◌, length, map, take, drop, Option, Some, refl, sym, ap, ◌∙◌, subst, append_assoc, length-append, arith}
+use Rattle.std.specs.Fmt.{signed_decimal}
 use Rattle.std.specs.List.{AllByRecursion, flat_map}
-use Rattle.std.proofs.lemmas.Option.{option_and_then_some, same_Some, none-some}
+use Rattle.std.proofs.lemmas.Bool.Decides.{nat_tests}
+use Rattle.std.proofs.lemmas.List.{length-map, take_at, drop_at, length-take-le}
+use Rattle.std.proofs.lemmas.Option.{option_and_then_some, cond_some, same_Some, none-some}
 use Rattle.hex.specs.Hex.{IsBytes}
+use Rattle.gaspi_types.specs.NumberTypes.{TypedNumbers}
 use Rattle.gaspi_types.specs.declared.calls.posts.Item.{Item}
-use Rattle.call_texts.specs.Fields.{IsNumber, FieldValue, IsItemInRange, IsInRange, words_of_item, words_of_field, first_spells, item_taken, items_taken, field_taken, Fields, AreInRange, words_of_fields, fields_taken}
+use Rattle.call_texts.specs.Fields.{IsNumber, FieldValue, IsItemInRange, IsInRange, words_of_item, words_of_field, first_spells, item_taken, items_taken, words_taken, elements_taken, field_taken, Fields, AreInRange, words_of_fields, fields_taken}
+use Rattle.call_texts.specs.Elements.{type_of, elements_of}
 use Rattle.call_texts.specs.Hex.{bytes_of}
 use Rattle.call_texts.specs.Numbers.{number_of, value_of}
 use Rattle.call_texts.specs.Words.{IsPlainWord}
 use Rattle.call_texts.specs.declared.fields.Field.{Field}
-use Rattle.call_texts.specs.declared.fields.Field.TheVariants.{Number, Value, Bytes, Items}
+use Rattle.call_texts.specs.declared.fields.Field.TheVariants.{Number, Value, Bytes, Items, Operation, Elements}
+use Rattle.call_texts.proofs.ElementWords.{type_of-word, op_of-word, elements_of-decimals, type_plain, op_plain, elements_plain, elements_of-range, elements_of-length}
 use Rattle.call_texts.proofs.HexWords.{bytes_of-hex_text}
 use Rattle.call_texts.proofs.NumberWords.{number_of-decimal, value_of-decimal}
 use Rattle.call_texts.proofs.PlainWords.{number_word, small_word, hex_word}
@@ -33,12 +39,29 @@ items-back [] behind small = refl
 items-back (item ∷ items) behind small =
     rw (item-back item (flat_map words_of_item items ++ behind) small.0, items-back items behind small.1) refl
 
+front-taken : (front behind : List (List ℕ)) (count : ℕ) → length front ≡ count → words_taken count (front ++ behind) ≡ Some (front, behind)
+front-taken front behind count long =
+    let within : nat_le count (length (front ++ behind)) ≡ true = simp length-append (grind (arith, nat_tests)) in
+    rw (within, take_at front behind count long, drop_at front behind count long) refl
+
+elements-back : (numbers : TypedNumbers) (behind : List (List ℕ)) → IsInRange Elements numbers
+    → elements_taken (words_of_field Elements numbers ++ behind) ≡ Some (numbers, behind)
+elements-back numbers behind small =
+    rw (
+      type_of-word numbers.num_type,
+      number_of-decimal (length numbers.items) small.0,
+      front-taken (map signed_decimal numbers.items) behind (length numbers.items) (length-map numbers.items signed_decimal),
+      elements_of-decimals numbers.num_type numbers.items small.1,
+    ) refl
+
 field-back : (field : Field) (value : FieldValue field) (behind : List (List ℕ)) → IsInRange field value
     → field_taken field (words_of_field field value ++ behind) ≡ Some (value, behind)
 field-back Number n behind small = rw (number_of-decimal n small) refl
 field-back Value n behind small = rw (value_of-decimal n small) refl
 field-back Bytes bytes behind small = rw (bytes_of-hex_text bytes small) refl
 field-back Items items behind small = rw (number_of-decimal (length items) small.0) (items-back items behind small.1)
+field-back Operation op behind small = rw (op_of-word op) refl
+field-back Elements numbers behind small = elements-back numbers behind small
 
 pub form-back : (form : List Field) (fields : Fields form) (behind : List (List ℕ)) → AreInRange form fields
     → fields_taken form (words_of_fields form fields ++ behind) ≡ Some (fields, behind)
@@ -93,12 +116,29 @@ list-range words taken is =
     let items = items-range count.0 count.1 taken found in
     (subst (λ (n : ℕ). IsNumber n) (sym items.counted) (number-range words count spelled), items.range))
 
+elements-range : (words : List (List ℕ)) (taken : TypedNumbers × List (List ℕ)) → elements_taken words ≡ Some taken → IsInRange Elements taken.0
+elements-range words taken is =
+    option_and_then_some _ (first_spells type_of words) taken is (λ num_type first behind_type.
+    option_and_then_some _ (first_spells number_of num_type.1) taken behind_type (λ count second behind_count.
+    option_and_then_some _ (words_taken count.0 count.1) taken behind_count (λ front third behind_front.
+    option_and_then_some _ (elements_of num_type.0 front.0) taken behind_front (λ items fourth same.
+    let cut = cond_some (nat_le count.0 (length count.1)) (take count.0 count.1, drop count.0 count.1) front third in
+    let within : count.0 ≤ length count.1 = grind (arith, nat_tests, cut.0) in
+    let long : length items ≡ count.0 =
+    elements_of-length num_type.0 front.0 items fourth ∙ ap (λ (f : List (List ℕ) × List (List ℕ)). length f.0) (sym cut.1) ∙ length-take-le count.0 count.1 within in
+    subst (λ (t : TypedNumbers × List (List ℕ)). IsInRange Elements t.0) (same_Some (record { num_type = num_type.0; items = items }, front.1) taken same) (
+      subst (λ (n : ℕ). IsNumber n) (sym long) (number-range num_type.1 count second),
+      elements_of-range num_type.0 front.0 items fourth,
+    )))))
+
 field-range : (field : Field) (words : List (List ℕ)) (taken : FieldValue field × List (List ℕ)) → field_taken field words ≡ Some taken
     → IsInRange field taken.0
 field-range Number words taken is = number-range words taken is
 field-range Value words taken is = one-range (λ (n : ℕ). n < 2 ^ 32) value_of value_of-range words taken is
 field-range Bytes words taken is = one-range IsBytes bytes_of bytes_of-range words taken is
 field-range Items words taken is = list-range words taken is
+field-range Operation words taken is = tt
+field-range Elements words taken is = elements-range words taken is
 
 pub form-range : (form : List Field) (words : List (List ℕ)) (taken : Fields form × List (List ℕ)) → fields_taken form words ≡ Some taken
     → AreInRange form taken.0
@@ -128,6 +168,9 @@ field-plain Number n small = (number_word n small, tt)
 field-plain Value n small = (small_word n small, tt)
 field-plain Bytes bytes small = (hex_word bytes small, tt)
 field-plain Items items small = (number_word (length items) small.0, items-plain items small.1)
+field-plain Operation op small = (op_plain op, tt)
+field-plain Elements numbers small =
+    (type_plain numbers.num_type, (number_word (length numbers.items) small.0, elements_plain numbers.num_type numbers.items small.1))
 
 pub form-plain : (form : List Field) (fields : Fields form) → AreInRange form fields → AllByRecursion IsPlainWord (words_of_fields form fields)
 form-plain [] fields small = tt

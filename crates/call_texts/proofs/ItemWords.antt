@@ -3,7 +3,8 @@ use Rattle.std.proofs.Common.{◌≡◌, ℕ, zero, suc, ◌+◌, ◌-◌, ◌<�
 use Rattle.std.specs.List.{AllByRecursion}
 use Rattle.std.specs.Option.{option_map}
 use Rattle.gaspi_types.specs.declared.calls.posts.Item.{Item}
-use Rattle.call_texts.specs.Fields.{◌>>=◌, item_taken, items_taken}
+use Rattle.call_texts.specs.Fields.{item_taken, items_taken}
+use Rattle.call_texts.specs.Steps.{◌>>=◌}
 
 -- what is read behind items that were read
 abbrev pub behind_items : List Item → Option (List Item × List (List ℕ)) → Option (List Item × List (List ℕ))

@@ -1,13 +1,16 @@
 pub mod CallTexts
 pub mod CountedWords
+pub mod ElementWords
 pub mod FormCounts
 pub mod FormWords
+pub mod FrontWords
 pub mod HexWords
 pub mod ItemWords
 pub mod JoinedWords
 pub mod NumberWords
 pub mod Pieces
 pub mod PlainWords
+pub mod ReadElements
 pub mod WordLengths
 pub mod WordRanges
 pub mod WordTexts

@@ -4,13 +4,14 @@ use Rattle.std.specs.List.{join_with_byte}
 use Rattle.std.specs.Str.{bytes_eq}
 use Rattle.std.specs.Option.{option_map_or}
 use Rattle.call_texts.specs.Words.{words_of}
-use Rattle.call_texts.specs.Fields.{◌>>=◌, Fields, AreInRange, words_of_fields, fields_taken, form_words, has_list}
+use Rattle.call_texts.specs.Fields.{Fields, AreInRange, words_of_fields, fields_taken, form_words, has_list}
+use Rattle.call_texts.specs.Steps.{◌>>=◌}
 use Rattle.gaspi_types.specs.declared.calls.Call.{Call}
 use Rattle.gaspi_types.specs.declared.calls.Call.TheVariants as calls
 use Rattle.call_texts.specs.declared.fields.Field.{Field}
-use Rattle.call_texts.specs.declared.fields.Field.TheVariants.{Number, Value, Bytes, Items}
+use Rattle.call_texts.specs.declared.fields.Field.TheVariants.{Number, Value, Bytes, Items, Operation, Elements}
 use Rattle.call_texts.specs.declared.call_words.CallWord.{CallWord}
-use Rattle.call_texts.specs.declared.call_words.CallWord.TheVariants.{Alloc, Register, Delete, Store, Load, Write, Read, Notify, WriteNotify, ReadNotify, WriteList, WriteListNotify, ReadList, ReadListNotify, Wait, Purge, Qsize, Waitsome, Reset, PassiveSend, PassiveReceive, FetchAdd, CompareSwap, GroupCreate, GroupAdd, GroupDelete, State}
+use Rattle.call_texts.specs.declared.call_words.CallWord.TheVariants.{Alloc, Register, Delete, Store, Load, Write, Read, Notify, WriteNotify, ReadNotify, WriteList, WriteListNotify, ReadList, ReadListNotify, Wait, Purge, Qsize, Waitsome, Reset, PassiveSend, PassiveReceive, FetchAdd, CompareSwap, GroupCreate, GroupAdd, GroupDelete, Commit, Barrier, Allreduce, Create, State}
 
 -- how a call's word is spelled, and the form of what follows it, a timeout aside
 pub record WordRow : Type 0 where
@@ -18,8 +19,8 @@ pub record WordRow : Type 0 where
   pub form : List Field
 
 -- the spellings are those that GASPI has for the procedures, in short for `segment_alloc`, `segment_register`,
--- `segment_delete`, `queue_purge`, `queue_size`, `notify_waitsome`, `notify_reset`, `atomic_fetch_add`, `atomic_compare_swap` and
--- `state_vec_get`; `store` and `load` are own choice
+-- `segment_create`, `segment_delete`, `queue_purge`, `queue_size`, `notify_waitsome`, `notify_reset`, `atomic_fetch_add`,
+-- `atomic_compare_swap`, `group_commit` and `state_vec_get`; `store` and `load` are own choice
 abbrev pub word_row : CallWord → WordRow
 -- SEG SIZE
 word_row Alloc = record { spelling = codes "alloc"; form = Number ∷ Number ∷ [] }
@@ -75,6 +76,14 @@ word_row GroupCreate = record { spelling = codes "group_create"; form = [] }
 word_row GroupAdd = record { spelling = codes "group_add"; form = Number ∷ Number ∷ [] }
 -- GROUP
 word_row GroupDelete = record { spelling = codes "group_delete"; form = Number ∷ [] }
+-- GROUP
+word_row Commit = record { spelling = codes "commit"; form = Number ∷ [] }
+-- GROUP
+word_row Barrier = record { spelling = codes "barrier"; form = Number ∷ [] }
+-- GROUP OP TYPE N, and N elements
+word_row Allreduce = record { spelling = codes "allreduce"; form = Number ∷ Operation ∷ Elements ∷ [] }
+-- SEG SIZE GROUP
+word_row Create = record { spelling = codes "create"; form = Number ∷ Number ∷ Number ∷ [] }
 -- nothing
 word_row State = record { spelling = codes "state"; form = [] }
 
@@ -87,7 +96,7 @@ form_of word = (word_row word).form
 -- the words of calls
 abbrev pub call_words : List CallWord
 call_words =
-    Alloc ∷ Register ∷ Delete ∷ Store ∷ Load ∷ Write ∷ Read ∷ Notify ∷ WriteNotify ∷ ReadNotify ∷ WriteList ∷ WriteListNotify ∷ ReadList ∷ ReadListNotify ∷ Wait ∷ Purge ∷ Qsize ∷ Waitsome ∷ Reset ∷ PassiveSend ∷ PassiveReceive ∷ FetchAdd ∷ CompareSwap ∷ GroupCreate ∷ GroupAdd ∷ GroupDelete ∷ State ∷ []
+    Alloc ∷ Register ∷ Delete ∷ Store ∷ Load ∷ Write ∷ Read ∷ Notify ∷ WriteNotify ∷ ReadNotify ∷ WriteList ∷ WriteListNotify ∷ ReadList ∷ ReadListNotify ∷ Wait ∷ Purge ∷ Qsize ∷ Waitsome ∷ Reset ∷ PassiveSend ∷ PassiveReceive ∷ FetchAdd ∷ CompareSwap ∷ GroupCreate ∷ GroupAdd ∷ GroupDelete ∷ Commit ∷ Barrier ∷ Allreduce ∷ Create ∷ State ∷ []
 
 -- those whose spelling has so many bytes
 unfoldable pub words_of_length : ℕ → List CallWord
@@ -97,7 +106,7 @@ words_of_length count = filter (λ call. length (spelling_of call) == count) cal
 unfoldable pub call_word_of : List ℕ → Option CallWord
 call_word_of word = find (λ call. bytes_eq (spelling_of call) word) call_words
 
--- how many of the words behind it are its arguments; none where the number of a list is not of the form of a number
+-- how many of the words behind it are its arguments; none where the number of items or elements is not of the form of a number
 abbrev pub arguments_of : CallWord → List (List ℕ) → Option ℕ
 arguments_of word words = form_words (form_of word) words
 
@@ -107,14 +116,19 @@ has_timeout Wait = true
 has_timeout Waitsome = true
 has_timeout PassiveSend = true
 has_timeout PassiveReceive = true
+has_timeout Commit = true
+has_timeout Barrier = true
+has_timeout Allreduce = true
+has_timeout Create = true
 has_timeout word = false
 
--- whether items are among its fields
+-- whether items or elements are among its fields
 abbrev pub takes_items : CallWord → Bool
 takes_items WriteList = true
 takes_items WriteListNotify = true
 takes_items ReadList = true
 takes_items ReadListNotify = true
+takes_items Allreduce = true
 takes_items word = false
 
 -- how many words stand behind it: its arguments, and a timeout where one belongs to the call
@@ -169,6 +183,10 @@ spelled (calls.CompareSwap call) =
 spelled calls.GroupCreate = Some (record { word = GroupCreate; fields = tt })
 spelled (calls.GroupAdd call) = Some (record { word = GroupAdd; fields = (call.group, (call.rank, tt)) })
 spelled (calls.GroupDelete call) = Some (record { word = GroupDelete; fields = (call.group, tt) })
+spelled (calls.Commit call) = Some (record { word = Commit; fields = (call.group, tt) })
+spelled (calls.Barrier call) = Some (record { word = Barrier; fields = (call.group, tt) })
+spelled (calls.Allreduce call) = Some (record { word = Allreduce; fields = (call.group, (call.op, (call.values, tt))) })
+spelled (calls.Create call) = Some (record { word = Create; fields = (call.seg, (call.size, (call.group, tt))) })
 spelled calls.State = Some (record { word = State; fields = tt })
 spelled calls.End = None
 
@@ -209,6 +227,10 @@ call_with CompareSwap (seg, (offset, (rank, (comparator, (new, end))))) =
 call_with GroupCreate end = calls.GroupCreate
 call_with GroupAdd (group, (rank, end)) = calls.GroupAdd (record { group = group; rank = rank })
 call_with GroupDelete (group, end) = calls.GroupDelete (record { group = group })
+call_with Commit (group, end) = calls.Commit (record { group = group })
+call_with Barrier (group, end) = calls.Barrier (record { group = group })
+call_with Allreduce (group, (op, (values, end))) = calls.Allreduce (record { group = group; op = op; values = values })
+call_with Create (seg, (size, (group, end))) = calls.Create (record { seg = seg; size = size; group = group })
 call_with State end = calls.State
 
 -- Reading.

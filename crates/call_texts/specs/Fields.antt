@@ -1,19 +1,18 @@
 -- Forms: the kinds of the fields that follow a word, in their order. How a form is read, what is written of it, and
 -- which values are in the ranges of their types, all by the kinds of its fields. (own choice)
-use Rattle.std.specs.Prelude.{ℕ, zero, suc, ◌+◌, ◌*◌, ◌^◌, ◌<◌, Bool, true, false, ◌||◌, List, [], ◌∷◌, ◌++◌, length, drop, flat_map, Option, Some, None, option_and_then}
-use Rattle.std.specs.Fmt.{decimal}
+use Rattle.std.specs.Prelude.{ℕ, zero, suc, ◌+◌, ◌*◌, ◌^◌, ◌<◌, nat_le, Bool, true, false, ◌||◌, List, [], ◌∷◌, ◌++◌, length, map, take, drop, flat_map, Option, Some, None, if◌then◌else◌}
+use Rattle.std.specs.Fmt.{decimal, signed_decimal}
 use Rattle.std.specs.List.{AllByRecursion}
 use Rattle.hex.specs.Hex.{IsBytes}
+use Rattle.gaspi_types.specs.NumberTypes.{AreInType, TypedNumbers}
+use Rattle.gaspi_types.specs.declared.calls.posts.Item.{Item}
+use Rattle.gaspi_types.specs.declared.collectives.Op.{Op}
+use Rattle.call_texts.specs.Elements.{type_word, op_word, type_of, op_of, elements_of}
 use Rattle.call_texts.specs.Hex.{bytes_of, hex_text}
 use Rattle.call_texts.specs.Numbers.{number_of, value_of}
-use Rattle.gaspi_types.specs.declared.calls.posts.Item.{Item}
+use Rattle.call_texts.specs.Steps.{◌>>=◌}
 use Rattle.call_texts.specs.declared.fields.Field.{Field}
-use Rattle.call_texts.specs.declared.fields.Field.TheVariants.{Number, Value, Bytes, Items}
-
--- the second step, where the first gave a value
-infixl 10 ◌>>=◌
-abbrev pub ◌>>=◌ : {A B : Type 0} → Option A → (A → Option B) → Option B
-o >>= f = option_and_then f o
+use Rattle.call_texts.specs.declared.fields.Field.TheVariants.{Number, Value, Bytes, Items, Operation, Elements}
 
 -- a number of 64 bits
 abbrev pub IsNumber : ℕ → Type 0
@@ -27,6 +26,8 @@ FieldValue Number = ℕ
 FieldValue Value = ℕ
 FieldValue Bytes = List ℕ
 FieldValue Items = List Item
+FieldValue Operation = Op
+FieldValue Elements = TypedNumbers
 
 -- an item's numbers are of 64 bits
 abbrev pub IsItemInRange : Item → Type 0
@@ -38,18 +39,23 @@ IsInRange Number n = IsNumber n
 IsInRange Value n = n < 2 ^ 32
 IsInRange Bytes bytes = IsBytes bytes
 IsInRange Items items = IsNumber (length items) × AllByRecursion IsItemInRange items
+IsInRange Operation op = Unit {0}
+IsInRange Elements numbers = IsNumber (length numbers.items) × AreInType numbers.num_type numbers.items
 
 -- the words of an item, SEG OFF RSEG ROFF SIZE
 abbrev pub words_of_item : Item → List (List ℕ)
 words_of_item item =
     decimal item.seg ∷ decimal item.offset ∷ decimal item.rseg ∷ decimal item.roffset ∷ decimal item.size ∷ []
 
--- a field's words in the one form that is written; those of items stand behind their number
+-- a field's words in the one form that is written; items stand behind their number, and so do elements, behind their type
 abbrev pub words_of_field : (field : Field) → FieldValue field → List (List ℕ)
 words_of_field Number n = decimal n ∷ []
 words_of_field Value n = decimal n ∷ []
 words_of_field Bytes bytes = hex_text bytes ∷ []
 words_of_field Items items = decimal (length items) ∷ flat_map words_of_item items
+words_of_field Operation op = op_word op ∷ []
+words_of_field Elements numbers =
+    type_word numbers.num_type ∷ decimal (length numbers.items) ∷ map signed_decimal numbers.items
 
 -- what the first of the words spells, and the words behind it
 abbrev pub first_spells : {A : Type 0} → (List ℕ → Option A) → List (List ℕ) → Option (A × List (List ℕ))
@@ -76,6 +82,19 @@ items_taken (suc count) words = do
   others ← items_taken count first.1
   Some (first.0 ∷ others.0, others.1)
 
+-- so many words in front, where there are as many, and the words behind them
+abbrev pub words_taken : ℕ → List (List ℕ) → Option (List (List ℕ) × List (List ℕ))
+words_taken count words = if nat_le count (length words) then Some (take count words, drop count words) else None
+
+-- a type, the number of elements, and so many elements of the type that the words in front spell, and the words behind them
+abbrev pub elements_taken : List (List ℕ) → Option (TypedNumbers × List (List ℕ))
+elements_taken words = do
+  num_type ← first_spells type_of words
+  count ← first_spells number_of num_type.1
+  front ← words_taken count.0 count.1
+  items ← elements_of num_type.0 front.0
+  Some (record { num_type = num_type.0; items = items }, front.1)
+
 -- the value that the words in front spell, and the words behind them
 abbrev pub field_taken : (field : Field) → List (List ℕ) → Option (FieldValue field × List (List ℕ))
 field_taken Number words = first_spells number_of words
@@ -84,18 +103,25 @@ field_taken Bytes words = first_spells bytes_of words
 field_taken Items words = do
   count ← first_spells number_of words
   items_taken count.0 count.1
+field_taken Operation words = first_spells op_of words
+field_taken Elements words = elements_taken words
 
 -- whether it is a list, which takes memory as it is read
 abbrev pub is_list : Field → Bool
 is_list Bytes = true
 is_list Items = true
+is_list Elements = true
 is_list field = false
 
--- how many of the words in front a field takes; none where the number of its items is not of the form of a number
+-- how many of the words in front a field takes; none where the number of its items or elements is not of the form of a number
 abbrev pub field_words : Field → List (List ℕ) → Option ℕ
 field_words Items (word ∷ words) = do
   count ← number_of word
   Some (1 + 5 * count)
+field_words Elements (num_type ∷ word ∷ words) = do
+  count ← number_of word
+  Some (2 + count)
+field_words Elements words = Some 2
 field_words field words = Some 1
 
 -- Forms.

@@ -1,7 +1,9 @@
 pub mod CallText
+pub mod Elements
 pub mod FieldWords
 pub mod Fields
 pub mod Hex
 pub mod Numbers
+pub mod Steps
 pub mod Words
 pub mod Written

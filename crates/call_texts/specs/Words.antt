@@ -1,6 +1,6 @@
 -- The words of a text.
 use Rattle.std.specs.Prelude.{◌≡◌, ◌<◌, false, ℕ, Bool, List, ◌||◌, ◌==◌, [], ◌∷◌, length, filter, not, if◌then◌else◌}
-use Rattle.std.specs.Char.{is_ascii_digit, is_ascii_lowercase}
+use Rattle.std.specs.Char.{is_ascii_digit, is_ascii_lowercase, is_ascii_uppercase}
 use Rattle.std.specs.List.{slice_split, All, AllPass}
 
 -- own choice: words stand apart by spaces and tabs
@@ -21,9 +21,9 @@ pub record IsWord (word : List ℕ) : Type 0 where
   pub filled : 0 < length word
   pub blankless : All (λ byte. is_blank byte ≡ false) word
 
--- own choice: the bytes of which numbers, bytes in hex and calls are written, a digit, a lower-case letter, `_` or `-`
+-- own choice: the bytes of which numbers, bytes in hex and calls are written, a digit, a letter, `_` or `-`
 unfoldable pub is_plain : ℕ → Bool
-is_plain byte = is_ascii_digit byte || is_ascii_lowercase byte || (byte == 95) || (byte == 45)
+is_plain byte = is_ascii_digit byte || is_ascii_lowercase byte || is_ascii_uppercase byte || (byte == 95) || (byte == 45)
 
 pub record IsPlainWord (word : List ℕ) : Type 0 where
   pub filled : 0 < length word

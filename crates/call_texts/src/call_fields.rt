@@ -9,9 +9,10 @@ ghost use Rattle.call_texts.specs.declared.call_words.CallWord.TheVariants as ca
 
 use crate::field_words::FieldWords;
 use gaspi_types::{
-    Alloc, Call, CompareSwap, Delete, FetchAdd, GroupAdd, GroupDelete, Load, NoMemory, Notify,
-    PassiveReceive, PassiveSend, Purge, Qsize, Read, ReadList, ReadListNotify, ReadNotify,
-    Register, Reset, Store, Wait, Waitsome, Write, WriteList, WriteListNotify, WriteNotify,
+    Alloc, Allreduce, Barrier, Call, Commit, CompareSwap, Create, Delete, FetchAdd, GroupAdd,
+    GroupDelete, Load, NoMemory, Notify, PassiveReceive, PassiveSend, Purge, Qsize, Read, ReadList,
+    ReadListNotify, ReadNotify, Register, Reset, Store, Wait, Waitsome, Write, WriteList,
+    WriteListNotify, WriteNotify,
 };
 use std::alloc::Global;
 
@@ -337,6 +338,50 @@ pub(crate) fn take_group_delete(fields: &mut FieldWords) -> Option<Call>
     ensures { option_map (λ call. (call, words_in fields.new)) result ≡ call_taken call_words.GroupDelete (words_in fields.old) }
 {
     Some(Call::GroupDelete(GroupDelete {
+        group: fields.number()?,
+    }))
+}
+
+pub(crate) fn take_commit(fields: &mut FieldWords) -> Option<Call>
+    ensures { option_map (λ call. (call, words_in fields.new)) result ≡ call_taken call_words.Commit (words_in fields.old) }
+{
+    Some(Call::Commit(Commit {
+        group: fields.number()?,
+    }))
+}
+
+pub(crate) fn take_barrier(fields: &mut FieldWords) -> Option<Call>
+    ensures { option_map (λ call. (call, words_in fields.new)) result ≡ call_taken call_words.Barrier (words_in fields.old) }
+{
+    Some(Call::Barrier(Barrier {
+        group: fields.number()?,
+    }))
+}
+
+pub(crate) fn take_allreduce(
+    alloc: Global,
+    fields: &mut FieldWords,
+) -> Result<Option<Call>, NoMemory>
+    ensures { IfOk result (λ call. option_map (λ c. (c, words_in fields.new)) call ≡ call_taken call_words.Allreduce (words_in fields.old)) }
+{
+    let Some(group) = fields.number() else {
+        return Ok(None);
+    };
+    let Some(op) = fields.operation() else {
+        return Ok(None);
+    };
+    let Some(values) = fields.elements(alloc)? else {
+        return Ok(None);
+    };
+    Ok(Some(Call::Allreduce(Allreduce { group, op, values })))
+}
+
+pub(crate) fn take_create(fields: &mut FieldWords) -> Option<Call>
+    ensures { option_map (λ call. (call, words_in fields.new)) result ≡ call_taken call_words.Create (words_in fields.old) }
+{
+    Some(Call::Create(Create {
+        seg: fields.number()?,
+        size: fields.number()?,
         group: fields.number()?,
     }))
 }

@@ -7,11 +7,11 @@ ghost use Rattle.call_texts.specs.FieldWords.{words_in};
 
 use crate::blanks::words;
 use crate::call_fields::{
-    take_alloc, take_compare_swap, take_delete, take_fetch_add, take_group_add, take_group_delete,
-    take_load, take_notify, take_passive_receive, take_passive_send, take_purge, take_qsize,
-    take_read, take_read_list, take_read_list_notify, take_read_notify, take_register, take_reset,
-    take_store, take_wait, take_waitsome, take_write, take_write_list, take_write_list_notify,
-    take_write_notify,
+    take_alloc, take_allreduce, take_barrier, take_commit, take_compare_swap, take_create,
+    take_delete, take_fetch_add, take_group_add, take_group_delete, take_load, take_notify,
+    take_passive_receive, take_passive_send, take_purge, take_qsize, take_read, take_read_list,
+    take_read_list_notify, take_read_notify, take_register, take_reset, take_store, take_wait,
+    take_waitsome, take_write, take_write_list, take_write_list_notify, take_write_notify,
 };
 use crate::call_words::CallWord;
 use crate::field_words::FieldWords;
@@ -54,6 +54,10 @@ fn take_call(
         CallWord::GroupCreate => Ok(Some(Call::GroupCreate)),
         CallWord::GroupAdd => Ok(take_group_add(fields)),
         CallWord::GroupDelete => Ok(take_group_delete(fields)),
+        CallWord::Commit => Ok(take_commit(fields)),
+        CallWord::Barrier => Ok(take_barrier(fields)),
+        CallWord::Allreduce => take_allreduce(alloc, fields),
+        CallWord::Create => Ok(take_create(fields)),
         CallWord::State => Ok(Some(Call::State)),
     }
 }

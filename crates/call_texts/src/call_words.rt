@@ -5,7 +5,7 @@ ghost use Rattle.std.specs.Option.{option_map};
 ghost use Rattle.std.specs.Str.{bytes_eq};
 ghost use Rattle.call_texts.specs.CallText.{spelling_of, form_of, words_of_length, call_word_of, given_count, has_timeout, takes_items};
 
-use crate::fields::Field::{self, Bytes, Items, Number, Value};
+use crate::fields::Field::{self, Bytes, Elements, Items, Number, Operation, Value};
 use crate::form_counts::are_counted;
 
 /// The word that a call's text begins with.
@@ -37,6 +37,10 @@ pub enum CallWord {
     GroupCreate,
     GroupAdd,
     GroupDelete,
+    Commit,
+    Barrier,
+    Allreduce,
+    Create,
     State,
 }
 
@@ -110,6 +114,10 @@ impl CallWord {
             CallWord::GroupCreate => WordRow::new(b"group_create", &[]),
             CallWord::GroupAdd => WordRow::new(b"group_add", &[Number; 2]),
             CallWord::GroupDelete => WordRow::new(b"group_delete", &[Number]),
+            CallWord::Commit => WordRow::new(b"commit", &[Number]),
+            CallWord::Barrier => WordRow::new(b"barrier", &[Number]),
+            CallWord::Allreduce => WordRow::new(b"allreduce", &[Number, Operation, Elements]),
+            CallWord::Create => WordRow::new(b"create", &[Number; 3]),
             CallWord::State => WordRow::new(b"state", &[]),
         }
     }
@@ -137,9 +145,20 @@ impl CallWord {
                 CallWord::Reset,
                 CallWord::State,
             ],
-            6 => &[CallWord::Delete, CallWord::Notify],
+            6 => &[
+                CallWord::Delete,
+                CallWord::Notify,
+                CallWord::Commit,
+                CallWord::Create,
+            ],
+            7 => &[CallWord::Barrier],
             8 => &[CallWord::Register, CallWord::Waitsome],
-            9 => &[CallWord::ReadList, CallWord::FetchAdd, CallWord::GroupAdd],
+            9 => &[
+                CallWord::ReadList,
+                CallWord::FetchAdd,
+                CallWord::GroupAdd,
+                CallWord::Allreduce,
+            ],
             10 => &[CallWord::WriteList],
             11 => &[CallWord::ReadNotify],
             12 => &[
@@ -163,7 +182,7 @@ impl CallWord {
         first_spelled(CallWord::of_length(word.len()), word)
     }
 
-    /// Whether items are among its fields.
+    /// Whether items or elements are among its fields.
     fn takes_items(self) -> bool
         ensures { result ≡ takes_items self }
     {
@@ -173,11 +192,12 @@ impl CallWord {
                 | CallWord::WriteListNotify
                 | CallWord::ReadList
                 | CallWord::ReadListNotify
+                | CallWord::Allreduce
         )
     }
 
     /// Whether these are as many words as stand behind it: its arguments, and its timeout where it takes one. None where
-    /// the number of a list is not of the form of a number.
+    /// the number of items or elements is not of the form of a number.
     #[tactic(auto, using(crate::proofs::FormCounts::plain_count))]
     pub fn has_count(self, words: &[&[u8]]) -> Option<bool>
         ensures { result ≡ option_map (λ count. length words.now == count) (given_count self (map (λ word. word.now) words.now)) }
@@ -196,7 +216,14 @@ impl CallWord {
     {
         matches!(
             self,
-            CallWord::Wait | CallWord::Waitsome | CallWord::PassiveSend | CallWord::PassiveReceive
+            CallWord::Wait
+                | CallWord::Waitsome
+                | CallWord::PassiveSend
+                | CallWord::PassiveReceive
+                | CallWord::Commit
+                | CallWord::Barrier
+                | CallWord::Allreduce
+                | CallWord::Create
         )
     }
 }

@@ -2,10 +2,22 @@
 
 ghost use Rattle.std.specs.Prelude.{◌≡◌, ◌++◌, take, length, OnOk, OnErr};
 ghost use Rattle.call_texts.specs.CallText.{call_text};
+ghost use Rattle.gaspi_types.specs.declared.calls.Call.TheVariants as calls;
 
 use crate::call_words::CallWord;
-use crate::words_written::{append_bytes, append_line, append_list};
-use gaspi_types::{Bytes, Call, NoMemory};
+use crate::elements::{append_typed, op_word};
+use crate::words_written::{append_bytes, append_line, append_list, append_word};
+use gaspi_types::{Allreduce, Bytes, Call, NoMemory};
+
+/// Adds the text of an allreduce. Without memory the text keeps its front.
+fn append_allreduce(text: &mut Bytes, call: &Allreduce) -> Result<(), NoMemory>
+    ensures ok { OnOk result (text.new ≡ text.old ++ call_text (calls.Allreduce call.now)) }
+    ensures err { OnErr result (take (length text.old) text.new ≡ text.old) }
+{
+    append_line(text, CallWord::Allreduce.spelling(), &[call.group])?;
+    append_word(text, op_word(call.op))?;
+    append_typed(text, &call.values)
+}
 
 /// Adds the text of a call. Without memory the text keeps its front.
 fn append_call(text: &mut Bytes, call: &Call) -> Result<(), NoMemory>
@@ -164,6 +176,14 @@ fn append_call(text: &mut Bytes, call: &Call) -> Result<(), NoMemory>
             text,
             CallWord::GroupDelete.spelling(),
             &[call.group],
+        ),
+        Call::Commit(call) => append_line(text, CallWord::Commit.spelling(), &[call.group]),
+        Call::Barrier(call) => append_line(text, CallWord::Barrier.spelling(), &[call.group]),
+        Call::Allreduce(call) => append_allreduce(text, call),
+        Call::Create(call) => append_line(
+            text,
+            CallWord::Create.spelling(),
+            &[call.seg, call.size, call.group],
         ),
         Call::State => text.append(CallWord::State.spelling()),
         Call::End => text.append(b"end"),

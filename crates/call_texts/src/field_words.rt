@@ -2,13 +2,15 @@
 
 ghost use Rattle.std.specs.Prelude.{◌≡◌, ◌==◌, map, length, IfOk, OnErr, true};
 ghost use Rattle.std.specs.Option.{option_map};
-ghost use Rattle.call_texts.specs.Fields.{item_taken, field_taken};
+ghost use Rattle.call_texts.specs.Elements.{type_of};
+ghost use Rattle.call_texts.specs.Fields.{first_spells, item_taken, words_taken, field_taken};
 ghost use Rattle.call_texts.specs.FieldWords.{words_in};
-ghost use Rattle.call_texts.specs.declared.fields.Field.TheVariants.{Number, Value, Bytes, Items};
+ghost use Rattle.call_texts.specs.declared.fields.Field.TheVariants.{Number, Value, Bytes, Items, Operation, Elements};
 
+use crate::elements::{read_elements, read_op, read_type};
 use crate::hexes::read_bytes;
 use crate::numbers::{read_number, read_value};
-use gaspi_types::{Bytes, Item, NoMemory, Rows};
+use gaspi_types::{Bytes, Item, NoMemory, NumType, Numbers, Op, Rows};
 use std::alloc::Global;
 
 /// The words of fields that were not taken yet.
@@ -95,5 +97,59 @@ impl<'b, 'a> FieldWords<'b, 'a> {
             items.push(item)?;
         }
         Ok(Some(items))
+    }
+
+    /// The operation that the first word stands for, which is taken.
+    pub(crate) fn operation(&mut self) -> Option<Op>
+        ensures { option_map (λ op. (op, words_in self.new)) result ≡ field_taken Operation (words_in self.old) }
+    {
+        let [word, words @ ..] = self.words else {
+            return None;
+        };
+        self.words = words;
+        read_op(word)
+    }
+
+    /// The type that the first word stands for, which is taken.
+    fn num_type(&mut self) -> Option<NumType>
+        ensures { option_map (λ t. (t, words_in self.new)) result ≡ first_spells type_of (words_in self.old) }
+    {
+        let [word, words @ ..] = self.words else {
+            return None;
+        };
+        self.words = words;
+        read_type(word)
+    }
+
+    /// So many words in front, which are taken, where there are as many.
+    fn front(&mut self, count: u64) -> Option<&'b [&'a [u8]]>
+        ensures { option_map (λ front. (map (λ word. word.now) front.now, words_in self.new)) result ≡ words_taken count (words_in self.old) }
+    {
+        if count > self.words.len() as u64 {
+            return None;
+        }
+        let front = &self.words[..count as usize];
+        self.words = &self.words[count as usize..];
+        Some(front)
+    }
+
+    /// The numbers that the words behind their type and their number spell, which are taken. However large the number is,
+    /// memory is taken for no more numbers than there are words.
+    pub(crate) fn elements(&mut self, alloc: Global) -> Result<Option<Numbers>, NoMemory>
+        ensures { IfOk result (λ numbers. option_map (λ n. (n, words_in self.new)) numbers ≡ field_taken Elements (words_in self.old)) }
+    {
+        let Some(num_type) = self.num_type() else {
+            return Ok(None);
+        };
+        let Some(count) = self.number() else {
+            return Ok(None);
+        };
+        let Some(front) = self.front(count) else {
+            return Ok(None);
+        };
+        let Some(items) = read_elements(alloc, num_type, front)? else {
+            return Ok(None);
+        };
+        Ok(Some(Numbers::new(num_type, items)))
     }
 }

@@ -11,4 +11,8 @@ pub enum Field {
     Bytes,
     /// The number of a list's items, and five numbers for each of them.
     Items,
+    /// What an allreduce makes of its numbers. (GASPI: allreduce)
+    Operation,
+    /// A type of numbers, how many there are, and these, each in the type's range. (GASPI: allreduce)
+    Elements,
 }

@@ -7,7 +7,8 @@ ghost use Rattle.call_texts.specs.Fields.{field_words, form_words};
 use crate::fields::Field;
 use crate::numbers::read_number;
 
-/// How many of the words in front a field takes. None where the number of its items is not of the form of a number.
+/// How many of the words in front a field takes. None where the number of its items or elements is not of the form of a
+/// number.
 fn word_count(field: Field, words: &[&[u8]]) -> Option<u128>
     ensures { result ≡ field_words field (map (λ word. word.now) words.now) }
 {
@@ -16,6 +17,11 @@ fn word_count(field: Field, words: &[&[u8]]) -> Option<u128>
             let items = read_number(word)?;
             Some(1 + 5 * u128::from(items))
         }
+        (Field::Elements, [_, word, ..]) => {
+            let elements = read_number(word)?;
+            Some(2 + u128::from(elements))
+        }
+        (Field::Elements, _) => Some(2),
         _ => Some(1),
     }
 }

@@ -6,6 +6,7 @@ mod call_fields;
 mod call_reading;
 mod call_words;
 mod call_writing;
+mod elements;
 mod field_words;
 mod fields;
 mod form_counts;
@@ -19,12 +20,13 @@ pub use blanks::{set_words, words};
 pub use call_reading::{read_arguments, read_call, read_call_words, read_recorded_call};
 pub use call_words::CallWord;
 pub use call_writing::write_call;
+pub use elements::{append_elements, op_word, read_elements, read_op, read_type, type_word};
 pub use hexes::{read_bytes, write_bytes};
 pub use numbers::{read_number, read_value, write_number};
 pub use ranges::{bytes_are_in_range, call_is_in_range};
 pub use text_laws::{
-    bytes_read_back, calls_read_back, numbers_read_back, read_words_are_counted,
-    read_words_are_in_range, timeouts_are_those_of_rows, words_read_back, words_spell_no_end,
-    written_words_are_plain,
+    bytes_read_back, calls_read_back, elements_read_back, numbers_read_back,
+    read_words_are_counted, read_words_are_in_range, timeouts_are_those_of_rows, words_read_back,
+    words_spell_no_end, written_words_are_plain,
 };
 pub use words_written::{append_bytes, append_line, append_numbers, append_word};

@@ -3,13 +3,14 @@
 ghost use Rattle.hex.specs.Hex.{IsBytes};
 ghost use Rattle.call_texts.specs.CallText.{IsWritable};
 ghost use Rattle.call_texts.specs.Fields.{IsInRange, IsItemInRange};
-ghost use Rattle.call_texts.specs.declared.fields.Field.TheVariants.{Items};
+ghost use Rattle.call_texts.specs.declared.fields.Field.TheVariants.{Items, Elements};
 ghost use Rattle.gaspi_types.specs.declared.calls.Call.TheVariants as calls;
 
 use gaspi_types::{
-    Alloc, Call, CompareSwap, Delete, FetchAdd, GroupAdd, GroupDelete, Item, Load, Notify,
-    PassiveReceive, PassiveSend, Purge, Qsize, Read, ReadList, ReadListNotify, ReadNotify,
-    Register, Reset, Store, Wait, Waitsome, Write, WriteList, WriteListNotify, WriteNotify,
+    Alloc, Allreduce, Barrier, Call, Commit, CompareSwap, Create, Delete, FetchAdd, GroupAdd,
+    GroupDelete, Item, Load, Notify, Numbers, PassiveReceive, PassiveSend, Purge, Qsize, Read,
+    ReadList, ReadListNotify, ReadNotify, Register, Reset, Store, Wait, Waitsome, Write, WriteList,
+    WriteListNotify, WriteNotify,
 };
 
 /// Bytes are below 256.
@@ -29,6 +30,13 @@ fn items_are_in_range(items: &[Item])
     for item in items {
         item_is_in_range(*item);
     }
+}
+
+/// Numbers of a type are in its range, and how many there are is in that of its own.
+fn numbers_are_in_range(numbers: &Numbers)
+    ensures { IsInRange Elements numbers.now }
+{
+    let _read = numbers.items().len();
 }
 
 /// The numbers of a write with a notification are those of their types.
@@ -188,6 +196,22 @@ pub fn call_is_in_range(call: &Call)
         }
         Call::GroupDelete(GroupDelete { group }) => {
             let _read = *group;
+        }
+        Call::Commit(Commit { group }) | Call::Barrier(Barrier { group }) => {
+            let _read = *group;
+        }
+        Call::Allreduce(
+            Allreduce {
+                group,
+                op: _,
+                values,
+            },
+        ) => {
+            let _read = *group;
+            numbers_are_in_range(values);
+        }
+        Call::Create(Create { seg, size, group }) => {
+            let _read = (*seg, *size, *group);
         }
         Call::GroupCreate | Call::State | Call::End => {}
     }

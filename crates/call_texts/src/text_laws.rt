@@ -1,13 +1,17 @@
 //! Laws of the texts. Each is a function without a body: what it ensures is the law.
 
-ghost use Rattle.std.specs.Prelude.{◌≡◌, ◌≢◌, ◌^◌, ◌<◌, ℕ, List, length, Some, true};
-ghost use Rattle.std.specs.Fmt.{decimal};
+ghost use Rattle.std.specs.Prelude.{◌≡◌, ◌≢◌, ◌^◌, ◌<◌, ℕ, ℤ, List, length, map, Some, true};
+ghost use Rattle.std.specs.Fmt.{decimal, signed_decimal};
 ghost use Rattle.std.specs.List.{AllByRecursion, join_with_byte};
 ghost use Rattle.hex.specs.Hex.{IsBytes};
 ghost use Rattle.call_texts.specs.CallText.{call_by, call_of, recorded_call_of, call_of_text, call_with, form_of, arguments_of, has_timeout, words_of_call, call_text, IsWritable};
+ghost use Rattle.call_texts.specs.Elements.{type_word, op_word, type_of, op_of, elements_of};
 ghost use Rattle.call_texts.specs.Fields.{Fields};
 ghost use Rattle.call_texts.specs.declared.call_words.CallWord.{CallWord};
 ghost use Rattle.gaspi_types.specs.CallRows.{row_of};
+ghost use Rattle.gaspi_types.specs.NumberTypes.{AreInType};
+ghost use Rattle.gaspi_types.specs.declared.collectives.NumType.{NumType};
+ghost use Rattle.gaspi_types.specs.declared.collectives.Op.{Op};
 ghost use Rattle.gaspi_types.specs.declared.calls.Call.{Call};
 ghost use Rattle.gaspi_types.specs.declared.calls.Call.TheVariants.{End};
 ghost use Rattle.call_texts.specs.Hex.{bytes_of, hex_text};
@@ -30,6 +34,13 @@ pub fn bytes_read_back()
     ensures { (bytes : List ℕ) → IsBytes bytes → bytes_of (hex_text bytes) ≡ Some bytes }
 {}
 
+/// A type, an operation, and numbers of a type in decimal read back as these.
+pub fn elements_read_back()
+    ensures num_type { (t : NumType) → type_of (type_word t) ≡ Some t }
+    ensures op { (op : Op) → op_of (op_word op) ≡ Some op }
+    ensures elements { (t : NumType) (items : List ℤ) → AreInType t items → elements_of t (map signed_decimal items) ≡ Some items }
+{}
+
 /// A call in the one form that is written reads back as that call, and so do its words.
 pub fn calls_read_back()
     ensures text { (call : Call) → IsWritable call → call_of_text (call_text call) ≡ Some call }
@@ -42,9 +53,11 @@ pub fn words_spell_no_end()
     ensures words { (words : List (List ℕ)) (call : Call) → call_of words ≡ Some call → call ≢ End }
 {}
 
-/// The words that spell a call are as many as its form takes of them, so none that spells one is miscounted.
+/// The words that spell a call are as many as its form takes of them, so none that spells one is miscounted; and the words that
+/// spell elements are as many as these.
 pub fn read_words_are_counted()
-    ensures { (word : CallWord) (words : List (List ℕ)) (call : Call) → call_by word words ≡ Some call → arguments_of word words ≡ Some (length words) }
+    ensures elements { (t : NumType) (words : List (List ℕ)) (items : List ℤ) → elements_of t words ≡ Some items → length items ≡ length words }
+    ensures call { (word : CallWord) (words : List (List ℕ)) (call : Call) → call_by word words ≡ Some call → arguments_of word words ≡ Some (length words) }
 {}
 
 /// A word's call has a timeout where the call's row says so. (GASPI: timeouts)
@@ -57,13 +70,14 @@ pub fn read_words_are_in_range()
     ensures number { (word : List ℕ) (n : ℕ) → number_of word ≡ Some n → n < 2 ^ 64 }
     ensures value { (word : List ℕ) (n : ℕ) → value_of word ≡ Some n → n < 2 ^ 32 }
     ensures bytes { (word bytes : List ℕ) → bytes_of word ≡ Some bytes → IsBytes bytes }
+    ensures elements { (t : NumType) (words : List (List ℕ)) (items : List ℤ) → elements_of t words ≡ Some items → AreInType t items }
     ensures call { (words : List (List ℕ)) (call : Call) → recorded_call_of words ≡ Some call → IsWritable call }
 {}
 
-/// What is written are plain words: a number is of digits, and bytes and calls are of digits, lower-case letters, `_`
-/// and `-`.
+/// What is written are plain words: a number is of digits, and bytes, elements and calls are of digits, letters, `_` and `-`.
 pub fn written_words_are_plain()
     ensures number { (n : ℕ) → n < 2 ^ 64 → is_numeral (decimal n) ≡ true }
     ensures bytes { (bytes : List ℕ) → IsBytes bytes → IsPlainWord (hex_text bytes) }
+    ensures elements { (t : NumType) (items : List ℤ) → AreInType t items → AllByRecursion IsPlainWord (map signed_decimal items) }
     ensures call { (call : Call) → IsWritable call → AllByRecursion IsPlainWord (words_of_call call) }
 {}

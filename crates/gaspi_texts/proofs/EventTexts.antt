@@ -1,5 +1,5 @@
 -- An event's text, read back.
-use Rattle.std.proofs.Common.{◌≡◌, ℕ, ◌^◌, ◌<◌, Bool, true, false, ◌==◌, nat_lt, codes, List, [], ◌∷◌, ◌++◌, Some, Decides, lit<, refl, sym, ap, subst, ◌∙◌, arith}
+use Rattle.std.proofs.Common.{◌≡◌, ℕ, ◌^◌, ◌<◌, Bool, true, false, ◌==◌, nat_lt, codes, List, [], ◌∷◌, Some, Decides, lit<, refl, sym, ap, subst, ◌∙◌, arith}
 use Rattle.std.specs.Char.{is_ascii_digit}
 use Rattle.std.specs.Fmt.{decimal}
 use Rattle.std.specs.List.{All, AllByRecursion, AllPass}
@@ -9,19 +9,19 @@ use Rattle.std.proofs.lemmas.Bool.Decides.{nat_tests}
 use Rattle.std.proofs.lemmas.List.Elements.{All-nil, All-cons, All-weaker}
 use Rattle.std.proofs.lemmas.Slice.Eq.{bytes_eq-Decides}
 use Rattle.gaspi_types.specs.declared.events.Event.{Event}
-use Rattle.gaspi_types.specs.declared.events.Event.TheVariants.{Called, Take, Put}
+use Rattle.gaspi_types.specs.declared.events.Event.TheVariants.{Called, Joined, Take, Put}
 use Rattle.gaspi_types.specs.declared.events.Outcome.{Outcome}
 use Rattle.gaspi_types.specs.declared.events.Outcome.TheVariants.{Applied, Failed}
 use Rattle.gaspi_types.specs.declared.shapes.CallerId.{CallerId}
 use Rattle.call_texts.specs.CallText.{words_of_call}
 use Rattle.gaspi_texts.specs.EventText.{arrow, caller_word, outcome_word, words_of_event, event_text, IsInEventRange}
-use Rattle.gaspi_texts.specs.EventReading.{number_below, outcome_of, caller_of, called_of, moved_of, event_of}
+use Rattle.gaspi_texts.specs.EventReading.{number_below, outcome_of, caller_of, called_of, joined_of, moved_of, event_of}
 use Rattle.gaspi_texts.specs.ReplyText.{words_of_reply}
 use Rattle.call_texts.specs.Words.{words_of, is_plain, IsPlainWord}
 use Rattle.gaspi_texts.specs.CallLaws.{CallLaws}
-use Rattle.gaspi_texts.proofs.GraphicWords.{digits_pass, small_word, fixed_word, plain_words, caller_word-parts, caller_graphic}
+use Rattle.gaspi_texts.proofs.GraphicWords.{digits_pass, small_word, fixed_word, plain_words, both_graphic, caller_word-parts, caller_graphic}
 use Rattle.gaspi_texts.proofs.Places.{position_at, take_before, drop_behind}
-use Rattle.gaspi_texts.proofs.ReplyTexts.{reply_of-words, words_of_reply-graphic}
+use Rattle.gaspi_texts.proofs.ReplyTexts.{args_of-words, args_graphic, reply_of-words, words_of_reply-graphic}
 use Rattle.gaspi_texts.proofs.WordTexts.{is_graphic, IsGraphic, words_of-graphic, join-no_line_feed}
 
 -- The words of a call are no arrows.
@@ -61,10 +61,6 @@ unfolding is_graphic
 outcome_graphic Applied = fixed_word (codes "ok") (lit< tt) refl
 outcome_graphic Failed = fixed_word (codes "failed") (lit< tt) refl
 
-both_graphic : (words others : List (List ℕ)) → AllByRecursion IsGraphic words → AllByRecursion IsGraphic others → AllByRecursion IsGraphic (words ++ others)
-both_graphic [] others first second = second
-both_graphic (word ∷ words) others first second = (first.0, both_graphic words others first.1 second)
-
 -- Events, by the laws of the texts of calls.
 
 module _ (laws : CallLaws) where
@@ -80,9 +76,11 @@ module _ (laws : CallLaws) where
       rw (caller_word-parts c, position_at (λ byte. byte == 46) (decimal c.rank) 46 (decimal c.thread) digits refl, take_before (decimal c.rank) 46 (decimal c.thread), drop_behind (decimal c.rank) 46 (decimal c.thread), number_below-decimal 16 c.rank rank (omega arith), number_below-decimal 4 c.thread thread (omega arith)) refl
 
   pub event_of-words : (e : Event) → IsInEventRange e → event_of (words_of_event e) ≡ Some e
-  unfolding event_of called_of moved_of words_of_event
+  unfolding event_of called_of joined_of moved_of words_of_event
   event_of-words (Called c call reply) h =
       rw (caller_of-word c h.0 h.1, position_at (λ w. bytes_eq arrow w) (words_of_call call) arrow (words_of_reply reply) (no_arrows (words_of_call call) (laws.call_plain call h.2)) refl, take_before (words_of_call call) arrow (words_of_reply reply), drop_behind (words_of_call call) arrow (words_of_reply reply), laws.call call h.2, reply_of-words laws reply h.3) refl
+  event_of-words (Joined c group args) h =
+      rw (caller_of-word c h.0 h.1, number_below-decimal 8 group h.2 (omega (arith, h.2)), args_of-words laws args h.3) refl
   event_of-words (Take origin queue target number outcome) h =
       rw (number_below-decimal 16 origin h.0 (omega (arith, h.0)), number_below-decimal 8 queue h.1 (omega (arith, h.1)), number_below-decimal 16 target h.2 (omega (arith, h.2)), laws.value number h.3, outcome_of-word outcome) refl
   event_of-words (Put origin queue target number outcome) h =
@@ -92,6 +90,8 @@ module _ (laws : CallLaws) where
   unfolding words_of_event is_graphic
   words_of_event-graphic (Called c call reply) h =
       (fixed_word (codes "called") (lit< tt) refl, (caller_graphic laws c h.0 h.1, both_graphic (words_of_call call) (arrow ∷ words_of_reply reply) (plain_words (words_of_call call) (laws.call_plain call h.2)) (fixed_word arrow (lit< tt) refl, words_of_reply-graphic laws reply h.3)))
+  words_of_event-graphic (Joined c group args) h =
+      (fixed_word (codes "joined") (lit< tt) refl, (caller_graphic laws c h.0 h.1, (small_word laws group (omega (arith, h.2)), args_graphic laws args h.3)))
   words_of_event-graphic (Take origin queue target number outcome) h =
       (fixed_word (codes "take") (lit< tt) refl, (small_word laws origin (omega (arith, h.0)), (small_word laws queue (omega (arith, h.1)), (small_word laws target (omega (arith, h.2)), (small_word laws number h.3, (outcome_graphic outcome, tt))))))
   words_of_event-graphic (Put origin queue target number outcome) h =

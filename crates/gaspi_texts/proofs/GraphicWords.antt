@@ -1,7 +1,7 @@
 -- The words that are written are of bytes behind the space.
-use Rattle.std.proofs.Common.{◌≡◌, ℕ, ℤ, pos, negsuc, ◌^◌, ◌<◌, true, List, [], ◌∷◌, ◌++◌, length, suc, refl, arith, length-append, append_assoc}
+use Rattle.std.proofs.Common.{◌≡◌, ℕ, ◌^◌, ◌<◌, true, List, [], ◌∷◌, ◌++◌, length, refl, arith, length-append, append_assoc}
 use Rattle.std.specs.Char.{is_ascii_digit}
-use Rattle.std.specs.Fmt.{decimal, signed_decimal}
+use Rattle.std.specs.Fmt.{decimal}
 use Rattle.std.specs.List.{AllByRecursion, AllPass, list_all}
 use Rattle.std.proofs.lemmas.Bool.Decides.{nat_tests}
 use Rattle.std.proofs.lemmas.List.Elements.{All-cons, All-append, All-weaker}
@@ -42,16 +42,15 @@ numeral_filled word pass = grind (arith, nat_tests)
 numeral_digits : (word : List ℕ) → is_numeral word ≡ true → list_all is_ascii_digit word ≡ true
 numeral_digits word pass = grind (arith, nat_tests)
 
--- a number whose digits are read as 64 bits
-unfoldable pub IsWide : ℤ → Type 0
-IsWide (pos n) = n < 2 ^ 64
-IsWide (negsuc n) = suc n < 2 ^ 64
+pub both_graphic : (words others : List (List ℕ)) → AllByRecursion IsGraphic words → AllByRecursion IsGraphic others → AllByRecursion IsGraphic (words ++ others)
+both_graphic [] others first second = second
+both_graphic (word ∷ words) others first second = (first.0, both_graphic words others first.1 second)
 
 pub caller_word-parts : (c : CallerId) → caller_word c ≡ decimal c.rank ++ (46 ∷ decimal c.thread)
 caller_word-parts c = append_assoc (decimal c.rank) (46 ∷ []) (decimal c.thread)
 
 module _ (laws : CallLaws) where
-  pub are_digits : (n : ℕ) → n < 2 ^ 64 → list_all is_ascii_digit (decimal n) ≡ true
+  are_digits : (n : ℕ) → n < 2 ^ 64 → list_all is_ascii_digit (decimal n) ≡ true
   are_digits n small = numeral_digits (decimal n) (laws.number_plain n small)
 
   pub digits_pass : (n : ℕ) → n < 2 ^ 64 → AllPass is_ascii_digit (decimal n)
@@ -69,12 +68,6 @@ module _ (laws : CallLaws) where
 
   pub hex_word : (bytes : List ℕ) → IsBytes bytes → IsGraphic (hex_text bytes)
   hex_word bytes small = plain_word (hex_text bytes) (laws.bytes_plain bytes small)
-
-  pub signed_word : (z : ℤ) → IsWide z → IsGraphic (signed_decimal z)
-  unfolding IsWide is_graphic
-  signed_word (pos n) wide = number_word n wide
-  signed_word (negsuc n) wide =
-      record { filled = omega arith; graphic = All-cons (λ byte. is_graphic byte ≡ true) 45 (decimal (suc n)) refl (number_graphic (suc n) wide) }
 
   pub caller_graphic : (c : CallerId) → c.rank < 16 → c.thread < 4 → IsGraphic (caller_word c)
   unfolding is_graphic

@@ -1,9 +1,9 @@
 -- What words spell is in range.
-use Rattle.std.proofs.Common.{◌≡◌, ℕ, ℤ, ◌+◌, ◌^◌, ◌<◌, Bool, true, false, ◌==◌, if◌then◌else◌, nat_lt, List, [], ◌∷◌, take, drop, position, codes, Option, Some, None, IfSome, refl, sym, subst, arith, rules}
+use Rattle.std.proofs.Common.{◌≡◌, ℕ, ◌+◌, ◌^◌, ◌<◌, Bool, true, false, ◌==◌, if◌then◌else◌, nat_lt, List, [], ◌∷◌, length, take, drop, position, codes, Option, Some, None, IfSome, refl, sym, subst, ◌∙◌, arith, rules}
 use Rattle.std.specs.List.{AllByRecursion}
 use Rattle.std.specs.Option.{option_map}
 use Rattle.std.specs.Str.{bytes_eq}
-use Rattle.std.proofs.lemmas.Bool.Decides.{nat_tests}
+use Rattle.std.proofs.lemmas.Bool.Decides.{nat_tests, Decides-eqb}
 use Rattle.hex.specs.Hex.{IsBytes}
 use Rattle.gaspi_types.specs.Replies.{refusal_fields, coll_fields, stage_number, op_number, type_number}
 use Rattle.gaspi_types.specs.declared.calls.Call.{Call}
@@ -13,27 +13,31 @@ use Rattle.gaspi_types.specs.declared.collectives.Op.{Op}
 use Rattle.gaspi_types.specs.declared.collectives.Op.TheVariants.{Min, Max, Sum}
 use Rattle.gaspi_types.specs.declared.collectives.Stage.{Stage}
 use Rattle.gaspi_types.specs.declared.collectives.Stage.TheVariants.{Building, Committed}
-use Rattle.gaspi_types.specs.declared.collectives.Coll.TheVariants.{Allreduce, Create, Commit}
+use Rattle.gaspi_types.specs.declared.collectives.Coll.{Coll}
+use Rattle.gaspi_types.specs.declared.collectives.Coll.TheVariants.{Barrier, Allreduce, Create, Commit}
+use Rattle.gaspi_types.specs.declared.groups.Args.{Args}
 use Rattle.gaspi_types.specs.declared.replies.Reply.{Reply}
 use Rattle.gaspi_types.specs.declared.replies.Reply.TheVariants as replies
 use Rattle.gaspi_types.specs.declared.shapes.CallerId.{CallerId}
 use Rattle.gaspi_types.specs.declared.events.Event.{Event}
-use Rattle.gaspi_types.specs.declared.events.Event.TheVariants.{Called}
+use Rattle.gaspi_types.specs.declared.events.Event.TheVariants.{Called, Joined}
 use Rattle.gaspi_types.specs.declared.events.Outcome.{Outcome}
 use Rattle.call_texts.specs.CallText.{recorded_call_of, IsWritable}
-use Rattle.call_texts.specs.Fields.{◌>>=◌, IsNumber}
+use Rattle.call_texts.specs.Fields.{IsNumber}
+use Rattle.call_texts.specs.Elements.{type_of, op_of, elements_of}
+use Rattle.call_texts.specs.Steps.{◌>>=◌}
 use Rattle.gaspi_texts.specs.declared.event_reading.Moved.{Moved}
 use Rattle.gaspi_texts.specs.declared.reply_words.ReplyWord.{ReplyWord}
 use Rattle.gaspi_texts.specs.declared.reply_words.ReplyWord.TheVariants as reply_words
 use Rattle.gaspi_texts.specs.CallLaws.{CallLaws}
-use Rattle.gaspi_texts.specs.EventReading.{number_below, outcome_of, caller_of, called_with, called_of, moved_of, taken, put, event_of}
+use Rattle.gaspi_texts.specs.EventReading.{number_below, outcome_of, caller_of, called_with, called_of, joined_of, moved_of, taken, put, event_of}
 use Rattle.gaspi_texts.specs.EventText.{arrow, IsInEventRange}
 use Rattle.call_texts.specs.Hex.{bytes_of}
 use Rattle.call_texts.specs.Numbers.{number_of, value_of}
-use Rattle.gaspi_texts.specs.CollectiveText.{type_of, op_of, stage_of, one_field, allreduce_of, create_of, barrier_of, coll_of}
+use Rattle.gaspi_texts.specs.CollectiveText.{stage_of, one_field, allreduce_of, create_of, barrier_of, coll_of, AreValuesOf, AreArgsInRange, values_of, args_with, args_of}
 use Rattle.gaspi_texts.specs.RefusalText.{RefusalForm, Bare, OneNumber, TwoNumbers, OneStage, OneCollective, Held, numbers_of_held, held_of, RefusalRow, refusal_rows, row_in, refusal_of}
-use Rattle.gaspi_types.specs.NumberTypes.{is_in_type}
-use Rattle.gaspi_texts.specs.ReplyText.{signed_of, element_of, elements_of, plain_reply, value_reply, bytes_reply, list_reply, refused_reply, reply_word_of, reply_with, reply_of, IsInRange}
+use Rattle.gaspi_types.specs.NumberTypes.{AreInType}
+use Rattle.gaspi_texts.specs.ReplyText.{plain_reply, value_reply, bytes_reply, list_reply, refused_reply, reply_word_of, reply_with, reply_of, IsInRange}
 
 -- Steps that may find nothing.
 
@@ -62,9 +66,9 @@ guarded : (P : ℕ → Type 0) (b : Bool) (n : ℕ) → (b ≡ true → P n) →
 guarded P true n h = h refl
 guarded P false n h = tt
 
-guarded_int : (P : ℤ → Type 0) (b : Bool) (z : ℤ) → (b ≡ true → P z) → IfSome (if b then Some z else None) P
-guarded_int P true z h = h refl
-guarded_int P false z h = tt
+allowed : {A : Type 0} (P : A → Type 0) (b : Bool) (o : Option A) → (b ≡ true → IfSome o P) → IfSome (if b then o else None) P
+allowed P true o h = h refl
+allowed P false o h = tt
 
 -- what holds of each value that an option can be
 held : {A : Type 0} (P : A → Type 0) (o : Option A) → ((x : A) → o ≡ Some x → P x) → IfSome o P
@@ -83,16 +87,6 @@ rows-fair = search rules
 row_in-fair : (number : ℕ) (rows : List (ℕ × RefusalRow)) → AllByRecursion (λ row. IsFair row.1) rows → IfSome (row_in number rows) IsFair
 row_in-fair number [] h = tt
 row_in-fair number (row ∷ rows) h = either IsFair (number == row.0) (Some row.1) (row_in number rows) h.0 (row_in-fair number rows h.1)
-
--- Elements.
-
-pub elements_of-range : (t : NumType) (words : List (List ℕ)) → IfSome (elements_of t words) (λ items. AllByRecursion (λ z. is_in_type t z ≡ true) items)
-unfolding element_of
-elements_of-range t [] = tt
-elements_of-range t (word ∷ words) =
-    bound (λ z. is_in_type t z ≡ true) (λ items. AllByRecursion (λ z. is_in_type t z ≡ true) items) (element_of t word) (λ z. elements_of t words >>= λ rest. Some (z ∷ rest))
-    (bound (λ z. Unit {0}) (λ z. is_in_type t z ≡ true) (signed_of word) (λ z. if is_in_type t z then Some z else None) (anything (signed_of word)) (λ z h. guarded_int (λ y. is_in_type t y ≡ true) (is_in_type t z) z (λ e. e)))
-    (λ z h. bound (λ items. AllByRecursion (λ y. is_in_type t y ≡ true) items) (λ items. AllByRecursion (λ y. is_in_type t y ≡ true) items) (elements_of t words) (λ rest. Some (z ∷ rest)) (elements_of-range t words) (λ rest more. (h, more)))
 
 module _ (laws : CallLaws) where
   -- Numbers, bytes and calls.
@@ -163,6 +157,31 @@ module _ (laws : CallLaws) where
       (either _ (bytes_eq (codes "create") word) _ _ (create_of-range arguments)
       (either _ (bytes_eq (codes "commit") word) _ None (commit_range (one_field arguments) (one_field-range arguments)) tt)))
 
+  values_range : (c : Coll) (words : List (List ℕ)) → IfSome (values_of c words) (λ values. AreInType values.num_type values.items × AreValuesOf c values)
+  values_range Barrier words = (tt, refl)
+  values_range (Allreduce op num_type count) words =
+      bound (λ items. AreInType num_type items × (length items ≡ count)) (λ values. AreInType values.num_type values.items × AreValuesOf (Allreduce op num_type count) values)
+      (if length words == count then elements_of num_type words else None) (λ items. Some (record { num_type = num_type; items = items }))
+      (allowed (λ items. AreInType num_type items × (length items ≡ count)) (length words == count) (elements_of num_type words) (λ same.
+      held (λ items. AreInType num_type items × (length items ≡ count)) (elements_of num_type words) (λ items spelled.
+      (laws.elements_range num_type words items spelled, laws.elements_counted num_type words items spelled ∙ (Decides-eqb (length words) count).0 same))))
+      (λ items h. (h.0, (refl, h.1)))
+  values_range (Create segment size) words = (tt, refl)
+  values_range (Commit mask) words = (tt, refl)
+
+  args_with-range : (found : Option Coll) (words : List (List ℕ)) → IfSome found (λ c. AllByRecursion (λ n. n < 2 ^ 32) (coll_fields c))
+      → IfSome (args_with found words) AreArgsInRange
+  args_with-range found words h =
+      bound (λ c. AllByRecursion (λ n. n < 2 ^ 32) (coll_fields c)) AreArgsInRange found (λ c. values_of c words >>= λ values. Some (record { coll = c; values = values })) h
+      (λ c small. bound (λ values. AreInType values.num_type values.items × AreValuesOf c values) AreArgsInRange (values_of c words) (λ values. Some (record { coll = c; values = values }))
+      (values_range c words) (λ values k. record { numbers = small; elements = k.0; own = k.1 }))
+
+  args_of-range : (words : List (List ℕ)) → IfSome (args_of words) AreArgsInRange
+  unfolding args_of
+  args_of-range (first ∷ second ∷ third ∷ fourth ∷ elements) =
+      args_with-range (coll_of (first ∷ second ∷ third ∷ fourth ∷ [])) elements (coll_of-range (first ∷ second ∷ third ∷ fourth ∷ []))
+  args_of-range words = args_with-range (coll_of words) [] (coll_of-range words)
+
   stage_range : (o : Option Stage) → IfSome o (λ stage. AllByRecursion (λ n. n < 2 ^ 32) (stage_number stage ∷ []))
   stage_range (Some stage) = (stage_small stage, tt)
   stage_range None = tt
@@ -214,7 +233,7 @@ module _ (laws : CallLaws) where
   list_reply-range [] = tt
   list_reply-range (word ∷ elements) =
       bound (λ t. Unit {0}) IsInRange (type_of word) (λ t. elements_of t elements >>= λ items. Some (replies.List (record { num_type = t; items = items }))) (anything (type_of word))
-      (λ t h. bound (λ items. AllByRecursion (λ z. is_in_type t z ≡ true) items) IsInRange (elements_of t elements) (λ items. Some (replies.List (record { num_type = t; items = items }))) (elements_of-range t elements) (λ items k. k))
+      (λ t h. bound (AreInType t) IsInRange (elements_of t elements) (λ items. Some (replies.List (record { num_type = t; items = items }))) (held (AreInType t) (elements_of t elements) (laws.elements_range t elements)) (λ items k. k))
 
   refused_reply-range : (arguments : List (List ℕ)) → IfSome (refused_reply arguments) IsInRange
   refused_reply-range [] = tt
@@ -287,6 +306,20 @@ module _ (laws : CallLaws) where
       (λ c h. bound (λ place. Unit {0}) IsInEventRange (position (λ w. bytes_eq arrow w) words) (λ place. called_with c (take place words) (drop (place + 1) words)) (anything (position (λ w. bytes_eq arrow w) words))
       (λ place k. called_with-range c (take place words) (drop (place + 1) words) h.0 h.1))
 
+  joined_range : (caller_found : Option CallerId) (group_found : Option ℕ) (args_found : Option Args)
+      → IfSome caller_found (λ c. (c.rank < 16) × (c.thread < 4)) → IfSome group_found (λ n. n < 8) → IfSome args_found AreArgsInRange
+      → IfSome (caller_found >>= λ c. (group_found >>= λ group. (args_found >>= λ args. Some (Joined c group args)))) IsInEventRange
+  joined_range (Some c) (Some group) (Some args) h k r = (h.0, h.1, k, r)
+  joined_range None group args h k r = tt
+  joined_range (Some c) None args h k r = tt
+  joined_range (Some c) (Some group) None h k r = tt
+
+  joined_of-range : (words : List (List ℕ)) → IfSome (joined_of words) IsInEventRange
+  unfolding joined_of
+  joined_of-range (first ∷ second ∷ words) =
+      joined_range (caller_of first) (number_below 8 second) (args_of words) (caller_of-range first) (number_below-range 8 second) (args_of-range words)
+  joined_of-range other = tt
+
   moved_range : (origin_found queue_found target_found number_found : Option ℕ) (outcome_found : Option Outcome)
       → IfSome origin_found (λ n. n < 16) → IfSome queue_found (λ n. n < 8) → IfSome target_found (λ n. n < 16) → IfSome number_found (λ n. n < 2 ^ 32)
       → IfSome (origin_found >>= λ origin. (queue_found >>= λ queue. (target_found >>= λ target. (number_found >>= λ number. (outcome_found >>= λ outcome. Some (record { origin = origin; queue = queue; target = target; number = number; outcome = outcome }))))))
@@ -309,9 +342,10 @@ module _ (laws : CallLaws) where
   unfolding event_of
   event_of-range [] = tt
   event_of-range (word ∷ arguments) =
-      either IsInEventRange (bytes_eq (codes "called") word) (called_of arguments) (if bytes_eq (codes "take") word then option_map taken (moved_of arguments) else (if bytes_eq (codes "put") word then option_map put (moved_of arguments) else None)) (called_of-range arguments)
-      (either IsInEventRange (bytes_eq (codes "take") word) (option_map taken (moved_of arguments)) (if bytes_eq (codes "put") word then option_map put (moved_of arguments) else None) (mapped IsInEventRange taken (moved_of arguments) (moved_of-range arguments))
-      (either IsInEventRange (bytes_eq (codes "put") word) (option_map put (moved_of arguments)) None (mapped IsInEventRange put (moved_of arguments) (moved_of-range arguments)) tt))
+      either IsInEventRange (bytes_eq (codes "called") word) _ _ (called_of-range arguments)
+      (either IsInEventRange (bytes_eq (codes "joined") word) _ _ (joined_of-range arguments)
+      (either IsInEventRange (bytes_eq (codes "take") word) _ _ (mapped IsInEventRange taken (moved_of arguments) (moved_of-range arguments))
+      (either IsInEventRange (bytes_eq (codes "put") word) _ None (mapped IsInEventRange put (moved_of arguments) (moved_of-range arguments)) tt)))
 
   pub event_in_range : (words : List (List ℕ)) (event : Event) → event_of words ≡ Some event → IsInEventRange event
   event_in_range words event e = in_range_from IsInEventRange (event_of words) event (event_of-range words) e

@@ -1,16 +1,20 @@
 -- Words joined by spaces, and the same words each behind a space.
-use Rattle.std.proofs.Common.{◌≡◌, ℕ, ◌<◌, List, [], ◌∷◌, ◌++◌, length, map, Option, Some, None, codes, refl, sym, ap, ◌∙◌, append-nil, arith}
+use Rattle.std.proofs.Common.{◌≡◌, ℕ, ◌<◌, ◌≤◌, List, [], ◌∷◌, ◌++◌, length, length-append, map, take, Option, Some, None, codes, refl, sym, ap, ◌∙◌, append-nil, arith}
 use Rattle.std.proofs.lemmas.Grind.{flat_map-append}
+use Rattle.std.proofs.lemmas.List.{take-take, take_at}
+use Rattle.std.specs.Fmt.{decimal, signed_decimal}
 use Rattle.std.specs.List.{flat_map, join_with_byte}
 use Rattle.gaspi_types.specs.declared.calls.Call.{Call}
-use Rattle.gaspi_types.specs.declared.events.Event.TheVariants.{Called}
+use Rattle.gaspi_types.specs.declared.events.Event.TheVariants.{Called, Joined}
+use Rattle.gaspi_types.specs.declared.groups.Args.{Args}
 use Rattle.gaspi_types.specs.declared.replies.Reply.{Reply}
 use Rattle.gaspi_types.specs.declared.replies.Reply.TheVariants as replies
 use Rattle.gaspi_types.specs.declared.shapes.CallerId.{CallerId}
 use Rattle.call_texts.specs.CallText.{Spelled, spelled, words_of_spelled, words_of_call, call_text}
+use Rattle.gaspi_texts.specs.CollectiveText.{coll_words, args_words}
 use Rattle.gaspi_texts.specs.EventText.{arrow, caller_word, words_of_event, event_text}
 use Rattle.gaspi_texts.specs.ReplyText.{words_of_reply, reply_text}
-use Rattle.call_texts.specs.Written.{spaced}
+use Rattle.call_texts.specs.Written.{spaced, spaced_elements}
 
 pub join_spaced : (word : List ℕ) (words : List (List ℕ)) → join_with_byte 32 (word ∷ words) ≡ word ++ spaced words
 join_spaced word [] = sym (append-nil word)
@@ -62,3 +66,21 @@ called_text c call reply =
     ∙ ap (λ (rest : List ℕ). codes "called" ++ (32 ∷ (caller_word c ++ rest))) (flat_map-append (λ (word : List ℕ). 32 ∷ word) (words_of_call call) (arrow ∷ words_of_reply reply))
     ∙ ap (λ (rest : List ℕ). codes "called" ++ (32 ∷ (caller_word c ++ (rest ++ spaced (arrow ∷ words_of_reply reply))))) (spaced_call call)
     ∙ ap (λ (rest : List ℕ). codes "called" ++ (32 ∷ (caller_word c ++ (32 ∷ (call_text call ++ (codes " ->" ++ rest)))))) (spaced_reply reply)
+
+-- a collective and its values, each word behind a space
+pub spaced_args : (args : Args) → spaced (args_words args) ≡ spaced (coll_words args.coll) ++ spaced_elements args.values.items
+spaced_args args =
+    flat_map-append (λ (word : List ℕ). 32 ∷ word) (coll_words args.coll) (map signed_decimal args.values.items)
+    ∙ ap (λ (rest : List ℕ). spaced (coll_words args.coll) ++ rest) (spaced-map signed_decimal args.values.items)
+
+-- the text of a join by its parts
+pub joined_text : (c : CallerId) (group : ℕ) (args : Args)
+    → event_text (Joined c group args) ≡ codes "joined" ++ (32 ∷ (caller_word c ++ (32 ∷ (decimal group ++ spaced (args_words args)))))
+unfolding words_of_event
+joined_text c group args = join_spaced (codes "joined") (caller_word c ∷ decimal group ∷ args_words args)
+
+-- what keeps a longer text in front keeps a shorter one
+pub kept_front : (old mid new more : List ℕ) → mid ≡ old ++ more → take (length mid) new ≡ mid → take (length old) new ≡ old
+kept_front old mid new more is kept =
+    let le : length old ≤ length mid = omega (arith, ap length is, length-append old more) in
+    sym (take-take (length old) (length mid) new le) ∙ ap (λ (text : List ℕ). take (length old) text) (kept ∙ is) ∙ take_at old more (length old) refl

@@ -1,4 +1,3 @@
-pub mod Elements
 pub mod EventTexts
 pub mod FoundEvents
 pub mod GraphicWords

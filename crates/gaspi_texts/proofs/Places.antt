@@ -1,5 +1,5 @@
 -- Lists cut at a place, and the first place at which a test passes.
-use Rattle.std.proofs.Common.{◌≡◌, ℕ, ◌+◌, ◌-◌, ◌<◌, ◌≤◌, Bool, true, false, cond, not, List, [], ◌∷◌, ◌++◌, map, length, take, drop, get_or, suc, zero, Some, nat_lt, Bor, refl, ap, arith, length-append}
+use Rattle.std.proofs.Common.{◌≡◌, ℕ, ◌+◌, ◌-◌, ◌≤◌, Bool, true, false, cond, not, List, [], ◌∷◌, ◌++◌, map, length, take, drop, get_or, suc, Some, nat_lt, Bor, refl, ap, arith, length-append}
 use Rattle.std.specs.List.{All, position, position_or_len}
 use Rattle.std.specs.Str.{bytes_eq}
 use Rattle.std.proofs.lemmas.Bool.Decides.{nat_tests}
@@ -8,12 +8,6 @@ use Rattle.std.proofs.lemmas.List.Elements.{All-head, All-tail}
 use Rattle.gaspi_types.specs.declared.shapes.CallerId.{CallerId}
 use Rattle.gaspi_texts.specs.EventText.{arrow}
 use Rattle.gaspi_texts.specs.EventReading.{caller_of, called_with, called_of}
-
-pub cut_map : {A B : Type 0} (f : A → B) (xs : List A) (i : ℕ) (d : A) → i < length xs
-    → map f xs ≡ map f (take i xs) ++ (f (get_or xs i d) ∷ map f (drop (suc i) xs))
-cut_map f [] i d low = absurd (omega arith)
-cut_map f (x ∷ xs) zero d low = refl
-cut_map f (x ∷ xs) (suc i) d low = ap (λ (rest : List _). f x ∷ rest) (cut_map f xs i d (omega arith))
 
 place_map : {A B : Type 0} (p : B → Bool) (f : A → B) (xs : List A) → position_or_len p (map f xs) ≡ position_or_len (λ x. p (f x)) xs
 place_map p f [] = refl

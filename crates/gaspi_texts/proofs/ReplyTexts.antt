@@ -1,10 +1,9 @@
 -- A reply's text, read back.
-use Rattle.std.proofs.Common.{◌≡◌, ℕ, ℤ, pos, negsuc, ◌^◌, ◌<◌, true, false, ◌==◌, codes, List, [], ◌∷◌, map, suc, Some, lit<, refl, sym, ap, subst, ◌∙◌, arith}
-use Rattle.std.specs.Char.{is_ascii_digit}
-use Rattle.std.specs.Fmt.{decimal, signed_decimal}
-use Rattle.std.specs.List.{list_all, AllByRecursion}
-use Rattle.std.specs.Option.{option_map}
-use Rattle.std.proofs.lemmas.Bool.Decides.{nat_tests}
+use Rattle.std.proofs.Common.{◌≡◌, ℕ, ℤ, ◌^◌, ◌<◌, true, ◌==◌, codes, List, ◌++◌, length, map, Some, lit<, refl, sym, ap, subst, ◌∙◌}
+use Rattle.std.specs.Fmt.{signed_decimal}
+use Rattle.std.specs.List.{AllByRecursion}
+use Rattle.std.proofs.lemmas.Bool.Decides.{Decides-eqb}
+use Rattle.std.proofs.lemmas.List.{length-map}
 use Rattle.gaspi_types.specs.Replies.{refusal_number, refusal_fields, coll_fields}
 use Rattle.gaspi_types.specs.declared.collectives.NumType.{NumType}
 use Rattle.gaspi_types.specs.declared.collectives.NumType.TheVariants.{Int, Uint, Long, Ulong, Float, Double}
@@ -18,32 +17,18 @@ use Rattle.gaspi_types.specs.declared.replies.Refusal.{Refusal}
 use Rattle.gaspi_types.specs.declared.replies.Refusal.TheVariants.{BadRank}
 use Rattle.gaspi_types.specs.declared.replies.Reply.{Reply}
 use Rattle.gaspi_types.specs.declared.replies.Reply.TheVariants as replies
-use Rattle.call_texts.specs.Numbers.{number_of}
-use Rattle.gaspi_texts.specs.CollectiveText.{type_word, op_word, stage_word, type_of, op_of, stage_of, coll_words, coll_of}
+use Rattle.gaspi_types.specs.declared.groups.Args.{Args}
+use Rattle.call_texts.specs.Elements.{type_word, op_word}
+use Rattle.gaspi_texts.specs.CollectiveText.{stage_word, stage_of, coll_words, coll_of, AreValuesOf, AreArgsInRange, args_words, args_of}
 use Rattle.gaspi_texts.specs.RefusalText.{RefusalForm, Bare, OneNumber, TwoNumbers, OneStage, OneCollective, Held, numbers_of_held, words_of_held, held_of, RefusalRow, refusal_rows, row_in, refusal_of, Holding, Holds, holding_of, field_words}
-use Rattle.gaspi_types.specs.NumberTypes.{is_in_type}
-use Rattle.gaspi_texts.specs.ReplyText.{signed_of, element_of, elements_of, reply_word_of, words_of_reply, reply_text, reply_of, IsInRange}
+use Rattle.gaspi_types.specs.NumberTypes.{AreInType, TypedNumbers}
+use Rattle.gaspi_texts.specs.ReplyText.{reply_word_of, words_of_reply, reply_text, reply_of, IsInRange}
 use Rattle.call_texts.specs.Words.{words_of}
 use Rattle.gaspi_texts.specs.CallLaws.{CallLaws}
-use Rattle.gaspi_texts.proofs.GraphicWords.{number_word, small_word, fixed_word, hex_word, signed_word, are_digits, IsWide}
+use Rattle.gaspi_texts.proofs.GraphicWords.{number_word, small_word, fixed_word, hex_word, plain_words, both_graphic}
 use Rattle.gaspi_texts.proofs.WordTexts.{is_graphic, IsGraphic, words_of-graphic}
 
--- Types, operations and stages.
-
-type_of-word : (t : NumType) → type_of (type_word t) ≡ Some t
-unfolding type_of
-type_of-word Int = refl
-type_of-word Uint = refl
-type_of-word Long = refl
-type_of-word Ulong = refl
-type_of-word Float = refl
-type_of-word Double = refl
-
-op_of-word : (op : Op) → op_of (op_word op) ≡ Some op
-unfolding op_of
-op_of-word Min = refl
-op_of-word Max = refl
-op_of-word Sum = refl
+-- Stages, types and operations.
 
 stage_of-word : (stage : Stage) → stage_of (stage_word stage) ≡ Some stage
 unfolding stage_of
@@ -94,50 +79,9 @@ refusal_number-small : (r : Refusal) → refusal_number r < 2 ^ 64
 refusal_number-small BadRank = lit< tt
 refusal_number-small r = lit< tt
 
--- Elements.
-
-wide_in_type : (t : NumType) (z : ℤ) → is_in_type t z ≡ true → IsWide z
-unfolding IsWide
-wide_in_type Int (pos n) h = grind (arith, nat_tests)
-wide_in_type Int (negsuc n) h = grind (arith, nat_tests)
-wide_in_type Uint (pos n) h = grind (arith, nat_tests)
-wide_in_type Uint (negsuc n) h = grind (arith, nat_tests)
-wide_in_type Long (pos n) h = grind (arith, nat_tests)
-wide_in_type Long (negsuc n) h = grind (arith, nat_tests)
-wide_in_type Ulong (pos n) h = grind (arith, nat_tests)
-wide_in_type Ulong (negsuc n) h = grind (arith, nat_tests)
-wide_in_type Float (pos n) h = grind (arith, nat_tests)
-wide_in_type Float (negsuc n) h = grind (arith, nat_tests)
-wide_in_type Double (pos n) h = grind (arith, nat_tests)
-wide_in_type Double (negsuc n) h = grind (arith, nat_tests)
-
--- a word of digits has no sign
-signed_of-digits : (word : List ℕ) → list_all is_ascii_digit word ≡ true → signed_of word ≡ option_map pos (number_of word)
-unfolding signed_of number_of
-signed_of-digits [] digits = refl
-signed_of-digits (byte ∷ bytes) digits =
-    let other : (byte == 45) ≡ false = grind (arith, nat_tests) in
-    rw other refl
-
 module _ (laws : CallLaws) where
-  signed_of-decimal : (z : ℤ) → IsWide z → signed_of (signed_decimal z) ≡ Some z
-  unfolding IsWide signed_of
-  signed_of-decimal (pos n) wide = signed_of-digits (decimal n) (are_digits laws n wide) ∙ rw (laws.number n wide) refl
-  signed_of-decimal (negsuc n) wide = rw (laws.number (suc n) wide) refl
-
-  element_of-decimal : (t : NumType) (z : ℤ) → is_in_type t z ≡ true → element_of t (signed_decimal z) ≡ Some z
-  unfolding element_of
-  element_of-decimal t z h = rw (signed_of-decimal z (wide_in_type t z h), h) refl
-
-  elements_of-decimals : (t : NumType) (items : List ℤ) → AllByRecursion (λ z. is_in_type t z ≡ true) items
-      → elements_of t (map signed_decimal items) ≡ Some items
-  elements_of-decimals t [] h = refl
-  elements_of-decimals t (z ∷ items) h = rw (element_of-decimal t z h.0, elements_of-decimals t items h.1) refl
-
-  elements_graphic : (t : NumType) (items : List ℤ) → AllByRecursion (λ z. is_in_type t z ≡ true) items
-      → AllByRecursion IsGraphic (map signed_decimal items)
-  elements_graphic t [] h = tt
-  elements_graphic t (z ∷ items) h = (signed_word laws z (wide_in_type t z h.0), elements_graphic t items h.1)
+  elements_graphic : (t : NumType) (items : List ℤ) → AreInType t items → AllByRecursion IsGraphic (map signed_decimal items)
+  elements_graphic t items h = plain_words (map signed_decimal items) (laws.elements_plain t items h)
 
   -- Refusals.
 
@@ -145,7 +89,7 @@ module _ (laws : CallLaws) where
   unfolding coll_of
   coll_of-words Barrier h = refl
   coll_of-words (Allreduce op num_type count) h =
-      rw (op_of-word op, type_of-word num_type, laws.value count h.1.1.1.0) refl
+      rw (laws.op op, laws.num_type num_type, laws.value count h.1.1.1.0) refl
   coll_of-words (Create segment size) h = rw (laws.value segment h.1.0, laws.value size h.1.1.0) refl
   coll_of-words (Commit mask) h = rw (laws.value mask h.1.0) refl
 
@@ -157,6 +101,26 @@ module _ (laws : CallLaws) where
   coll_graphic (Create segment size) h =
       (fixed_word (codes "create") (lit< tt) refl, (small_word laws segment h.1.0, (small_word laws size h.1.1.0, tt)))
   coll_graphic (Commit mask) h = (fixed_word (codes "commit") (lit< tt) refl, (small_word laws mask h.1.0, tt))
+
+  args_of-values : (c : Coll) (values : TypedNumbers) → AllByRecursion (λ n. n < 2 ^ 32) (coll_fields c) → AreInType values.num_type values.items → AreValuesOf c values
+      → args_of (coll_words c ++ map signed_decimal values.items) ≡ Some (record { coll = c; values = values })
+  unfolding args_of
+  args_of-values Barrier values h range own = rw (own, coll_of-words Barrier h) refl
+  args_of-values (Allreduce op num_type count) values h range own =
+      let counted : (length (map signed_decimal values.items) == count) ≡ true =
+      (Decides-eqb (length (map signed_decimal values.items)) count).1 (length-map values.items signed_decimal ∙ own.1) in
+      let typed : AreInType num_type values.items = subst (λ (t : NumType). AreInType t values.items) own.0 range in
+      rw (coll_of-words (Allreduce op num_type count) h, counted, laws.elements num_type values.items typed)
+      (ap (λ (t : NumType). Some (record { coll = Allreduce op num_type count; values = record { num_type = t; items = values.items } })) (sym own.0))
+  args_of-values (Create segment size) values h range own = rw (own, coll_of-words (Create segment size) h) refl
+  args_of-values (Commit mask) values h range own = rw (own, coll_of-words (Commit mask) h) refl
+
+  pub args_of-words : (args : Args) → AreArgsInRange args → args_of (args_words args) ≡ Some args
+  args_of-words args h = args_of-values args.coll args.values h.numbers h.elements h.own
+
+  pub args_graphic : (args : Args) → AreArgsInRange args → AllByRecursion IsGraphic (args_words args)
+  args_graphic args h =
+      both_graphic (coll_words args.coll) (map signed_decimal args.values.items) (coll_graphic args.coll h.numbers) (elements_graphic args.values.num_type args.values.items h.elements)
 
   held_of-words : (form : RefusalForm) (held : Held form) → AllByRecursion (λ n. n < 2 ^ 32) (numbers_of_held form held)
       → held_of form (words_of_held form held) ≡ Some held
@@ -198,7 +162,7 @@ module _ (laws : CallLaws) where
   reply_of-words (replies.Bytes bytes) h = rw (laws.bytes bytes h) refl
   reply_of-words (replies.Mask mask) h = rw (laws.value mask h) refl
   reply_of-words (replies.List numbers) h =
-      rw (type_of-word numbers.num_type, elements_of-decimals numbers.num_type numbers.items h) refl
+      rw (laws.num_type numbers.num_type, laws.elements numbers.num_type numbers.items h) refl
   reply_of-words replies.Timeout h = refl
   reply_of-words (replies.Refused refusal) h =
       rw (laws.number (refusal_number refusal) (refusal_number-small refusal), refusal_of-words refusal h) refl

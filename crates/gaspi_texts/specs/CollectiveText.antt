@@ -1,46 +1,28 @@
--- The texts of types, operations, stages and collectives. (own choice)
-use Rattle.std.specs.Prelude.{ℕ, List, [], ◌∷◌, Option, Some, None, find, if◌then◌else◌, codes}
-use Rattle.std.specs.Fmt.{decimal}
+-- The texts of stages and collectives. (own choice)
+use Rattle.std.specs.Prelude.{◌≡◌, ◌^◌, ◌<◌, ℕ, ◌==◌, List, [], ◌∷◌, ◌++◌, length, map, Option, Some, None, find, if◌then◌else◌, codes}
+use Rattle.std.specs.Fmt.{decimal, signed_decimal}
+use Rattle.std.specs.List.{AllByRecursion}
 use Rattle.std.specs.Option.{option_map}
 use Rattle.std.specs.Str.{bytes_eq}
-use Rattle.call_texts.specs.Fields.{◌>>=◌}
+use Rattle.call_texts.specs.Elements.{type_word, op_word, type_of, op_of, elements_of}
+use Rattle.call_texts.specs.Steps.{◌>>=◌}
 use Rattle.call_texts.specs.Numbers.{value_of}
-use Rattle.gaspi_types.specs.declared.collectives.NumType.{NumType}
-use Rattle.gaspi_types.specs.declared.collectives.NumType.TheVariants.{Int, Uint, Long, Ulong, Float, Double}
-use Rattle.gaspi_types.specs.declared.collectives.Op.{Op}
-use Rattle.gaspi_types.specs.declared.collectives.Op.TheVariants.{Min, Max, Sum}
+use Rattle.gaspi_types.specs.NumberTypes.{AreInType, TypedNumbers}
+use Rattle.gaspi_types.specs.Replies.{coll_fields}
+use Rattle.gaspi_types.specs.declared.collectives.NumType.TheVariants.{Int}
 use Rattle.gaspi_types.specs.declared.collectives.Stage.{Stage}
 use Rattle.gaspi_types.specs.declared.collectives.Stage.TheVariants.{Building, Committed}
 use Rattle.gaspi_types.specs.declared.collectives.Coll.{Coll}
 use Rattle.gaspi_types.specs.declared.collectives.Coll.TheVariants.{Barrier, Allreduce, Create, Commit}
+use Rattle.gaspi_types.specs.declared.groups.Args.{Args}
 
--- Words that stand for types, operations and stages.
-
-abbrev pub type_word : NumType → List ℕ
-type_word Int = codes "INT"
-type_word Uint = codes "UINT"
-type_word Long = codes "LONG"
-type_word Ulong = codes "ULONG"
-type_word Float = codes "FLOAT"
-type_word Double = codes "DOUBLE"
-
-abbrev pub op_word : Op → List ℕ
-op_word Min = codes "MIN"
-op_word Max = codes "MAX"
-op_word Sum = codes "SUM"
+-- Words that stand for stages.
 
 abbrev pub stage_word : Stage → List ℕ
 stage_word Building = codes "building"
 stage_word Committed = codes "committed"
 
--- the type, operation or stage that a word stands for
-
-unfoldable pub type_of : List ℕ → Option NumType
-type_of word = find (λ t. bytes_eq (type_word t) word) (Int ∷ Uint ∷ Long ∷ Ulong ∷ Float ∷ Double ∷ [])
-
-unfoldable pub op_of : List ℕ → Option Op
-op_of word = find (λ op. bytes_eq (op_word op) word) (Min ∷ Max ∷ Sum ∷ [])
-
+-- the stage that a word stands for
 unfoldable pub stage_of : List ℕ → Option Stage
 stage_of word = find (λ stage. bytes_eq (stage_word stage) word) (Building ∷ Committed ∷ [])
 
@@ -86,3 +68,42 @@ coll_of (word ∷ arguments) =
     else (if bytes_eq (codes "allreduce") word then allreduce_of arguments
     else (if bytes_eq (codes "create") word then create_of arguments
     else (if bytes_eq (codes "commit") word then option_map Commit (one_field arguments) else None)))
+
+-- Collectives with their values, as ranks join them.
+
+-- no values
+abbrev pub no_numbers : TypedNumbers
+no_numbers = record { num_type = Int; items = [] }
+
+-- the values of a collective: those of an allreduce are of its type, and as many as it says; any other has none
+abbrev pub AreValuesOf : Coll → TypedNumbers → Type 0
+AreValuesOf (Allreduce op num_type count) values = (values.num_type ≡ num_type) × (length values.items ≡ count)
+AreValuesOf coll values = values ≡ no_numbers
+
+-- the numbers are those of their types
+pub record AreArgsInRange (args : Args) : Type 0 where
+  pub numbers : AllByRecursion (λ n. n < 2 ^ 32) (coll_fields args.coll)
+  pub elements : AreInType args.values.num_type args.values.items
+  pub own : AreValuesOf args.coll args.values
+
+-- the values stand behind the kind and the other arguments
+abbrev pub args_words : Args → List (List ℕ)
+args_words args = coll_words args.coll ++ map signed_decimal args.values.items
+
+-- the values that words spell
+abbrev pub values_of : Coll → List (List ℕ) → Option TypedNumbers
+values_of (Allreduce op num_type count) words = do
+  items ← if length words == count then elements_of num_type words else None
+  Some (record { num_type = num_type; items = items })
+values_of coll words = Some no_numbers
+
+abbrev pub args_with : Option Coll → List (List ℕ) → Option Args
+args_with found words = do
+  coll ← found
+  values ← values_of coll words
+  Some (record { coll = coll; values = values })
+
+-- values stand behind the four words of an allreduce
+unfoldable pub args_of : List (List ℕ) → Option Args
+args_of (first ∷ second ∷ third ∷ fourth ∷ elements) = args_with (coll_of (first ∷ second ∷ third ∷ fourth ∷ [])) elements
+args_of words = args_with (coll_of words) []

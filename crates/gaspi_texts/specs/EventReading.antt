@@ -7,9 +7,10 @@ use Rattle.gaspi_types.specs.declared.shapes.CallerId.{CallerId}
 use Rattle.gaspi_types.specs.declared.events.Outcome.{Outcome}
 use Rattle.gaspi_types.specs.declared.events.Outcome.TheVariants.{Applied, Failed}
 use Rattle.gaspi_types.specs.declared.events.Event.{Event}
-use Rattle.gaspi_types.specs.declared.events.Event.TheVariants.{Called, Take, Put}
+use Rattle.gaspi_types.specs.declared.events.Event.TheVariants.{Called, Joined, Take, Put}
 use Rattle.call_texts.specs.CallText.{recorded_call_of}
-use Rattle.call_texts.specs.Fields.{◌>>=◌}
+use Rattle.call_texts.specs.Steps.{◌>>=◌}
+use Rattle.gaspi_texts.specs.CollectiveText.{args_of}
 use Rattle.gaspi_texts.specs.EventText.{arrow, outcome_word}
 use Rattle.call_texts.specs.Numbers.{value_of}
 use Rattle.gaspi_texts.specs.ReplyText.{reply_of}
@@ -47,6 +48,15 @@ called_of (word ∷ words) = do
   place ← position (λ word. bytes_eq arrow word) words
   called_with caller (take place words) (drop (place + 1) words)
 
+-- a caller, its group, and what it joins
+unfoldable pub joined_of : List (List ℕ) → Option Event
+joined_of (first ∷ second ∷ words) = do
+  caller ← caller_of first
+  group ← number_below 8 second
+  args ← args_of words
+  Some (Joined caller group args)
+joined_of other = None
+
 -- the entry that is moved, and how that ends
 unfoldable pub moved_of : List (List ℕ) → Option Moved
 moved_of (first ∷ second ∷ third ∷ fourth ∷ fifth ∷ []) = do
@@ -68,5 +78,6 @@ unfoldable pub event_of : List (List ℕ) → Option Event
 event_of [] = None
 event_of (word ∷ arguments) =
     if bytes_eq (codes "called") word then called_of arguments
+    else (if bytes_eq (codes "joined") word then joined_of arguments
     else (if bytes_eq (codes "take") word then option_map taken (moved_of arguments)
-    else (if bytes_eq (codes "put") word then option_map put (moved_of arguments) else None))
+    else (if bytes_eq (codes "put") word then option_map put (moved_of arguments) else None)))

@@ -6,8 +6,9 @@ use Rattle.gaspi_types.specs.declared.shapes.CallerId.{CallerId}
 use Rattle.gaspi_types.specs.declared.events.Outcome.{Outcome}
 use Rattle.gaspi_types.specs.declared.events.Outcome.TheVariants.{Applied, Failed}
 use Rattle.gaspi_types.specs.declared.events.Event.{Event}
-use Rattle.gaspi_types.specs.declared.events.Event.TheVariants.{Called, Take, Put}
+use Rattle.gaspi_types.specs.declared.events.Event.TheVariants.{Called, Joined, Take, Put}
 use Rattle.call_texts.specs.CallText.{words_of_call, IsWritable}
+use Rattle.gaspi_texts.specs.CollectiveText.{AreValuesOf, AreArgsInRange, args_words}
 use Rattle.gaspi_texts.specs.ReplyText.{words_of_reply, IsInRange}
 
 -- a caller as its rank and thread
@@ -24,6 +25,7 @@ arrow = codes "->"
 -- the words of an event
 unfoldable pub words_of_event : Event → List (List ℕ)
 words_of_event (Called c call reply) = codes "called" ∷ caller_word c ∷ (words_of_call call ++ arrow ∷ words_of_reply reply)
+words_of_event (Joined c group args) = codes "joined" ∷ caller_word c ∷ decimal group ∷ args_words args
 words_of_event (Take origin queue target number outcome) =
     codes "take" ∷ decimal origin ∷ decimal queue ∷ decimal target ∷ decimal number ∷ outcome_word outcome ∷ []
 words_of_event (Put origin queue target number outcome) =
@@ -33,8 +35,14 @@ words_of_event (Put origin queue target number outcome) =
 abbrev pub event_text : Event → List ℕ
 event_text e = join_with_byte 32 (words_of_event e)
 
+-- what a caller joins has the values that it says
+abbrev pub HasOwnValues : Event → Type 0
+HasOwnValues (Joined c group args) = AreValuesOf args.coll args.values
+HasOwnValues e = Unit {0}
+
 -- the numbers of an event are those of its types, whatever the world's limits are
 abbrev pub IsInEventRange : Event → Type 0
 IsInEventRange (Called c call reply) = (c.rank < 16) × (c.thread < 4) × IsWritable call × IsInRange reply
+IsInEventRange (Joined c group args) = (c.rank < 16) × (c.thread < 4) × (group < 8) × AreArgsInRange args
 IsInEventRange (Take origin queue target number outcome) = (origin < 16) × (queue < 8) × (target < 16) × (number < 2 ^ 32)
 IsInEventRange (Put origin queue target number outcome) = (origin < 16) × (queue < 8) × (target < 16) × (number < 2 ^ 32)

@@ -2,7 +2,7 @@
 use Rattle.std.specs.Prelude.{ℕ, ◌==◌, List, [], ◌∷◌, Option, Some, None, if◌then◌else◌}
 use Rattle.std.specs.Fmt.{decimal}
 use Rattle.std.specs.Option.{option_map}
-use Rattle.call_texts.specs.Fields.{◌>>=◌}
+use Rattle.call_texts.specs.Steps.{◌>>=◌}
 use Rattle.call_texts.specs.Numbers.{value_of}
 use Rattle.gaspi_types.specs.Replies.{stage_number, coll_fields}
 use Rattle.gaspi_types.specs.declared.collectives.Stage.{Stage}

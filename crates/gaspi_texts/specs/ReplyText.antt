@@ -1,44 +1,22 @@
 -- The texts of replies: the one form that is written, and what is read. (own choice)
-use Rattle.std.specs.Prelude.{◌^◌, ◌<◌, ℕ, ℤ, pos, neg_ℤ, Bool, true, false, ◌==◌, List, [], ◌∷◌, map, Option, Some, None, find, if◌then◌else◌, codes}
+use Rattle.std.specs.Prelude.{◌^◌, ◌<◌, ℕ, Bool, true, false, List, [], ◌∷◌, map, Option, Some, None, find, codes}
 use Rattle.std.specs.Fmt.{decimal, signed_decimal}
 use Rattle.std.specs.List.{join_with_byte, AllByRecursion}
 use Rattle.std.specs.Option.{option_map, option_map_or}
 use Rattle.std.specs.Str.{bytes_eq}
 use Rattle.hex.specs.Hex.{IsBytes}
-use Rattle.call_texts.specs.Fields.{◌>>=◌}
+use Rattle.call_texts.specs.Steps.{◌>>=◌}
+use Rattle.call_texts.specs.Elements.{type_word, type_of, elements_of}
 use Rattle.call_texts.specs.Hex.{bytes_of, hex_text}
 use Rattle.call_texts.specs.Numbers.{number_of}
-use Rattle.gaspi_types.specs.NumberTypes.{is_in_type, AreInType}
+use Rattle.gaspi_types.specs.NumberTypes.{AreInType}
 use Rattle.gaspi_types.specs.Replies.{refusal_number, refusal_fields}
-use Rattle.gaspi_types.specs.declared.collectives.NumType.{NumType}
 use Rattle.gaspi_types.specs.declared.replies.Reply.{Reply}
 use Rattle.gaspi_types.specs.declared.replies.Reply.TheVariants as replies
-use Rattle.gaspi_texts.specs.CollectiveText.{type_word, type_of, one_field}
+use Rattle.gaspi_texts.specs.CollectiveText.{one_field}
 use Rattle.gaspi_texts.specs.RefusalText.{field_words, refusal_of}
 use Rattle.gaspi_texts.specs.declared.reply_words.ReplyWord.{ReplyWord}
 use Rattle.gaspi_texts.specs.declared.reply_words.ReplyWord.TheVariants as words
-
--- Elements: the numbers of a list.
-
--- a number with an optional `-` before it
-unfoldable pub signed_of : List ℕ → Option ℤ
-signed_of [] = None
-signed_of (byte ∷ bytes) =
-    if byte == 45 then option_map (λ n. neg_ℤ (pos n)) (number_of bytes) else option_map pos (number_of (byte ∷ bytes))
-
--- an element of a type
-unfoldable pub element_of : NumType → List ℕ → Option ℤ
-element_of t word = do
-  z ← signed_of word
-  if is_in_type t z then Some z else None
-
--- all words as elements
-abbrev pub elements_of : NumType → List (List ℕ) → Option (List ℤ)
-elements_of t [] = Some []
-elements_of t (word ∷ words) = do
-  z ← element_of t word
-  rest ← elements_of t words
-  Some (z ∷ rest)
 
 -- The words of a reply in the one form that is written.
 

@@ -4,11 +4,12 @@ ghost use Rattle.std.specs.Prelude.{◌≡◌, ◌<◌, ◌==◌, map, length, p
 ghost use Rattle.std.specs.Option.{option_map};
 ghost use Rattle.std.specs.Str.{bytes_eq};
 ghost use Rattle.gaspi_texts.specs.EventText.{arrow, outcome_word};
-ghost use Rattle.gaspi_texts.specs.EventReading.{number_below, outcome_of, caller_of, called_with, called_of, moved_of, taken, put, event_of};
+ghost use Rattle.gaspi_texts.specs.EventReading.{number_below, outcome_of, caller_of, called_with, called_of, joined_of, moved_of, taken, put, event_of};
 
+use crate::collective_texts::read_args;
 use crate::reply_texts::read_reply_words;
 use call_texts::{read_recorded_call, read_value};
-use gaspi_types::{CallerId, Event, NoMemory, Outcome, QueueId, RankId, ThreadId};
+use gaspi_types::{CallerId, Event, GroupId, NoMemory, Outcome, QueueId, RankId, ThreadId};
 use std::alloc::Global;
 
 /// An entry that is moved, and how that ends.
@@ -49,6 +50,17 @@ fn read_queue(word: &[u8]) -> Option<QueueId>
     let number = read_value(word)?;
     if number < 8 {
         Some(QueueId::of(number))
+    } else {
+        None
+    }
+}
+
+fn read_group(word: &[u8]) -> Option<GroupId>
+    ensures { result ≡ number_below 8 word.now }
+{
+    let number = read_value(word)?;
+    if number < 8 {
+        Some(GroupId::of(number))
     } else {
         None
     }
@@ -137,6 +149,26 @@ fn read_called(alloc: Global, arguments: &[&[u8]]) -> Result<Option<Event>, NoMe
     read_call_and_reply(alloc, caller, &words[..place], &words[place + 1..])
 }
 
+/// A caller, its group, and what it joins.
+#[tactic(auto, unfolding(crate::specs::EventReading::joined_of))]
+fn read_joined(alloc: Global, arguments: &[&[u8]]) -> Result<Option<Event>, NoMemory>
+    ensures { IfOk result (λ event. event ≡ joined_of (map (λ word. word.now) arguments.now)) }
+{
+    let [caller, group, words @ ..] = arguments else {
+        return Ok(None);
+    };
+    let Some(caller) = read_caller(caller) else {
+        return Ok(None);
+    };
+    let Some(group) = read_group(group) else {
+        return Ok(None);
+    };
+    let Some(args) = read_args(alloc, words)? else {
+        return Ok(None);
+    };
+    Ok(Some(Event::Joined(caller, group, args)))
+}
+
 /// An entry's origin, queue, target and number, and an outcome.
 #[tactic(auto, unfolding(crate::specs::EventReading::moved_of))]
 fn read_moved(arguments: &[&[u8]]) -> Option<Moved>
@@ -195,6 +227,9 @@ pub(crate) fn read_event_words(alloc: Global, words: &[&[u8]]) -> Result<Option<
     };
     if b"called".as_slice() == *word {
         return read_called(alloc, arguments);
+    }
+    if b"joined".as_slice() == *word {
+        return read_joined(alloc, arguments);
     }
     if b"take".as_slice() == *word {
         return Ok(read_take(arguments));

@@ -1,14 +1,16 @@
 //! Texts of events.
 
 ghost use Rattle.std.specs.Prelude.{◌≡◌, ◌≢◌, ◌++◌, ◌∷◌, ◌↔◌, IsTrue, take, length, OnOk, OnErr, IfOk, MatchOption};
+ghost use Rattle.std.specs.Fmt.{decimal};
 ghost use Rattle.gaspi_types.specs.declared.events.Event.{Event};
 ghost use Rattle.gaspi_texts.specs.EventText.{caller_word, event_text, IsInEventRange};
 
+use crate::collective_texts::append_args;
 use crate::event_reading::{outcome_word, read_event_words};
 use crate::reply_texts::write_reply;
 use crate::text_laws::{events_read_back, read_events_are_in_range};
-use call_texts::{append_line, append_word, set_words, write_call, write_number};
-use gaspi_types::{Bytes, CallerId, Event, NoMemory, Rows};
+use call_texts::{append_line, append_numbers, append_word, set_words, write_call, write_number};
+use gaspi_types::{Bytes, CallerId, Event, GroupId, NoMemory, Rows};
 use std::alloc::Global;
 
 /// Adds a caller behind a space: its rank and its thread. Without memory the text keeps its front.
@@ -20,6 +22,19 @@ fn append_caller(text: &mut Bytes, caller: CallerId) -> Result<(), NoMemory>
     write_number(text, u64::from(caller.rank.number()))?;
     text.push(b'.')?;
     write_number(text, u64::from(caller.thread.number()))
+}
+
+/// Adds a caller and a group, each behind a space. Without memory the text keeps its front.
+fn append_caller_and_group(
+    text: &mut Bytes,
+    caller: CallerId,
+    group: GroupId,
+) -> Result<(), NoMemory>
+    ensures ok { OnOk result (text.new ≡ text.old ++ 32 ∷ (caller_word caller ++ 32 ∷ decimal group)) }
+    ensures err { OnErr result (take (length text.old) text.new ≡ text.old) }
+{
+    append_caller(text, caller)?;
+    append_numbers(text, &[u64::from(group.number())])
 }
 
 /// Adds the text of an event. Without memory the text keeps its front.
@@ -36,6 +51,11 @@ fn append_event(text: &mut Bytes, event: &Event) -> Result<(), NoMemory>
             write_call(text, call)?;
             text.append(b" -> ")?;
             write_reply(text, reply)
+        }
+        Event::Joined(caller, group, args) => {
+            text.append(b"joined")?;
+            append_caller_and_group(text, *caller, *group)?;
+            append_args(text, args)
         }
         Event::Take(origin, queue, target, number, outcome) => {
             append_line(

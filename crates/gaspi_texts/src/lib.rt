@@ -1,10 +1,11 @@
 //! The texts of replies and events, both ways, and those of the calls below them.
 #![tactic(auto)]
 
+mod collective_texts;
 mod event_reading;
 mod event_texts;
+mod own_values;
 mod ranges;
-mod reply_elements;
 mod reply_reading;
 mod reply_texts;
 mod reply_words;
@@ -16,6 +17,7 @@ pub use call_texts::{
     write_number,
 };
 pub use event_texts::{Scratch, read_event, read_event_with, write_event};
+pub use own_values::has_own_values;
 pub use ranges::{event_is_in_range, reply_is_in_range};
 pub use reply_texts::{read_reply, read_reply_words, write_reply};
 pub use text_laws::{

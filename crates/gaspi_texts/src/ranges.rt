@@ -3,16 +3,26 @@
 ghost use Rattle.std.specs.Prelude.{◌^◌, ◌<◌};
 ghost use Rattle.std.specs.List.{AllByRecursion};
 ghost use Rattle.gaspi_types.specs.Replies.{coll_fields, refusal_fields};
-ghost use Rattle.gaspi_texts.specs.EventText.{IsInEventRange};
+ghost use Rattle.gaspi_texts.specs.CollectiveText.{AreValuesOf, AreArgsInRange};
+ghost use Rattle.gaspi_texts.specs.EventText.{HasOwnValues, IsInEventRange};
 ghost use Rattle.gaspi_texts.specs.ReplyText.{IsInRange};
 
 use call_texts::{bytes_are_in_range, call_is_in_range};
-use gaspi_types::{Coll, Event, Refusal, Reply};
+use gaspi_types::{Args, Coll, Event, Refusal, Reply};
 
 /// The numbers of a collective are those of their types.
 fn coll_is_in_range(_coll: Coll)
     ensures { AllByRecursion (λ n. n < 2 ^ 32) (coll_fields _coll) }
 {}
+
+/// The numbers of a collective with its values are those of their types.
+fn args_are_in_range(args: &Args)
+    requires { AreValuesOf args.now.coll args.now.values }
+    ensures { AreArgsInRange args.now }
+{
+    coll_is_in_range(args.coll);
+    let _read = args.values.items();
+}
 
 /// The numbers of a refusal are those of their types.
 fn refusal_is_in_range(refusal: Refusal)
@@ -46,8 +56,10 @@ pub fn reply_is_in_range(reply: &Reply)
     }
 }
 
-/// The numbers of an event are those of its types, so its text reads back as that event.
+/// The numbers of an event are those of its types, so its text reads back as that event. What a caller joins has the values
+/// that it says.
 pub fn event_is_in_range(event: &Event)
+    requires { HasOwnValues event.now }
     ensures { IsInEventRange event.now }
 {
     match event {
@@ -55,6 +67,10 @@ pub fn event_is_in_range(event: &Event)
             let _read = (caller.rank.number(), caller.thread.number());
             call_is_in_range(call);
             reply_is_in_range(reply);
+        }
+        Event::Joined(caller, group, args) => {
+            let _read = (caller.rank.number(), caller.thread.number(), group.number());
+            args_are_in_range(args);
         }
         Event::Take(origin, queue, target, number, _)
         | Event::Put(origin, queue, target, number, _) => {

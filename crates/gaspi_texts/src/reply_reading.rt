@@ -3,78 +3,15 @@
 ghost use Rattle.std.specs.Prelude.{◌≡◌, map, IfOk, OnErr, true};
 ghost use Rattle.std.specs.Option.{option_map};
 ghost use Rattle.gaspi_types.specs.declared.replies.Reply.TheVariants.{Id, Mask};
-ghost use Rattle.gaspi_texts.specs.CollectiveText.{one_field, allreduce_of, create_of, coll_of};
+ghost use Rattle.gaspi_texts.specs.CollectiveText.{one_field};
 ghost use Rattle.gaspi_texts.specs.RefusalText.{no_field, two_fields, stage_field, refusal_of};
 ghost use Rattle.gaspi_texts.specs.ReplyText.{plain_reply, value_reply, bytes_reply, list_reply, refused_reply, reply_with, holds_items};
 
-use crate::reply_elements::read_elements;
-use crate::reply_words::{ReplyWord, read_op, read_stage, read_type};
-use call_texts::{read_bytes, read_number, read_value};
-use gaspi_types::{Coll, NoMemory, Numbers, Refusal, Reply, Stage};
+use crate::collective_texts::{read_coll, read_field};
+use crate::reply_words::{ReplyWord, read_stage};
+use call_texts::{read_bytes, read_elements, read_number, read_type, read_value};
+use gaspi_types::{NoMemory, Numbers, Refusal, Reply, Stage};
 use std::alloc::Global;
-
-/// The number that is the only field.
-fn read_field(fields: &[&[u8]]) -> Option<u32>
-    ensures { result ≡ one_field (map (λ word. word.now) fields.now) }
-{
-    let [field] = fields else {
-        return None;
-    };
-    read_value(field)
-}
-
-/// An operation, a type and a number of elements.
-fn read_allreduce(arguments: &[&[u8]]) -> Option<Coll>
-    ensures { result ≡ allreduce_of (map (λ word. word.now) arguments.now) }
-{
-    let [op, num_type, count] = arguments else {
-        return None;
-    };
-    let op = read_op(op)?;
-    let num_type = read_type(num_type)?;
-    let count = read_value(count)?;
-    Some(Coll::Allreduce(op, num_type, count))
-}
-
-/// A segment and its size.
-fn read_create(arguments: &[&[u8]]) -> Option<Coll>
-    ensures { result ≡ create_of (map (λ word. word.now) arguments.now) }
-{
-    let [segment, size] = arguments else {
-        return None;
-    };
-    let segment = read_value(segment)?;
-    let size = read_value(size)?;
-    Some(Coll::Create(segment, size))
-}
-
-/// The collective that words spell.
-#[tactic(auto, unfolding(crate::specs::CollectiveText::coll_of))]
-fn read_coll(fields: &[&[u8]]) -> Option<Coll>
-    ensures { result ≡ coll_of (map (λ word. word.now) fields.now) }
-{
-    let [word, arguments @ ..] = fields else {
-        return None;
-    };
-    if b"barrier".as_slice() == *word {
-        return if arguments.is_empty() {
-            Some(Coll::Barrier)
-        } else {
-            None
-        };
-    }
-    if b"allreduce".as_slice() == *word {
-        return read_allreduce(arguments);
-    }
-    if b"create".as_slice() == *word {
-        return read_create(arguments);
-    }
-    if b"commit".as_slice() == *word {
-        let mask = read_field(arguments)?;
-        return Some(Coll::Commit(mask));
-    }
-    None
-}
 
 /// A refusal without a field.
 fn read_bare(refusal: Refusal, fields: &[&[u8]]) -> Option<Refusal>

@@ -4,42 +4,19 @@ ghost use Rattle.std.specs.Prelude.{◌≡◌, ◌++◌, ◌∷◌, map, take, l
 ghost use Rattle.std.specs.Fmt.{decimal};
 ghost use Rattle.std.specs.List.{join_with_byte};
 ghost use Rattle.gaspi_types.specs.Replies.{refusal_number};
-ghost use Rattle.gaspi_texts.specs.CollectiveText.{coll_words};
 ghost use Rattle.gaspi_texts.specs.RefusalText.{field_words};
 ghost use Rattle.gaspi_texts.specs.ReplyText.{words_of_reply, reply_text, reply_of, takes_memory};
 ghost use Rattle.call_texts.specs.Words.{words_of};
 ghost use Rattle.call_texts.specs.Written.{spaced};
 
-use crate::reply_elements::append_elements;
+use crate::collective_texts::append_coll;
 use crate::reply_reading::read_arguments;
-use crate::reply_words::{ReplyWord, op_word, stage_word, type_word};
-use call_texts::{append_bytes, append_line, append_numbers, append_word, words};
-use gaspi_types::{Bytes, Coll, NoMemory, Refusal, Reply};
+use crate::reply_words::{ReplyWord, stage_word};
+use call_texts::{
+    append_bytes, append_elements, append_line, append_numbers, append_word, type_word, words,
+};
+use gaspi_types::{Bytes, NoMemory, Refusal, Reply};
 use std::alloc::Global;
-
-/// Adds a collective behind a space: its kind and its arguments. Without memory the text keeps its front.
-fn append_coll(text: &mut Bytes, coll: Coll) -> Result<(), NoMemory>
-    ensures ok { OnOk result (text.new ≡ text.old ++ spaced (coll_words coll)) }
-    ensures err { OnErr result (take (length text.old) text.new ≡ text.old) }
-{
-    match coll {
-        Coll::Barrier => append_word(text, b"barrier"),
-        Coll::Allreduce(op, num_type, count) => {
-            append_word(text, b"allreduce")?;
-            append_word(text, op_word(op))?;
-            append_word(text, type_word(num_type))?;
-            append_numbers(text, &[u64::from(count)])
-        }
-        Coll::Create(segment, size) => {
-            append_word(text, b"create")?;
-            append_numbers(text, &[u64::from(segment), u64::from(size)])
-        }
-        Coll::Commit(mask) => {
-            append_word(text, b"commit")?;
-            append_numbers(text, &[u64::from(mask)])
-        }
-    }
-}
 
 /// Adds the fields of a refusal, each behind a space. Without memory the text keeps its front.
 fn append_fields(text: &mut Bytes, refusal: Refusal) -> Result<(), NoMemory>

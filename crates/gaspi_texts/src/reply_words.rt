@@ -1,10 +1,10 @@
 //! The words of replies.
 
 ghost use Rattle.std.specs.Prelude.{◌≡◌};
-ghost use Rattle.gaspi_texts.specs.CollectiveText.{type_word, op_word, stage_word, type_of, op_of, stage_of};
+ghost use Rattle.gaspi_texts.specs.CollectiveText.{stage_word, stage_of};
 ghost use Rattle.gaspi_texts.specs.ReplyText.{reply_spelling, reply_word_of};
 
-use gaspi_types::{NumType, Op, Stage};
+use gaspi_types::Stage;
 
 /// The word that a reply's text begins with.
 #[derive(Clone, Copy, Debug, PartialEq, Eq)]
@@ -57,31 +57,6 @@ impl ReplyWord {
     }
 }
 
-/// The word for a type of numbers.
-pub(crate) fn type_word(num_type: NumType) -> &'static [u8]
-    ensures { result.now ≡ type_word num_type }
-{
-    match num_type {
-        NumType::Int => b"INT",
-        NumType::Uint => b"UINT",
-        NumType::Long => b"LONG",
-        NumType::Ulong => b"ULONG",
-        NumType::Float => b"FLOAT",
-        NumType::Double => b"DOUBLE",
-    }
-}
-
-/// The word for an operation.
-pub(crate) fn op_word(op: Op) -> &'static [u8]
-    ensures { result.now ≡ op_word op }
-{
-    match op {
-        Op::Min => b"MIN",
-        Op::Max => b"MAX",
-        Op::Sum => b"SUM",
-    }
-}
-
 /// The word for a stage.
 pub(crate) fn stage_word(stage: Stage) -> &'static [u8]
     ensures { result.now ≡ stage_word stage }
@@ -90,35 +65,6 @@ pub(crate) fn stage_word(stage: Stage) -> &'static [u8]
         Stage::Building => b"building",
         Stage::Committed => b"committed",
     }
-}
-
-/// The type of numbers that a word stands for.
-#[tactic(auto, unfolding(crate::specs::CollectiveText::type_of))]
-pub(crate) fn read_type(word: &[u8]) -> Option<NumType>
-    ensures { result ≡ type_of word.now }
-{
-    [
-        NumType::Int,
-        NumType::Uint,
-        NumType::Long,
-        NumType::Ulong,
-        NumType::Float,
-        NumType::Double,
-    ]
-    .iter()
-    .copied()
-    .find(|num_type| type_word(*num_type) == word)
-}
-
-/// The operation that a word stands for.
-#[tactic(auto, unfolding(crate::specs::CollectiveText::op_of))]
-pub(crate) fn read_op(word: &[u8]) -> Option<Op>
-    ensures { result ≡ op_of word.now }
-{
-    [Op::Min, Op::Max, Op::Sum]
-        .iter()
-        .copied()
-        .find(|op| op_word(*op) == word)
 }
 
 /// The stage that a word stands for.

@@ -12,8 +12,8 @@ ghost use Rattle.gaspi_texts.specs.EventText.{event_text, IsInEventRange};
 ghost use Rattle.gaspi_texts.specs.ReplyText.{reply_text, reply_of, IsInRange};
 
 use call_texts::{
-    bytes_read_back, calls_read_back, numbers_read_back, read_words_are_in_range, words_read_back,
-    written_words_are_plain,
+    bytes_read_back, calls_read_back, elements_read_back, numbers_read_back,
+    read_words_are_counted, read_words_are_in_range, words_read_back, written_words_are_plain,
 };
 
 /// The laws of the texts of calls, on which those of replies and events stand.
@@ -23,7 +23,9 @@ fn call_laws()
     words_read_back();
     numbers_read_back();
     bytes_read_back();
+    elements_read_back();
     calls_read_back();
+    read_words_are_counted();
     read_words_are_in_range();
     written_words_are_plain();
 }

@@ -8,7 +8,7 @@ use Rattle.text_lines.specs.Lines.{fed_lines, plain_line, lines_of}
 use Rattle.call_texts.specs.Numbers.{number_of}
 use Rattle.call_texts.specs.CallText.{call_word_of, given_count, has_timeout, call_by}
 use Rattle.call_texts.specs.declared.call_words.CallWord.{CallWord}
-use Rattle.call_texts.specs.Fields.{◌>>=◌}
+use Rattle.call_texts.specs.Steps.{◌>>=◌}
 use Rattle.gaspi_texts.specs.ReplyText.{reply_of}
 use Rattle.gaspi_types.specs.World.{World, world_of, segment_added, caller_added, is_caller}
 use Rattle.gaspi_types.specs.declared.shapes.Limits.{Limits}

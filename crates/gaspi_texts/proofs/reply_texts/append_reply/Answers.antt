@@ -2,7 +2,7 @@ use Rattle.std.proofs.Common.{arith}
 use Rattle.std.proofs.lemmas.Grind.{common_steps}
 use Rattle.std.specs.Fmt.{decimal, signed_decimal}
 use Rattle.gaspi_types.specs.Replies.{refusal_number}
-use Rattle.gaspi_texts.specs.CollectiveText.{type_word}
+use Rattle.call_texts.specs.Elements.{type_word}
 use Rattle.gaspi_texts.specs.RefusalText.{field_words}
 use Rattle.gaspi_texts.specs.ReplyText.{words_of_reply}
 use Rattle.gaspi_texts.proofs.JoinedWords.{join_spaced, join_map}

@@ -1,6 +1,6 @@
 use Rattle.std.proofs.Common.{◌≡◌, map, take, Some}
-use Rattle.gaspi_texts.specs.ReplyText.{elements_of}
-use Rattle.gaspi_texts.proofs.reply_elements.read_elements.Given as goal
+use Rattle.call_texts.specs.Elements.{elements_of}
+use Rattle.call_texts.proofs.elements.read_elements.Given as goal
 
 -- the words so far spell the elements so far
 abbrev pub invariant-loop-word : goal.invariant-loop-word

@@ -1,7 +1,7 @@
 -- The elements that words spell, from the front on.
-use Rattle.std.proofs.Common.{◌≡◌, ℕ, ℤ, List, [], ◌∷◌, ◌++◌, Option, Some, None, refl}
-use Rattle.call_texts.specs.Fields.{◌>>=◌}
-use Rattle.gaspi_texts.specs.ReplyText.{element_of, elements_of}
+use Rattle.std.proofs.Common.{◌≡◌, ℕ, ℤ, ◌<◌, zero, suc, List, [], ◌∷◌, ◌++◌, length, map, take, drop, get_or, Option, Some, None, refl, ap, arith}
+use Rattle.call_texts.specs.Steps.{◌>>=◌}
+use Rattle.call_texts.specs.Elements.{element_of, elements_of}
 use Rattle.gaspi_types.specs.declared.collectives.NumType.{NumType}
 
 unchanged : (o : Option (List ℤ)) → o ≡ (o >>= λ rest. Some rest)
@@ -43,3 +43,10 @@ elements_of_push t words word items z e one = rw (elements_of-append t words (wo
 pub elements_of_stop : (t : NumType) (words : List (List ℕ)) (word : List ℕ) (others : List (List ℕ)) (items : List ℤ)
     → elements_of t words ≡ Some items → element_of t word ≡ None → elements_of t (words ++ word ∷ others) ≡ None
 elements_of_stop t words word others items e one = rw (elements_of-append t words (word ∷ others) items e, one) refl
+
+-- the words before a place, at it and behind it
+pub cut_map : {A B : Type 0} (f : A → B) (xs : List A) (i : ℕ) (d : A) → i < length xs
+    → map f xs ≡ map f (take i xs) ++ (f (get_or xs i d) ∷ map f (drop (suc i) xs))
+cut_map f [] i d low = absurd (omega arith)
+cut_map f (x ∷ xs) zero d low = refl
+cut_map f (x ∷ xs) (suc i) d low = ap (λ (rest : List _). f x ∷ rest) (cut_map f xs i d (omega arith))

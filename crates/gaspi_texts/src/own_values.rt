@@ -1,0 +1,40 @@
+//! Whether what callers join has the values that it says. (GASPI: allreduce)
+
+ghost use Rattle.std.specs.Prelude.{◌≡◌, ◌↔◌, ◌==◌, IsTrue, length};
+ghost use Rattle.gaspi_types.specs.declared.collectives.NumType.{NumType};
+ghost use Rattle.gaspi_texts.specs.CollectiveText.{AreValuesOf};
+ghost use Rattle.gaspi_texts.specs.EventText.{HasOwnValues};
+
+use gaspi_types::{Coll, Event, NumType, Numbers};
+
+/// Whether numbers are of a type, and so many.
+fn are_so_many(values: &Numbers, num_type: NumType, count: u32) -> bool
+    ensures { IsTrue result ↔ ((values.now.num_type ≡ num_type) × (length values.now.items ≡ count)) }
+{
+    values.num_type() == num_type && values.items().len() == count as usize
+}
+
+/// Whether values are those of a collective: as many of its type as an allreduce says, and for any other none.
+fn are_values_of(coll: Coll, values: &Numbers) -> bool
+    ensures { IsTrue result ↔ AreValuesOf coll values.now }
+{
+    match coll {
+        Coll::Allreduce(_, num_type, count) => are_so_many(values, num_type, count),
+        Coll::Barrier => are_so_many(values, NumType::Int, 0),
+        Coll::Create(_, _) => are_so_many(values, NumType::Int, 0),
+        Coll::Commit(_) => are_so_many(values, NumType::Int, 0),
+    }
+}
+
+/// Whether what the event's caller joins, if it joins, has the values that it says: then the event's numbers are those of its
+/// types.
+pub fn has_own_values(event: &Event) -> bool
+    ensures { IsTrue result ↔ HasOwnValues event.now }
+{
+    match event {
+        Event::Joined(_, _, args) => are_values_of(args.coll, &args.values),
+        Event::Called(_, _, _) => true,
+        Event::Take(_, _, _, _, _) => true,
+        Event::Put(_, _, _, _, _) => true,
+    }
+}
