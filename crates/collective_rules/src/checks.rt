@@ -1,7 +1,8 @@
 //! What collectives are refused for, whatever is pending. (GASPI: collectives, allreduce)
 
-ghost use Rattle.std.specs.Prelude.{◌≡◌, Option};
+ghost use Rattle.std.specs.Prelude.{◌≡◌, Option, Some, OnOk};
 ghost use Rattle.gaspi_types.specs.Collectives.{count_checks, type_checks, fits};
+ghost use Rattle.gaspi_types.specs.declared.collectives.Coll.{Coll};
 ghost use Rattle.gaspi_types.specs.declared.groups.Contribution.{Contribution};
 ghost use Rattle.collective_rules.specs.Turns.{coll_in};
 
@@ -33,7 +34,8 @@ pub fn check_type(num_type: NumType) -> Result<(), Refusal>
 /// has the one that the first of them in rank order has. `first` is that one, or None where no member has joined the turn.
 /// (GASPI: collectives)
 pub fn check_fits(first: Option<Coll>, coll: Coll) -> Result<(), Refusal>
-    ensures { (given : Option Contribution) → coll_in given ≡ first → result ≡ fits given coll }
+    ensures answer { (given : Option Contribution) → coll_in given ≡ first → result ≡ fits given coll }
+    ensures equal { OnOk result ((kept : Coll) → first ≡ Some kept → kept ≡ coll) }
 {
     match first {
         Some(kept) if !same_coll(kept, coll) => Err(Refusal::CollectiveMismatch { kept }),

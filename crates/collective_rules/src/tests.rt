@@ -1,4 +1,4 @@
-use crate::{check_count, check_fits, check_type, members_of, resume};
+use crate::{check_count, check_fits, check_type, members_of, reduce, resume};
 use gaspi_types::{
     Args, Coll, NumType, Numbers, Op, Pending, RankId, Refusal, Resume, Rows, ThreadId,
 };
@@ -53,4 +53,13 @@ fn own_collective_is_resumed(rt: HostRuntime) -> Result<(), Fail> {
         Err(Refusal::ResumeOther { kept: coll })
     );
     Ok(())
+}
+
+#[test]
+fn sums_wrap_at_the_type_s_end(rt: HostRuntime) {
+    let mut total = [4_294_967_295, 7];
+    let values = [2, 8];
+    reduce(Op::Sum, NumType::Uint, &mut total, &values);
+    let expected = [1, 15];
+    assert!(rt; total == expected);
 }

@@ -1,6 +1,6 @@
 //! Replies, refusals and the arguments of collectives compared.
 
-ghost use Rattle.std.specs.Prelude.{◌≡◌, nat_eq};
+ghost use Rattle.std.specs.Prelude.{◌≡◌, true, nat_eq};
 ghost use Rattle.std.specs.Cmp.Lexicographic.{pointwise};
 ghost use Rattle.reply_comparison.specs.Fields.{listed};
 ghost use Rattle.gaspi_types.specs.Collectives.{same_coll, same_args};
@@ -118,7 +118,8 @@ fn same_numbers(a: &Numbers, b: &Numbers) -> bool
 
 /// Whether collectives are the same, values aside: their kinds and their arguments are. (GASPI: collectives)
 pub fn same_coll(a: Coll, b: Coll) -> bool
-    ensures { result ≡ same_coll a b }
+    ensures value { result ≡ same_coll a b }
+    ensures equal { result ≡ true → a ≡ b }
 {
     same_fields(coll_fields(a), coll_fields(b))
 }
