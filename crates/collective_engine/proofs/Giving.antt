@@ -1,0 +1,134 @@
+-- What a contribution changes in the buffers: the count of its rank, and its slot in the buffer of its turn.
+use Rattle.std.proofs.Common.{◌≡◌, ◌≢◌, ℕ, ◌+◌, ◌%◌, ◌≤◌, ◌<◌, Bool, true, false, ◌==◌, if◌then◌else◌, List, length, Option, None, Some, is_some, refl, sym, ◌∙◌, ap, arith}
+use Rattle.std.specs.Prelude.{nat_lt}
+use Rattle.std.specs.List.{slice_get, slice_set}
+use Rattle.std.proofs.lemmas.Bool.{lt-ltb, ltb-true, eqb-true, eq-eqb}
+use Rattle.std.proofs.lemmas.List.{get_or-set_other, get_or-set_same, length-set}
+use Rattle.gaspi_types.proofs.Items.{slice_get-set_same, slice_get-set_other, there-within}
+use Rattle.gaspi_types.specs.declared.groups.Contribution.{Contribution}
+use Rattle.collective_engine.specs.Turns.{joined_by, buffer_of, given_by, with_given, HasRoom}
+use Rattle.collective_engine.specs.declared.buffers.Buffers.{Buffers}
+
+-- tests of numbers
+pub less : (a b : ℕ) → a < b → nat_lt a b ≡ true
+less a b h = lt-ltb a b h
+
+pub not_less : (a b : ℕ) → b ≤ a → nat_lt a b ≡ false
+not_less a b h = go (nat_lt a b) refl
+  where
+    go : (t : Bool) → nat_lt a b ≡ t → nat_lt a b ≡ false
+    go true is = absurd (let below = ltb-true a b is in let no : ⊥ = omega arith in no)
+    go false is = is
+
+-- a number is below another, or the same, or above
+pub ordered : {P : Type 0} → (a b : ℕ) → (a < b → P) → (a ≡ b → P) → (b < a → P) → P
+ordered {P} a b below same above = go (nat_lt a b) refl (nat_lt b a) refl
+  where
+    go : (t : Bool) → nat_lt a b ≡ t → (u : Bool) → nat_lt b a ≡ u → P
+    go true is u us = below (ltb-true a b is)
+    go false is true us = above (ltb-true b a us)
+    go false is false us =
+        let one : a < b → ⊥ = λ h. (let no = less a b h in let out : ⊥ = cc in out) in
+        let two : b < a → ⊥ = λ h. (let no = less b a h in let out : ⊥ = cc in out) in
+        same (omega arith)
+
+-- who has given to a turn has joined it
+tested : (t : Bool) (o : Option Contribution) → is_some (if t then o else None) ≡ true → t ≡ true
+tested true o h = refl
+tested false o h = absurd (let no : ⊥ = cc in no)
+
+pub some_joined : (b : Buffers) (turn m : ℕ) → is_some (given_by b turn m) ≡ true → turn < joined_by b m
+some_joined b turn m h = ltb-true turn (joined_by b m) (tested (nat_lt turn (joined_by b m)) (slice_get (buffer_of b turn) m) h)
+
+pub given_joined : (b : Buffers) (turn m : ℕ) (c : Contribution) → given_by b turn m ≡ Some c → turn < joined_by b m
+given_joined b turn m c at = some_joined b turn m (ap is_some at)
+
+-- the other buffer is that of the turn before
+turned : (turn k : ℕ) → turn + 1 ≡ k → (t u : Bool) → (turn % 2 == 0) ≡ t → (k % 2 == 0) ≡ u → t ≡ u → ⊥
+turned turn k next true true this that same = let a = eqb-true (turn % 2) 0 this in let b = eqb-true (k % 2) 0 that in omega arith
+turned turn k next true false this that same = cc
+turned turn k next false true this that same = cc
+turned turn k next false false this that same =
+    let a : turn % 2 ≡ 0 → ⊥ = λ z. let no = eq-eqb (turn % 2) 0 z in let out : ⊥ = cc in out in
+    let b : k % 2 ≡ 0 → ⊥ = λ z. let no = eq-eqb (k % 2) 0 z in let out : ⊥ = cc in out in
+    omega arith
+
+-- how the buffers look, by the parity of the turn and of the one that is asked for
+same_parity : (t : Bool) (even odd : List Contribution) (rank : ℕ) (c : Contribution)
+    → (if t then (if t then slice_set even rank c else even) else (if t then odd else slice_set odd rank c)) ≡ slice_set (if t then even else odd) rank c
+same_parity true even odd rank c = refl
+same_parity false even odd rank c = refl
+
+other_parity : (t u : Bool) (even odd : List Contribution) (rank : ℕ) (c : Contribution) → (t ≡ u → ⊥)
+    → (if t then (if u then slice_set even rank c else even) else (if u then odd else slice_set odd rank c)) ≡ (if t then even else odd)
+other_parity true true even odd rank c apart = absurd (apart refl)
+other_parity true false even odd rank c apart = refl
+other_parity false true even odd rank c apart = refl
+other_parity false false even odd rank c apart = absurd (apart refl)
+
+any_parity : (t u : Bool) (even odd : List Contribution) (rank r : ℕ) (c : Contribution) → r ≢ rank
+    → slice_get (if t then (if u then slice_set even rank c else even) else (if u then odd else slice_set odd rank c)) r ≡ slice_get (if t then even else odd) r
+any_parity true true even odd rank r c apart = slice_get-set_other even rank r c (λ e. apart (sym e))
+any_parity true false even odd rank r c apart = refl
+any_parity false true even odd rank r c apart = refl
+any_parity false false even odd rank r c apart = slice_get-set_other odd rank r c (λ e. apart (sym e))
+
+-- a slot for each rank
+pub slot : (b : Buffers) → HasRoom b → (turn rank : ℕ) → rank < 16 → (old : Contribution) × (slice_get (buffer_of b turn) rank ≡ Some old)
+slot b room turn rank below = pick (turn % 2 == 0)
+  where
+    pick : (t : Bool) → (old : Contribution) × (slice_get (if t then b.even else b.odd) rank ≡ Some old)
+    pick true = there-within b.even rank (let long = room.even in omega arith)
+    pick false = there-within b.odd rank (let long = room.odd in omega arith)
+
+module _ (b : Buffers) (room : HasRoom b) (rank : ℕ) (c : Contribution) (below : rank < 16) where
+  -- counts
+  pub joined-now : joined_by (with_given b rank c) rank ≡ joined_by b rank + 1
+  joined-now = get_or-set_same b.joined rank (joined_by b rank + 1) 0 (let long = room.joined in omega arith)
+
+  pub joined-other : (r : ℕ) → r ≢ rank → joined_by (with_given b rank c) r ≡ joined_by b r
+  joined-other r apart = get_or-set_other b.joined rank r (joined_by b rank + 1) 0 apart
+
+  -- what other ranks have given
+  pub given-other : (turn r : ℕ) → r ≢ rank → given_by (with_given b rank c) turn r ≡ given_by b turn r
+  given-other turn r apart =
+      let count = joined-other r apart in
+      rw count (ap (λ (o : Option Contribution). if nat_lt turn (joined_by b r) then o else None) (any_parity (turn % 2 == 0) (joined_by b rank % 2 == 0) b.even b.odd rank r c apart))
+
+  -- what the rank gives now, has given to the turn before, and has not given yet
+  pub given-now : given_by (with_given b rank c) (joined_by b rank) rank ≡ Some c
+  given-now =
+      let count = joined-now in
+      let test = less (joined_by b rank) (joined_by b rank + 1) (omega arith) in
+      let there = slot b room (joined_by b rank) rank below in
+      rw (count, test) (ap (λ (items : List Contribution). slice_get items rank) (same_parity (joined_by b rank % 2 == 0) b.even b.odd rank c) ∙ slice_get-set_same (buffer_of b (joined_by b rank)) rank there.0 c there.1)
+
+  pub given-before : (turn : ℕ) → turn + 1 ≡ joined_by b rank → given_by (with_given b rank c) turn rank ≡ given_by b turn rank
+  given-before turn next =
+      let count = joined-now in
+      let test = less turn (joined_by b rank + 1) (omega arith) in
+      let was = less turn (joined_by b rank) (omega arith) in
+      rw (count, test, was) (ap (λ (items : List Contribution). slice_get items rank) (other_parity (turn % 2 == 0) (joined_by b rank % 2 == 0) b.even b.odd rank c (turned turn (joined_by b rank) next (turn % 2 == 0) (joined_by b rank % 2 == 0) refl refl)))
+
+  pub given-later : (turn : ℕ) → joined_by b rank < turn → given_by (with_given b rank c) turn rank ≡ None
+  given-later turn later =
+      let count = joined-now in
+      let test = not_less turn (joined_by b rank + 1) (omega arith) in
+      rw (count, test) refl
+
+  -- room stays
+  pub room-given : HasRoom (with_given b rank c)
+  room-given = record {
+    joined = length-set b.joined rank (joined_by b rank + 1) ∙ room.joined;
+    completed = room.completed;
+    even = kept (joined_by b rank % 2 == 0) b.even room.even;
+    odd = left (joined_by b rank % 2 == 0) b.odd room.odd;
+  }
+    where
+      kept : (t : Bool) (items : List Contribution) → length items ≡ 16 → length (if t then slice_set items rank c else items) ≡ 16
+      kept true items long = length-set items rank c ∙ long
+      kept false items long = long
+
+      left : (t : Bool) (items : List Contribution) → length items ≡ 16 → length (if t then items else slice_set items rank c) ≡ 16
+      left true items long = long
+      left false items long = length-set items rank c ∙ long

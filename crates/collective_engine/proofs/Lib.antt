@@ -1,0 +1,7 @@
+pub mod Alike
+pub mod Answering
+pub mod Giving
+pub mod Members
+pub mod Opening
+pub mod Standing
+pub mod Turning

@@ -1,0 +1,51 @@
+-- The contribution that a slot keeps. (GASPI: collectives)
+use Rattle.std.specs.Prelude.{◌≡◌, ℕ, ◌≤◌, length, take, Option, None, Some}
+use Rattle.gaspi_types.specs.NumberTypes.{AreInType, TypedNumbers}
+use Rattle.gaspi_types.specs.declared.collectives.Coll.{Coll}
+use Rattle.gaspi_types.specs.declared.collectives.Coll.TheVariants.{Barrier, Allreduce, Create, Commit}
+use Rattle.gaspi_types.specs.declared.collectives.NumType.{NumType}
+use Rattle.gaspi_types.specs.declared.groups.Args.{Args}
+use Rattle.gaspi_types.specs.declared.groups.Contribution.{Contribution}
+use Rattle.collective_engine.specs.declared.slots.Slot.TheInside.{Inside}
+
+-- its numbers are the first of its room
+abbrev pub kept_in : Inside → Contribution
+kept_in s = record {
+  args = record { coll = s.coll; values = record { num_type = s.num_type; items = take s.count s.room } };
+  generation = s.generation;
+}
+
+pub record IsSlot (s : Inside) : Type 0 where
+  pub room : length s.room ≡ 255
+  pub count : s.count ≤ 255
+  pub range : AreInType s.num_type (take s.count s.room)
+
+-- The values of arguments: of an allreduce as many as it says, of its type, and of any other collective none.
+abbrev pub AreValuesOf : Coll → TypedNumbers → Type 0
+AreValuesOf Barrier values = length values.items ≡ 0
+AreValuesOf (Allreduce op t n) values = (values.num_type ≡ t) × (length values.items ≡ n) × (n ≤ 255)
+AreValuesOf (Create segment size) values = length values.items ≡ 0
+AreValuesOf (Commit mask) values = length values.items ≡ 0
+
+abbrev pub HasItsValues : Args → Type 0
+HasItsValues args = AreValuesOf args.coll args.values
+
+-- a contribution of so many numbers of a type is there
+abbrev pub GivesNumbers : NumType → ℕ → Option Contribution → Type 0
+GivesNumbers t n None = ⊥
+GivesNumbers t n (Some c) = (c.args.values.num_type ≡ t) × (length c.args.values.items ≡ n)
+
+-- the numbers of a contribution are in range
+abbrev pub AreInRange : Option Contribution → Type 0
+AreInRange None = Unit {0}
+AreInRange (Some c) = AreInType c.args.values.num_type c.args.values.items
+
+-- how many numbers an allreduce comes to; none where the collective is another
+abbrev pub elements_of : Option Coll → Option ℕ
+elements_of (Some (Allreduce op t n)) = Some n
+elements_of other = None
+
+-- a room of so many places takes what an allreduce comes to
+abbrev pub TakesFold : Option ℕ → ℕ → Type 0
+TakesFold None room = ⊥
+TakesFold (Some n) room = n ≤ room

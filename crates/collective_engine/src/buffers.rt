@@ -1,0 +1,101 @@
+//! The two buffers of a group. (GASPI: collectives)
+
+ghost use Rattle.std.specs.Prelude.{◌≡◌, ◌+◌, ◌<◌, ◌≤◌, length, replicate, IfOk};
+ghost use Rattle.std.specs.Option.{option_copied};
+ghost use Rattle.collective_engine.specs.Turns.{joined_by, completed_by, buffer_of, given_by, with_given, with_left, HasRoom};
+
+use crate::slots::Slot;
+use gaspi_types::{Args, NoMemory, RankId, Rows};
+use std::alloc::Global;
+
+/// Who has joined which turn of a group with what: of each rank the number of turns that it has joined, and of those that it has
+/// left, and its contributions to its last two turns, that to an even turn in one buffer and that to an odd turn in the other.
+#[derive(Debug, Drop)]
+pub struct Buffers {
+    pub(crate) joined: [u32; 16],
+    pub(crate) completed: [u32; 16],
+    pub(crate) even: Rows<Slot>,
+    pub(crate) odd: Rows<Slot>,
+}
+
+/// A slot for each rank.
+fn slots(alloc: Global) -> Result<Rows<Slot>, NoMemory>
+    ensures { IfOk result (λ slots. length slots ≡ 16) }
+{
+    let mut slots = Rows::with_room(alloc, 16)?;
+    for _rank in 0..16u32 {
+        slots.push(Slot::empty(alloc)?)?;
+    }
+    Ok(slots)
+}
+
+/// Buffers of turns that no rank has joined.
+pub(crate) fn opening(alloc: Global) -> Result<Buffers, NoMemory>
+    ensures room { IfOk result HasRoom }
+    ensures joined { IfOk result (λ buffers. buffers.joined ≡ replicate 16 0) }
+    ensures completed { IfOk result (λ buffers. buffers.completed ≡ replicate 16 0) }
+{
+    Ok(Buffers {
+        joined: [0; 16],
+        completed: [0; 16],
+        even: slots(alloc)?,
+        odd: slots(alloc)?,
+    })
+}
+
+/// How many turns a rank has joined, and how many of these it has left.
+pub(crate) fn counts(buffers: &Buffers, rank: RankId) -> (u32, u32)
+    ensures joined { result.0 ≡ joined_by buffers.now rank }
+    ensures completed { result.1 ≡ completed_by buffers.now rank }
+{
+    (
+        buffers.joined[rank.index()],
+        buffers.completed[rank.index()],
+    )
+}
+
+/// The buffer of a turn.
+fn buffer_of(buffers: &Buffers, turn: u32) -> &Rows<Slot>
+    ensures { result.now ≡ buffer_of buffers.now turn }
+{
+    if turn % 2 == 0 {
+        &buffers.even
+    } else {
+        &buffers.odd
+    }
+}
+
+/// What a rank has given to a turn, of its last two.
+pub(crate) fn given(buffers: &Buffers, turn: u32, rank: RankId) -> Option<&Slot>
+    ensures { option_copied result ≡ given_by buffers.now turn rank }
+{
+    if turn < buffers.joined[rank.index()] {
+        buffer_of(buffers, turn).get(rank.index())
+    } else {
+        None
+    }
+}
+
+/// A rank gives to its turn. What it overwrites is its contribution of two turns before.
+pub(crate) fn give(buffers: &mut Buffers, rank: RankId, args: &Args, generation: u32)
+    requires room { HasRoom buffers.old }
+    requires count { joined_by buffers.old rank < 4294967295 }
+    requires values { length args.now.values.items ≤ 255 }
+    ensures { buffers.new ≡ with_given buffers.old rank (record { args = args.now; generation = generation }) }
+{
+    let turn = buffers.joined[rank.index()];
+    match turn % 2 {
+        0 => buffers.even.at_mut(rank.index()).put(args, generation),
+        _ => buffers.odd.at_mut(rank.index()).put(args, generation),
+    }
+    buffers.joined[rank.index()] = turn + 1;
+}
+
+/// A rank leaves its turn, the last that it has joined.
+pub(crate) fn leave(buffers: &mut Buffers, rank: usize)
+    requires bound { rank < 16 }
+    requires joined { joined_by buffers.old rank ≡ completed_by buffers.old rank + 1 }
+    ensures { buffers.new ≡ with_left buffers.old rank }
+{
+    buffers.completed[rank] = buffers.joined[rank];
+}

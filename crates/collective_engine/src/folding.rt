@@ -1,0 +1,74 @@
+//! The fold of a turn. (GASPI: allreduce)
+
+ghost use Rattle.std.specs.Prelude.{◌≡◌, ◌≤◌, IsSome, length};
+ghost use Rattle.std.specs.List.{AllByRecursion};
+ghost use Rattle.gaspi_types.specs.Collectives.{values_in, folded_onto, fold_of};
+ghost use Rattle.gaspi_types.specs.NumberTypes.{AreInType};
+ghost use Rattle.collective_engine.specs.Slots.{GivesNumbers, AreInRange};
+ghost use Rattle.collective_engine.specs.Turns.{given_by};
+
+use crate::buffers::{Buffers, given};
+use collective_rules::reduce;
+use gaspi_types::{NumType, Numbers, Op, RankId, Rows};
+
+/// The numbers that a rank has given to a turn.
+fn values(buffers: &Buffers, turn: u32, rank: RankId) -> &[i128]
+    requires { IsSome (given_by buffers.now turn rank) }
+    ensures items { result.now ≡ values_in (given_by buffers.now turn rank) }
+    ensures range { AreInRange (given_by buffers.now turn rank) }
+{
+    given(buffers, turn, rank).unwrap().values()
+}
+
+/// Folds what some members have given to a turn onto a total, in their order. All have given as many numbers, of its type.
+fn fold_onto(
+    buffers: &Buffers,
+    turn: u32,
+    op: Op,
+    num_type: NumType,
+    total: &mut [i128],
+    members: &[RankId],
+)
+    requires range { AreInType num_type total.old }
+    requires given { AllByRecursion (λ m. GivesNumbers num_type (length total.old) (given_by buffers.now turn m)) members.now }
+    ensures folded { total.new ≡ folded_onto (given_by buffers.now turn) op num_type total.old members.now }
+    ensures range { AreInType num_type total.new }
+{
+    match members {
+        [] => {}
+        [member, others @ ..] => {
+            reduce(op, num_type, total, values(buffers, turn, *member));
+            fold_onto(buffers, turn, op, num_type, total, others);
+        }
+    }
+}
+
+/// What the numbers that some members have given to a turn come to, put into a room that is large enough. All have given `count`
+/// numbers of a type.
+pub(crate) fn fold(
+    buffers: &Buffers,
+    turn: u32,
+    op: Op,
+    num_type: NumType,
+    count: u32,
+    mut room: Rows<i128>,
+    members: &[RankId],
+) -> Numbers
+    requires room { count ≤ length room }
+    requires given { AllByRecursion (λ m. GivesNumbers num_type count (given_by buffers.now turn m)) members.now }
+    ensures { result ≡ fold_of (given_by buffers.now turn) op num_type members.now }
+{
+    match members {
+        [] => {
+            room.truncate(0);
+            Numbers::new(num_type, room)
+        }
+        [first, others @ ..] => {
+            room.truncate(count as usize);
+            room.overwrite(0, values(buffers, turn, *first));
+            let mut items = room.into_vec();
+            fold_onto(buffers, turn, op, num_type, items.as_mut_slice(), others);
+            Numbers::new(num_type, Rows::from_vec(items))
+        }
+    }
+}

@@ -1,0 +1,33 @@
+//! The generations of a turn. (GASPI: segment_create)
+
+ghost use Rattle.std.specs.Prelude.{◌≡◌};
+
+use gaspi_types::Made;
+use std::marker::Model;
+
+/// In which generation each member has made its segment, by rising rank. Contracts see the list.
+#[derive(Debug, Drop)]
+pub struct Generations {
+    pub(crate) made: [Made; 16],
+    pub(crate) count: usize,
+}
+
+impl Model for Generations {
+    ghost use Rattle.std.specs.Prelude.{◌≤◌, List, take};
+    ghost use Rattle.gaspi_types.specs.declared.groups.Made.{Made};
+
+    ghost Value = { List Made };
+
+    ghost view = { λ generations. take generations.count generations.made };
+
+    ghost invariant = { λ generations. generations.count ≤ 16 };
+}
+
+impl Generations {
+    /// The generations, by rising rank.
+    pub fn as_slice(&self) -> &[Made]
+        ensures { result.now ≡ self.now }
+    {
+        &self.made[..self.count]
+    }
+}

@@ -1,0 +1,22 @@
+//! The collectives of one group: who has joined which turn with what, when a turn is full, and what it comes to, in two buffers.
+//! (GASPI: collectives)
+//!
+//! Ranks take turns one after another, and no member is over one turn ahead of another. So a rank's contributions to its last two
+//! turns are enough: one buffer has those of the even turns, and the other those of the odd ones. Contracts say what each call
+//! answers and leaves in the words of `gaspi_types` on groups, whose lists of contributions only grow, for each group that the
+//! buffers stand for. Only `Rounds::new` takes memory.
+#![tactic(auto)]
+
+mod buffers;
+mod folding;
+mod generations;
+mod reading;
+mod rounds;
+mod slots;
+
+pub use collective_rules::{check_count, check_type};
+pub use generations::Generations;
+pub use rounds::Rounds;
+
+#[cfg(test)]
+mod tests;

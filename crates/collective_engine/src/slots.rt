@@ -1,0 +1,79 @@
+//! The slot of one rank in one buffer. (GASPI: collectives)
+
+ghost use Rattle.std.specs.Prelude.{◌≡◌, ◌≤◌, length, IfOk};
+ghost use Rattle.gaspi_types.specs.NumberTypes.{AreInType};
+
+use gaspi_types::{Args, Coll, NoMemory, NumType, Rows};
+use std::alloc::Global;
+use std::marker::Model;
+
+/// Room for one contribution, of up to 255 numbers. Contracts see the contribution that it keeps.
+#[derive(Debug, Drop)]
+pub(crate) struct Slot {
+    coll: Coll,
+    num_type: NumType,
+    /// 255 numbers, of which the first `count` are those of the contribution.
+    room: Rows<i128>,
+    count: usize,
+    generation: u32,
+}
+
+impl Model for Slot {
+    ghost use Rattle.gaspi_types.specs.declared.groups.Contribution.{Contribution};
+
+    ghost Value = { Contribution };
+
+    ghost use Rattle.collective_engine.specs.Slots.{kept_in, IsSlot};
+
+    ghost view = { kept_in };
+
+    ghost invariant = { IsSlot };
+}
+
+impl Slot {
+    /// A slot that keeps nothing that is ever read. All its memory is taken here.
+    pub(crate) fn empty(alloc: Global) -> Result<Slot, NoMemory> {
+        Ok(Slot {
+            coll: Coll::Barrier,
+            num_type: NumType::Int,
+            room: Rows::from_vec(vec![in alloc; 0; 255]?),
+            count: 0,
+            generation: 0,
+        })
+    }
+
+    /// Keeps a contribution in place of the one that it kept.
+    pub(crate) fn put(&mut self, args: &Args, generation: u32)
+        requires { length args.now.values.items ≤ 255 }
+        ensures { self.new ≡ record { args = args.now; generation = generation } }
+    {
+        let items = args.values.items();
+        self.coll = args.coll;
+        self.num_type = args.values.num_type();
+        self.room.overwrite(0, items);
+        self.count = items.len();
+        self.generation = generation;
+    }
+
+    /// What the contribution is for, values aside.
+    pub(crate) fn coll(&self) -> Coll
+        ensures { result ≡ self.now.args.coll }
+    {
+        self.coll
+    }
+
+    /// The numbers of the contribution.
+    pub(crate) fn values(&self) -> &[i128]
+        ensures items { result.now ≡ self.now.args.values.items }
+        ensures range { AreInType self.now.args.values.num_type self.now.args.values.items }
+    {
+        &self.room.as_slice()[..self.count]
+    }
+
+    /// The generation of the contribution.
+    pub(crate) fn generation(&self) -> u32
+        ensures { result ≡ self.now.generation }
+    {
+        self.generation
+    }
+}
