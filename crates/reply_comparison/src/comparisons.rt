@@ -1,11 +1,12 @@
-//! Replies compared.
+//! Replies, refusals and the arguments of collectives compared.
 
-ghost use Rattle.std.specs.Prelude.{◌≡◌, nat_eq};
+ghost use Rattle.std.specs.Prelude.{◌≡◌, true, nat_eq};
 ghost use Rattle.std.specs.Cmp.Lexicographic.{pointwise};
 ghost use Rattle.reply_comparison.specs.Fields.{listed};
+ghost use Rattle.gaspi_types.specs.Collectives.{same_coll, same_args};
 ghost use Rattle.gaspi_types.specs.Replies.{refusal_fields, coll_fields, stage_number, op_number, type_number, same_refusal, same_numbers, same_reply};
 
-use gaspi_types::{Coll, NumType, Numbers, Op, Refusal, Reply, Stage};
+use gaspi_types::{Args, Coll, NumType, Numbers, Op, Refusal, Reply, Stage};
 
 /// The fields of a refusal as numbers, in order.
 #[derive(Clone, Copy)]
@@ -113,6 +114,21 @@ fn same_numbers(a: &Numbers, b: &Numbers) -> bool
     ensures { result ≡ same_numbers a.now b.now }
 {
     type_number(a.num_type()) == type_number(b.num_type()) && a.items() == b.items()
+}
+
+/// Whether collectives are the same, values aside: their kinds and their arguments are. (GASPI: collectives)
+pub fn same_coll(a: Coll, b: Coll) -> bool
+    ensures value { result ≡ same_coll a b }
+    ensures equal { result ≡ true → a ≡ b }
+{
+    same_fields(coll_fields(a), coll_fields(b))
+}
+
+/// Whether the arguments of collectives are the same, values included. (GASPI: timeouts)
+pub fn same_args(a: &Args, b: &Args) -> bool
+    ensures { result ≡ same_args a.now b.now }
+{
+    same_coll(a.coll, b.coll) && same_numbers(&a.values, &b.values)
 }
 
 /// Whether replies are the same.

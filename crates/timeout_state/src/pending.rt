@@ -1,0 +1,72 @@
+//! The collectives of a rank that are pending. (GASPI: timeouts)
+
+ghost use Rattle.std.specs.Prelude.{◌≡◌, None, Some, IfOk, replicate, slice_set};
+ghost use Rattle.gaspi_types.specs.Collectives.{resume};
+ghost use Rattle.gaspi_types.specs.Tables.{entry_at};
+
+use gaspi_types::{Args, GroupId, NoMemory, Refusal, Resume, Rows, ThreadId};
+use std::alloc::Global;
+use std::marker::Model;
+
+/// The collectives of one rank that a thread has joined and whose answer it has not got: at most one on each group. Contracts see
+/// the list of them by the groups' numbers, 0 to 7.
+#[derive(Debug, Drop)]
+pub struct Pending {
+    table: Rows<Option<gaspi_types::Pending>>,
+}
+
+impl Model for Pending {
+    ghost use Rattle.std.specs.Prelude.{◌≡◌, List, Option, length};
+    ghost use Rattle.gaspi_types.specs.declared.groups.Pending.{Pending as Kept};
+
+    ghost Value = { List (Option Kept) };
+
+    ghost view = { λ pending. pending.table };
+
+    ghost invariant = { λ pending. length pending.table ≡ 8 };
+}
+
+impl Pending {
+    ghost use Rattle.timeout_state.specs.Pendings.{IsOfThread};
+
+    /// Nothing is pending. All room is taken here, and no memory after.
+    pub fn new(alloc: Global) -> Result<Pending, NoMemory>
+        ensures { IfOk result (λ pending. pending ≡ replicate 8 None) }
+    {
+        let mut table = Rows::with_room(alloc, 8)?;
+        for _group in 0..8u32 {
+            table.push(None)?;
+        }
+        Ok(Pending { table })
+    }
+
+    /// What a collective of a thread meets on a group: `Fresh` where none is pending there, `Same` where it is the one that is. Else
+    /// `ActiveCollective` where that is another thread's, or `ResumeOther` where it differs in kind, arguments or values.
+    /// (GASPI: timeouts)
+    pub fn state(&self, group: GroupId, thread: ThreadId, args: &Args) -> Result<Resume, Refusal>
+        ensures { result ≡ resume (entry_at self.now group) thread (Some args.now) }
+    {
+        let pending = self.table.at(group.index()).as_ref();
+        collective_rules::resume(pending, thread, Some(args))
+    }
+
+    /// Makes a collective of a thread pending on a group, on which none is. It takes no memory. (GASPI: collectives)
+    pub fn put_in(&mut self, group: GroupId, thread: ThreadId, args: Args)
+        requires { entry_at self.old group ≡ None }
+        ensures { self.new ≡ slice_set self.old group (Some (record { thread = thread; args = args })) }
+    {
+        *self.table.at_mut(group.index()) = Some(gaspi_types::Pending { thread, args });
+    }
+
+    /// Takes out the collective that is pending on a group, which is this thread's, and gives its arguments. It takes no memory.
+    /// (GASPI: collectives)
+    pub fn take_out(&mut self, group: GroupId, thread: ThreadId) -> Args
+        requires { IsOfThread (entry_at self.old group) thread }
+        ensures taken { entry_at self.old group ≡ Some (record { thread = thread; args = result }) }
+        ensures others { self.new ≡ slice_set self.old group None }
+    {
+        let _ = thread;
+        let pending = self.table.at_mut(group.index()).take();
+        pending.unwrap().args
+    }
+}
