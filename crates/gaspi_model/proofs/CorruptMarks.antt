@@ -14,7 +14,7 @@ use Rattle.gaspi_types.specs.declared.replies.Reply.{Reply}
 use Rattle.gaspi_types.specs.declared.events.Outcome.{Outcome}
 use Rattle.gaspi_types.specs.declared.events.Outcome.TheVariants.{Applied, Failed}
 use Rattle.gaspi_types.specs.declared.events.Event.{Event}
-use Rattle.gaspi_types.specs.declared.events.Event.TheVariants.{Called, Take, Put}
+use Rattle.gaspi_types.specs.declared.events.Event.TheVariants.{Called, Joined, Take, Put}
 use Rattle.gaspi_model.specs.State.{opening}
 use Rattle.gaspi_model.specs.Posting.{with_post, counted}
 use Rattle.gaspi_model.specs.Calls.{posts_done, plain_done, call_asks}
@@ -25,6 +25,7 @@ use Rattle.gaspi_model.specs.declared.states.Posts.{Posts}
 use Rattle.gaspi_model.specs.declared.states.Memory.{Memory}
 use Rattle.gaspi_model.specs.declared.states.State.{State}
 use Rattle.gaspi_model.specs.declared.states.Why.{Why}
+use Rattle.gaspi_model.proofs.MetPosts.{IsMet, met-called, met-joined}
 use Rattle.gaspi_model.proofs.Made.{IsTake, IsPut, step-called, step-take, step-put}
 use Rattle.gaspi_model.proofs.FoundEntries.{failed_with}
 use Rattle.gaspi_types.proofs.Items.{slice_get-set_same, slice_get-set_other, same-or-not}
@@ -118,16 +119,26 @@ put-marks : (posts : Posts) (memory : Memory) (queue target number : ℕ) (outco
 put-marks posts memory queue target number Applied after at h k mark = rw h.leaves mark
 put-marks posts memory queue target number Failed after at h k mark = rw h.leaves (failed-marks posts queue target at k mark)
 
+met-corrupt : (s t : State) (me : ℕ) (posts after : Posts) (rank target : ℕ) → IsMet s t me posts after → is_corrupt s rank target ≡ true → is_corrupt t rank target ≡ true
+met-corrupt s t me posts after rank target met corrupt =
+    let mark = replaced-marks s.posts me posts after rank target met.there (same-marks posts after met.keeps.corrupt) (marked s rank target corrupt) in
+    is-corrupt t rank target (subst (λ (all : List Posts). IsMarked all rank target) (sym met.leaves) mark)
+
 step-corrupt : (s t : State) (e : Event) (rank target : ℕ) → step s e ≡ Ok t → is_corrupt s rank target ≡ true → is_corrupt t rank target ≡ true
-step-corrupt s t (Called c call reply) rank target h corrupt =
-    let made = step-called s t c call reply h in
-    let m = made.3 in
-    let same : made.2.posts.corrupt ≡ made.0.corrupt =
-    rw m.is.leaves (after-marks (is_idle reply) made.0 (posts_done s.limits c.rank made.0 c.thread call) (done-marks s.limits c.rank made.0 c.thread call)) in
-    let all = slice_set s.posts c.rank made.2.posts in
-    let mark = told-marks s.limits.ranks c.rank made.0 call reply all rank target
-    (replaced-marks s.posts c.rank made.0 made.2.posts rank target m.posts_there (same-marks made.0 made.2.posts same) (marked s rank target corrupt)) in
-    is-corrupt t rank target (rw m.leaves mark)
+step-corrupt s t (Joined c id args) rank target h corrupt = met-corrupt s t c.rank _ _ rank target (met-joined s t c id args h).2 corrupt
+step-corrupt s t (Called c call reply) rank target h corrupt = by-group (row_of call).group refl
+  where
+    by-group : (o : Option ℕ) → (row_of call).group ≡ o → is_corrupt t rank target ≡ true
+    by-group (Some id) named = met-corrupt s t c.rank _ _ rank target (met-called s t c id call reply named h).2 corrupt
+    by-group None plain =
+        let made = step-called s t c call reply plain h in
+        let m = made.3 in
+        let same : made.2.posts.corrupt ≡ made.0.corrupt =
+        rw m.is.leaves (after-marks (is_idle reply) made.0 (posts_done s.limits c.rank made.0 c.thread call) (done-marks s.limits c.rank made.0 c.thread call)) in
+        let all = slice_set s.posts c.rank made.2.posts in
+        let mark = told-marks s.limits.ranks c.rank made.0 call reply all rank target
+        (replaced-marks s.posts c.rank made.0 made.2.posts rank target m.posts_there (same-marks made.0 made.2.posts same) (marked s rank target corrupt)) in
+        is-corrupt t rank target (rw m.leaves mark)
 step-corrupt s t (Take origin queue target' number outcome) rank target h corrupt =
     let made = step-take s t origin queue target' number outcome h in
     let m = made.4 in

@@ -1,5 +1,5 @@
 -- Histories, one event after another.
-use Rattle.std.proofs.Common.{◌≡◌, true, List, [], ◌∷◌, ◌++◌, Result, Ok, Err, refl, sym, ap, ◌∙◌, is_ok}
+use Rattle.std.proofs.Common.{◌≡◌, true, List, [], ◌∷◌, ◌++◌, Result, Ok, Err, refl, sym, ap, ◌∙◌, is_ok, ℕ, Option, None, Some}
 use Rattle.std.specs.List.{slice_set}
 use Rattle.gaspi_types.specs.Replies.{is_idle}
 use Rattle.gaspi_types.specs.World.{World, IsWorld}
@@ -17,6 +17,10 @@ use Rattle.gaspi_model.specs.declared.states.Posts.{Posts}
 use Rattle.gaspi_model.specs.declared.states.Memory.{Memory}
 use Rattle.gaspi_model.specs.declared.states.State.{State}
 use Rattle.gaspi_model.specs.declared.states.Why.{Why}
+use Rattle.gaspi_types.specs.CallRows.{row_of}
+use Rattle.gaspi_types.specs.declared.groups.Group.{Group}
+use Rattle.gaspi_model.specs.Step.{group_in}
+use Rattle.gaspi_model.proofs.GroupSteps.{with_group_at, group-same, step-completed}
 use Rattle.gaspi_model.proofs.Made.{memories_at, call_reach, memories-same, step-called}
 use Rattle.gaspi_model.proofs.Sound.Told.{told-idle}
 use Rattle.gaspi_model.proofs.Sound.Opening.{opens}
@@ -75,19 +79,3 @@ after-limits s t (e ∷ events) h =
 -- every state of a legal history is sound
 pub reached-sound : (w : World) (history : List Event) (s : State) → IsWorld w → reached w history ≡ Ok s → IsSound s
 reached-sound w history s world h = after-sound (opening w) s history (opens w world) h
-
--- a refusal or a timeout changes nothing but the count of events
-pub only-counted : (s t : State) (c : CallerId) (call : Call) (reply : Reply) → is_idle reply ≡ true → step s (Called c call reply) ≡ Ok t → IsOnlyCounted s t c.rank
-only-counted s t c call reply idle h =
-    let made = step-called s t c call reply h in
-    let m = made.3 in
-    let posts : made.2.posts ≡ counted made.0 = rw (m.is.leaves, idle) refl in
-    let memory : made.2.memory ≡ made.1 = rw (m.is.leaves, idle) refl in
-    record {
-      posts = made.0;
-      there = m.posts_there;
-      after = m.leaves ∙ ap (λ (x : List Posts). record s { posts = x; memories = memories_at (call_reach s.limits.ranks c.rank call) c.rank made.2.memory s.memories })
-          (told-idle s.limits.ranks c.rank made.0 call reply (slice_set s.posts c.rank made.2.posts) idle ∙ ap (slice_set s.posts c.rank) posts)
-          ∙ ap (λ (x : List Memory). record s { posts = slice_set s.posts c.rank (counted made.0); memories = x })
-          (ap (λ (m' : Memory). memories_at (call_reach s.limits.ranks c.rank call) c.rank m' s.memories) (memory ∙ m.worked) ∙ memories-same (call_reach s.limits.ranks c.rank call) c.rank s.memories);
-    }

@@ -2,12 +2,16 @@ pub mod Asked
 pub mod FoundEntries
 pub mod Made
 pub mod Same
+pub mod GroupSteps
+pub mod CollectiveFinds
+pub mod MetPosts
 pub mod FoundReplies
 pub mod PassiveFinds
 pub mod GroupFinds
 pub mod Worked
 pub mod CorruptMarks
 pub mod Histories
+pub mod IdleSteps
 pub mod WorkedHistories
 pub mod WorkedMessages
 pub mod Sound

@@ -1,4 +1,5 @@
 -- Transfers are listed exactly, once, in order, and what may come next is a step.
 pub mod Enabled
+pub mod Joining
 pub mod Order
 pub mod Steps

@@ -1,5 +1,5 @@
 -- What a transfer that was made says, and what a call that was recorded says.
-use Rattle.std.proofs.Common.{◌≡◌, ℕ, zero, suc, ◌+◌, true, List, [], ◌∷◌, Option, None, Some, Ok, refl, sym, ap, ◌∙◌, subst, is_none, length, nat_le}
+use Rattle.std.proofs.Common.{◌≡◌, ℕ, zero, suc, ◌+◌, Bool, true, false, ◌==◌, nat_lt, if◌then◌else◌, ◌⊎◌, inl, inr, List, [], ◌∷◌, Option, None, Some, Ok, refl, sym, ap, ◌∙◌, subst, is_none, length, nat_le}
 use Rattle.std.specs.List.{slice_get, slice_set}
 use Rattle.gaspi_types.specs.Lanes.{may_take, may_put}
 use Rattle.gaspi_types.specs.Replies.{same_reply}
@@ -13,8 +13,9 @@ use Rattle.gaspi_types.specs.declared.entries.Kind.{Kind}
 use Rattle.gaspi_types.specs.declared.entries.Kind.TheVariants.{Write, Read, Notify, ReadNote}
 use Rattle.gaspi_types.specs.declared.touches.Touch.{Touch}
 use Rattle.gaspi_types.specs.declared.touches.Touch.TheVariants as touches
+use Rattle.gaspi_types.specs.declared.groups.Group as groups
 use Rattle.gaspi_types.specs.declared.touches.Reach.{Reach}
-use Rattle.gaspi_types.specs.declared.touches.Reach.TheVariants.{Alone, OwnMemory, PeerMemory, BothMemories, PeerPosts}
+use Rattle.gaspi_types.specs.declared.touches.Reach.TheVariants.{Alone, OwnMemory, PeerMemory, BothMemories, PeerPosts, Group, GroupAndMemory}
 use Rattle.gaspi_types.specs.declared.shapes.Limits.{Limits}
 use Rattle.gaspi_types.specs.declared.shapes.CallerId.{CallerId}
 use Rattle.gaspi_types.specs.declared.calls.Call.{Call}
@@ -26,7 +27,7 @@ use Rattle.gaspi_types.specs.Tables.{changed_at}
 use Rattle.gaspi_model.specs.Calls.{answer, recorded_reply, charge, posts_after, memory_after, peer_after}
 use Rattle.gaspi_model.specs.Transfers.{Found, find_entry, bytes_taken, take, put, taken_bytes, memory_with, memory_after_put, take_outcome, put_outcome, same_outcome, entry_in, Worked}
 use Rattle.gaspi_types.specs.declared.inboxes.Message.{Message}
-use Rattle.gaspi_model.specs.Step.{step, call_brought, called, is_there, on_parts, entry_touch}
+use Rattle.gaspi_model.specs.Step.{step, call_brought, called, is_there, on_parts, called_on, entry_touch}
 use Rattle.gaspi_model.specs.Parts.{memory_or_none, no_memory, part_at, with_part, parts_of, with_parts, touched_of, worked_memory, with_worked_memory}
 use Rattle.gaspi_model.specs.declared.states.Posts.{Posts}
 use Rattle.gaspi_model.specs.declared.states.Memory.{Memory}
@@ -99,6 +100,8 @@ memory_at OwnMemory me all = memory_or_none (slice_get all me)
 memory_at (PeerMemory rank) me all = memory_or_none (slice_get all rank)
 memory_at (BothMemories rank) me all = memory_or_none (slice_get all rank)
 memory_at (PeerPosts rank) me all = no_memory
+memory_at (Group id) me all = no_memory
+memory_at (GroupAndMemory id) me all = memory_or_none (slice_get all me)
 
 abbrev pub memories_at : Reach → ℕ → Memory → List Memory → List Memory
 memories_at Alone me memory all = all
@@ -106,6 +109,8 @@ memories_at OwnMemory me memory all = slice_set all me memory
 memories_at (PeerMemory rank) me memory all = slice_set all rank memory
 memories_at (BothMemories rank) me memory all = slice_set all rank memory
 memories_at (PeerPosts rank) me memory all = all
+memories_at (Group id) me memory all = all
+memories_at (GroupAndMemory id) me memory all = slice_set all me memory
 
 pub worked-at : (s : State) (posts : Posts) (me : ℕ) (reach : Reach) → worked_memory reach (parts_of s posts (touched_of me reach)) ≡ memory_at reach me s.memories
 worked-at s posts me Alone = refl
@@ -113,6 +118,8 @@ worked-at s posts me OwnMemory = refl
 worked-at s posts me (PeerMemory rank) = refl
 worked-at s posts me (BothMemories rank) = refl
 worked-at s posts me (PeerPosts rank) = refl
+worked-at s posts me (Group id) = refl
+worked-at s posts me (GroupAndMemory id) = refl
 
 -- what stands there, or nothing, set there changes nothing
 same-set : (all : List Memory) (place : ℕ) → slice_set all place (memory_or_none (slice_get all place)) ≡ all
@@ -133,6 +140,8 @@ memories-same OwnMemory me all = same-set all me
 memories-same (PeerMemory rank) me all = same-set all rank
 memories-same (BothMemories rank) me all = same-set all rank
 memories-same (PeerPosts rank) me all = refl
+memories-same (Group id) me all = refl
+memories-same (GroupAndMemory id) me all = same-set all me
 
 pub memories-length : (reach : Reach) (me : ℕ) (memory : Memory) (all : List Memory) → length (memories_at reach me memory all) ≡ length all
 memories-length Alone me memory all = refl
@@ -140,13 +149,15 @@ memories-length OwnMemory me memory all = length-set all me memory
 memories-length (PeerMemory rank) me memory all = length-set all rank memory
 memories-length (BothMemories rank) me memory all = length-set all rank memory
 memories-length (PeerPosts rank) me memory all = refl
+memories-length (Group id) me memory all = refl
+memories-length (GroupAndMemory id) me memory all = length-set all me memory
 
 -- a memory that is written back as it was
-part-same : (table : List Memory) (touched : Option ℕ) → with_part table touched (part_at table touched) ≡ table
+pub part-same : {A : Type 0} (table : List A) (touched : Option ℕ) → with_part table touched (part_at table touched) ≡ table
 part-same table None = refl
-part-same table (Some place) = go (slice_get table place) refl
+part-same {A} table (Some place) = go (slice_get table place) refl
   where
-    go : (o : Option Memory) → slice_get table place ≡ o → with_part table (Some place) (slice_get table place) ≡ table
+    go : (o : Option A) → slice_get table place ≡ o → with_part table (Some place) (slice_get table place) ≡ table
     go None at = rw at refl
     go (Some x) at = rw at (set-there table place x at)
 
@@ -163,6 +174,10 @@ lifted-after s me OwnMemory before after memory change apart = refl
 lifted-after s me (PeerMemory rank) before after memory change apart = refl
 lifted-after s me (BothMemories rank) before after memory change apart =
     ap (λ (x : List Memory). record s { posts = slice_set s.posts me after; memories = slice_set x rank memory }) (part-same s.memories (Some me))
+lifted-after s me (Group id) before after memory change apart =
+    ap (λ (x : List groups.Group). record s { posts = slice_set s.posts me after; groups = x }) (part-same s.groups (Some id))
+lifted-after s me (GroupAndMemory id) before after memory change apart =
+    ap (λ (x : List groups.Group). record s { posts = slice_set s.posts me after; memories = slice_set s.memories me memory; groups = x }) (part-same s.groups (Some id))
 lifted-after s me (PeerPosts rank) before after memory change apart = ap (λ (x : List Posts). record s { posts = x }) (go (slice_get s.posts rank) refl)
   where
     other : slice_get (slice_set s.posts me after) rank ≡ slice_get s.posts rank
@@ -194,11 +209,12 @@ pub record IsCalledStep (s t : State) (c : CallerId) (call : Call) (reply : Repl
     memories = memories_at (call_reach s.limits.ranks c.rank call) c.rank after.memory s.memories;
   }
 
-pub step-called : (s t : State) (c : CallerId) (call : Call) (reply : Reply) → step s (Called c call reply) ≡ Ok t
+pub step-called : (s t : State) (c : CallerId) (call : Call) (reply : Reply) → (row_of call).group ≡ None → step s (Called c call reply) ≡ Ok t
     → (posts : Posts) × (memory : Memory) × (after : Worked) × IsCalledStep s t c call reply posts memory after
-step-called s t c call reply h =
+step-called s t c call reply plain h =
     found_then (slice_get s.posts c.rank) whys.Caller _ t h (λ posts hp h1.
-    bind_then (on_parts s.limits reach (Called c call reply) (parts_of s posts (touched_of c.rank reach))) _ t h1 (λ parts hl h2.
+    bind_then (on_parts s.limits reach (Called c call reply) (parts_of s posts (touched_of c.rank reach))) _ t h1 (λ parts hl0 h2.
+    let hl : called_on s.limits reach c call reply (parts_of s posts (touched_of c.rank reach)) ≡ Ok parts = rw plain at hl0 in
     bind_then (called s.limits c.rank posts (call_brought s c.rank call) (worked_memory reach (parts_of s posts (touched_of c.rank reach))) c.thread call reply) _ parts hl (λ after ha h3.
     let worked = worked-at s posts c.rank reach in
     let ends = lifted-after s c.rank reach posts after.posts after.memory (peer_after c.rank posts call reply) (peer-apart s.limits.ranks c.rank (row_of call).touch) in
@@ -228,6 +244,8 @@ step-called s t c call reply h =
         go (PeerMemory rank) = refl
         go (BothMemories rank) = refl
         go (PeerPosts rank) = refl
+        go (Group id) = refl
+        go (GroupAndMemory id) = refl
 
 -- the reach of the take and of the put of an entry
 abbrev pub take_reach : ℕ → ℕ → ℕ → Kind → Reach
@@ -250,6 +268,68 @@ pub record IsPutStep (s t : State) (origin queue target number : ℕ) (outcome :
     posts = slice_set s.posts origin after.posts;
     memories = memories_at (put_reach s.limits.ranks origin target at.entry.kind) origin after.memory s.memories;
   }
+
+-- a reach that is another is the same of a group
+onto : {r r' : Reach} {id : ℕ} → r ≡ r' → (r ≡ Group id) ⊎ (r ≡ GroupAndMemory id) → (r' ≡ Group id) ⊎ (r' ≡ GroupAndMemory id)
+onto same (inl is) = inl (sym same ∙ is)
+onto same (inr is) = inr (sym same ∙ is)
+
+-- whether a touch is of a group
+abbrev pub is_grouped : Touch → Bool
+is_grouped touches.Nothing = false
+is_grouped touches.OwnMemory = false
+is_grouped (touches.MemoryOf rank) = false
+is_grouped (touches.BothMemories rank) = false
+is_grouped (touches.PostsOf rank) = false
+is_grouped (touches.GroupOf id) = true
+is_grouped (touches.GroupAndMemory id) = true
+
+ungrouped : (ranks me id : ℕ) (touch : Touch) → is_grouped touch ≡ false → (reach_of ranks me touch ≡ Group id) ⊎ (reach_of ranks me touch ≡ GroupAndMemory id) → ⊥
+ungrouped ranks me id touches.Nothing plain (inl is) = (let no : ⊥ = cc in no)
+ungrouped ranks me id touches.Nothing plain (inr is) = (let no : ⊥ = cc in no)
+ungrouped ranks me id touches.OwnMemory plain (inl is) = (let no : ⊥ = cc in no)
+ungrouped ranks me id touches.OwnMemory plain (inr is) = (let no : ⊥ = cc in no)
+ungrouped ranks me id (touches.MemoryOf r) plain is = go (r == me) (nat_lt r ranks) is
+  where
+    go : (b c : Bool) → ((if b then OwnMemory else (if c then PeerMemory r else Alone)) ≡ Group id) ⊎ ((if b then OwnMemory else (if c then PeerMemory r else Alone)) ≡ GroupAndMemory id) → ⊥
+    go true c (inl h) = cc
+    go true c (inr h) = cc
+    go false true (inl h) = cc
+    go false true (inr h) = cc
+    go false false (inl h) = cc
+    go false false (inr h) = cc
+ungrouped ranks me id (touches.BothMemories r) plain is = go (r == me) (nat_lt r ranks) is
+  where
+    go : (b c : Bool) → ((if b then OwnMemory else (if c then BothMemories r else Alone)) ≡ Group id) ⊎ ((if b then OwnMemory else (if c then BothMemories r else Alone)) ≡ GroupAndMemory id) → ⊥
+    go true c (inl h) = cc
+    go true c (inr h) = cc
+    go false true (inl h) = cc
+    go false true (inr h) = cc
+    go false false (inl h) = cc
+    go false false (inr h) = cc
+ungrouped ranks me id (touches.PostsOf r) plain is = go (r == me) (nat_lt r ranks) is
+  where
+    go : (b c : Bool) → ((if b then Alone else (if c then PeerPosts r else Alone)) ≡ Group id) ⊎ ((if b then Alone else (if c then PeerPosts r else Alone)) ≡ GroupAndMemory id) → ⊥
+    go true c (inl h) = cc
+    go true c (inr h) = cc
+    go false true (inl h) = cc
+    go false true (inr h) = cc
+    go false false (inl h) = cc
+    go false false (inr h) = cc
+ungrouped ranks me id (touches.GroupOf g) plain is = (let no : ⊥ = cc in no)
+ungrouped ranks me id (touches.GroupAndMemory g) plain is = (let no : ⊥ = cc in no)
+
+take-plain : (target : ℕ) (kind : Kind) → is_grouped (take_touch target kind) ≡ false
+take-plain target (Write own to) = refl
+take-plain target (Read own to) = refl
+take-plain target (Notify to value) = refl
+take-plain target (ReadNote own) = refl
+
+put-plain : (target : ℕ) (kind : Kind) → is_grouped (put_touch target kind) ≡ false
+put-plain target (Write own to) = refl
+put-plain target (Read own to) = refl
+put-plain target (Notify to value) = refl
+put-plain target (ReadNote own) = refl
 
 -- the entry that was found is the one by which the reach is told
 pub entry-found : (posts : Posts) (queue target number : ℕ) (at : Found) → IsFound posts queue target number at → entry_in posts queue target number ≡ Some at.entry
@@ -274,6 +354,15 @@ put-alone ranks origin target kind rank is = go kind (peer-touched ranks origin 
     go (Notify to value) touched = (let no : ⊥ = cc in no)
     go (ReadNote own) touched = (let no : ⊥ = cc in no)
 
+-- nor a group
+take-ungrouped : (ranks origin target : ℕ) (kind : Kind) (id : ℕ) → (take_reach ranks origin target kind ≡ Group id) ⊎ (take_reach ranks origin target kind ≡ GroupAndMemory id) → ⊥
+take-ungrouped ranks origin target kind id (inl is) = ungrouped ranks origin id (take_touch target kind) (take-plain target kind) (inl is)
+take-ungrouped ranks origin target kind id (inr is) = ungrouped ranks origin id (take_touch target kind) (take-plain target kind) (inr is)
+
+put-ungrouped : (ranks origin target : ℕ) (kind : Kind) (id : ℕ) → (put_reach ranks origin target kind ≡ Group id) ⊎ (put_reach ranks origin target kind ≡ GroupAndMemory id) → ⊥
+put-ungrouped ranks origin target kind id (inl is) = ungrouped ranks origin id (put_touch target kind) (put-plain target kind) (inl is)
+put-ungrouped ranks origin target kind id (inr is) = ungrouped ranks origin id (put_touch target kind) (put-plain target kind) (inr is)
+
 pub step-take : (s t : State) (origin queue target number : ℕ) (outcome : Outcome) → step s (Take origin queue target number outcome) ≡ Ok t
     → (posts : Posts) × (memory : Memory) × (after : Posts) × (at : Found) × IsTakeStep s t origin queue target number outcome posts memory after at
 step-take s t origin queue target number outcome h =
@@ -293,7 +382,8 @@ step-take s t origin queue target number outcome h =
         is = subst (λ (m : Memory). IsTake s.limits posts m queue target number outcome after taken.0)
             (worked-at s posts origin (reach posts) ∙ ap (λ (r : Reach). memory_at r origin s.memories) reaches) taken.1;
         leaves = state ∙ ap (with_parts s origin (touched_of origin (reach posts))) (sym (same_Ok _ _ h3))
-            ∙ leaves posts after (reach posts) (λ rank is. take-alone s.limits.ranks origin target taken.0.entry.kind rank (sym reaches ∙ is));
+            ∙ leaves posts after (reach posts) (λ rank is. take-alone s.limits.ranks origin target taken.0.entry.kind rank (sym reaches ∙ is))
+            (λ id is. take-ungrouped s.limits.ranks origin target taken.0.entry.kind id (onto reaches is));
       },
     ))))
   where
@@ -303,15 +393,17 @@ step-take s t origin queue target number outcome h =
     reach-is : (posts : Posts) (e : Entry) → entry_in posts queue target number ≡ Some e → reach posts ≡ take_reach s.limits.ranks origin target e.kind
     reach-is posts e found = rw found refl
 
-    leaves : (posts after : Posts) (r : Reach) → ((rank : ℕ) → r ≡ PeerPosts rank → ⊥)
+    leaves : (posts after : Posts) (r : Reach) → ((rank : ℕ) → r ≡ PeerPosts rank → ⊥) → ((id : ℕ) → (r ≡ Group id) ⊎ (r ≡ GroupAndMemory id) → ⊥)
         → with_parts s origin (touched_of origin r) (record (parts_of s posts (touched_of origin r)) { posts = after }) ≡ record s { posts = slice_set s.posts origin after }
-    leaves posts after Alone none = refl
-    leaves posts after OwnMemory none = ap (λ (x : List Memory). record s { posts = slice_set s.posts origin after; memories = x }) (part-same s.memories (Some origin))
-    leaves posts after (PeerMemory rank) none = ap (λ (x : List Memory). record s { posts = slice_set s.posts origin after; memories = x }) (part-same s.memories (Some rank))
-    leaves posts after (BothMemories rank) none =
+    leaves posts after Alone none ungrouped = refl
+    leaves posts after OwnMemory none ungrouped = ap (λ (x : List Memory). record s { posts = slice_set s.posts origin after; memories = x }) (part-same s.memories (Some origin))
+    leaves posts after (PeerMemory rank) none ungrouped = ap (λ (x : List Memory). record s { posts = slice_set s.posts origin after; memories = x }) (part-same s.memories (Some rank))
+    leaves posts after (BothMemories rank) none ungrouped =
         ap (λ (x : List Memory). record s { posts = slice_set s.posts origin after; memories = with_part x (Some rank) (slice_get s.memories rank) }) (part-same s.memories (Some origin))
         ∙ ap (λ (x : List Memory). record s { posts = slice_set s.posts origin after; memories = x }) (part-same s.memories (Some rank))
-    leaves posts after (PeerPosts rank) none = absurd (none rank refl)
+    leaves posts after (PeerPosts rank) none ungrouped = absurd (none rank refl)
+    leaves posts after (Group id) none ungrouped = absurd (ungrouped id (inl refl))
+    leaves posts after (GroupAndMemory id) none ungrouped = absurd (ungrouped id (inr refl))
 
 pub step-put : (s t : State) (origin queue target number : ℕ) (outcome : Outcome) → step s (Put origin queue target number outcome) ≡ Ok t
     → (posts : Posts) × (memory : Memory) × (after : Worked) × (at : Found) × IsPutStep s t origin queue target number outcome posts memory after at
@@ -333,6 +425,7 @@ step-put s t origin queue target number outcome h =
             (worked-at s posts origin (reach posts) ∙ ap (λ (r : Reach). memory_at r origin s.memories) reaches) made.1;
         leaves = state ∙ ap (with_parts s origin (touched_of origin (reach posts))) (sym (same_Ok _ _ h3))
             ∙ leaves posts after (reach posts) (λ rank is. put-alone s.limits.ranks origin target made.0.entry.kind rank (sym reaches ∙ is))
+            (λ id is. put-ungrouped s.limits.ranks origin target made.0.entry.kind id (onto reaches is))
             ∙ ap (λ (r : Reach). record s { posts = slice_set s.posts origin after.posts; memories = memories_at r origin after.memory s.memories }) reaches;
       },
     ))))
@@ -343,12 +436,14 @@ step-put s t origin queue target number outcome h =
     reach-is : (posts : Posts) (e : Entry) → entry_in posts queue target number ≡ Some e → reach posts ≡ put_reach s.limits.ranks origin target e.kind
     reach-is posts e found = rw found refl
 
-    leaves : (posts : Posts) (after : Worked) (r : Reach) → ((rank : ℕ) → r ≡ PeerPosts rank → ⊥)
+    leaves : (posts : Posts) (after : Worked) (r : Reach) → ((rank : ℕ) → r ≡ PeerPosts rank → ⊥) → ((id : ℕ) → (r ≡ Group id) ⊎ (r ≡ GroupAndMemory id) → ⊥)
         → with_parts s origin (touched_of origin r) (record (with_worked_memory r (parts_of s posts (touched_of origin r)) after.memory) { posts = after.posts })
         ≡ record s { posts = slice_set s.posts origin after.posts; memories = memories_at r origin after.memory s.memories }
-    leaves posts after Alone none = refl
-    leaves posts after OwnMemory none = refl
-    leaves posts after (PeerMemory rank) none = refl
-    leaves posts after (BothMemories rank) none =
+    leaves posts after Alone none ungrouped = refl
+    leaves posts after OwnMemory none ungrouped = refl
+    leaves posts after (PeerMemory rank) none ungrouped = refl
+    leaves posts after (BothMemories rank) none ungrouped =
         ap (λ (x : List Memory). record s { posts = slice_set s.posts origin after.posts; memories = slice_set x rank after.memory }) (part-same s.memories (Some origin))
-    leaves posts after (PeerPosts rank) none = absurd (none rank refl)
+    leaves posts after (PeerPosts rank) none ungrouped = absurd (none rank refl)
+    leaves posts after (Group id) none ungrouped = absurd (ungrouped id (inl refl))
+    leaves posts after (GroupAndMemory id) none ungrouped = absurd (ungrouped id (inr refl))

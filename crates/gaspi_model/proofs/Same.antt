@@ -5,6 +5,8 @@ use Rattle.std.specs.Cmp.Lexicographic.{pointwise}
 use Rattle.std.proofs.lemmas.Bool.{eqb-true}
 use Rattle.std.proofs.lemmas.Bool.Decides.{Decides-int_eq}
 use Rattle.gaspi_types.specs.Replies.{refusal_number, refusal_fields, stage_number, op_number, type_number, coll_fields, same_refusal, same_numbers, same_reply}
+use Rattle.gaspi_types.specs.Collectives.{same_coll, same_args}
+use Rattle.gaspi_types.specs.declared.groups.Args.{Args}
 use Rattle.gaspi_types.specs.declared.collectives.NumType.{NumType}
 use Rattle.gaspi_types.specs.declared.collectives.Op.{Op}
 use Rattle.gaspi_types.specs.declared.collectives.Stage.{Stage}
@@ -148,6 +150,18 @@ same_numbers-same a b h =
     let parts = both (type_number a.num_type == type_number b.num_type) (pointwise int_eq a.items b.items) h in
     let types : a.num_type ≡ b.num_type = sym (type_named-same a.num_type) ∙ ap type_named (eqb-true (type_number a.num_type) (type_number b.num_type) parts.0) ∙ type_named-same b.num_type in
     ap (λ (t : NumType). numbers_of t a.items) types ∙ ap (numbers_of b.num_type) (pointwise-int a.items b.items parts.1)
+
+pub same_coll-same : (a b : Coll) → same_coll a b ≡ true → a ≡ b
+same_coll-same a b h = sym (coll_named-same a) ∙ ap coll_named (pointwise-same (coll_fields a) (coll_fields b) h) ∙ coll_named-same b
+
+args_with : Coll → TypedNumbers → Args
+args_with coll values = record { coll = coll; values = values }
+
+pub same_args-same : (a b : Args) → same_args a b ≡ true → a ≡ b
+unfolding args_with
+same_args-same a b h =
+    let parts = both (same_coll a.coll b.coll) (same_numbers a.values b.values) h in
+    ap (λ (c : Coll). args_with c a.values) (same_coll-same a.coll b.coll parts.0) ∙ ap (args_with b.coll) (same_numbers-same a.values b.values parts.1)
 
 pub same_reply-same : (a b : Reply) → same_reply a b ≡ true → a ≡ b
 same_reply-same replies.Done replies.Done h = refl

@@ -1,5 +1,5 @@
 -- In a sound state the memory that an event works on is there: its owner's, or that of a rank that it names.
-use Rattle.std.proofs.Common.{◌≡◌, ℕ, ◌<◌, Bool, true, false, ◌==◌, nat_lt, List, length, Option, Some, Ok, refl, sym, ap, ◌∙◌, subst, arith, if◌then◌else◌}
+use Rattle.std.proofs.Common.{◌≡◌, ℕ, ◌<◌, Bool, true, false, ◌==◌, nat_lt, List, length, Option, None, Some, Ok, refl, sym, ap, ◌∙◌, subst, arith, if◌then◌else◌}
 use Rattle.std.specs.List.{slice_get, slice_set}
 use Rattle.std.proofs.lemmas.Bool.{ltb-true, lt-ltb, eqb-true}
 use Rattle.std.proofs.lemmas.Option.{slice_get_within}
@@ -18,7 +18,7 @@ use Rattle.gaspi_types.specs.declared.replies.Reply.{Reply}
 use Rattle.gaspi_types.specs.declared.touches.Touch.{Touch}
 use Rattle.gaspi_types.specs.declared.touches.Touch.TheVariants as touches
 use Rattle.gaspi_types.specs.declared.touches.Reach.{Reach}
-use Rattle.gaspi_types.specs.declared.touches.Reach.TheVariants.{Alone, OwnMemory, PeerMemory, BothMemories, PeerPosts}
+use Rattle.gaspi_types.specs.declared.touches.Reach.TheVariants.{Alone, OwnMemory, PeerMemory, BothMemories, PeerPosts, Group, GroupAndMemory}
 use Rattle.gaspi_model.specs.State.{thread_at, is_running}
 use Rattle.gaspi_model.specs.Calls.{call_finds, answer, recorded_reply, ready_of, memory_done, memory_after}
 use Rattle.gaspi_model.specs.Parts.{memory_or_none}
@@ -49,6 +49,8 @@ memory_place OwnMemory me = me
 memory_place (PeerMemory rank) me = rank
 memory_place (BothMemories rank) me = rank
 memory_place (PeerPosts rank) me = me
+memory_place (Group id) me = me
+memory_place (GroupAndMemory id) me = me
 
 abbrev pub memory_rank : Limits → ℕ → Call → ℕ
 memory_rank limits me call = memory_place (call_reach limits.ranks me call) me
@@ -75,6 +77,16 @@ place-within ranks me (touches.PostsOf r) less = go (r == me) (nat_lt r ranks)
     go true c = less
     go false true = less
     go false false = less
+place-within ranks me (touches.GroupOf id) less = go (nat_lt id 8)
+  where
+    go : (b : Bool) → memory_place (if b then Group id else Alone) me < ranks
+    go true = less
+    go false = less
+place-within ranks me (touches.GroupAndMemory id) less = go (nat_lt id 8)
+  where
+    go : (b : Bool) → memory_place (if b then GroupAndMemory id else Alone) me < ranks
+    go true = less
+    go false = less
 
 -- whether an event of that reach works on no memory
 abbrev is_unworked : Reach → Bool
@@ -83,6 +95,8 @@ is_unworked OwnMemory = false
 is_unworked (PeerMemory rank) = false
 is_unworked (BothMemories rank) = false
 is_unworked (PeerPosts rank) = true
+is_unworked (Group id) = true
+is_unworked (GroupAndMemory id) = false
 
 -- An atomic that works on no memory names no rank.
 word-unworked : (limits : Limits) (me : ℕ) (posts : Posts) (m : Memory) (seg offset rank : ℕ) → is_unworked (reach_of limits.ranks me (touches.MemoryOf rank)) ≡ true → nat_lt rank limits.ranks ≡ false
@@ -166,10 +180,10 @@ pub record IsCalledThere (s t : State) (c : CallerId) (call : Call) (reply : Rep
     memories = slice_set s.memories (memory_rank s.limits c.rank call) after.memory;
   }
 
-pub called-there : (s t : State) (c : CallerId) (call : Call) (reply : Reply) → HasMemories s → step s (Called c call reply) ≡ Ok t
+pub called-there : (s t : State) (c : CallerId) (call : Call) (reply : Reply) → (row_of call).group ≡ None → HasMemories s → step s (Called c call reply) ≡ Ok t
     → (posts : Posts) × (memory : Memory) × (after : Worked) × IsCalledThere s t c call reply posts memory after
-called-there s t c call reply has h =
-    let made = step-called s t c call reply h in
+called-there s t c call reply plain has h =
+    let made = step-called s t c call reply plain h in
     let within = slice_get_within s.posts c.rank made.0 made.3.posts_there in
     let place = place-within s.limits.ranks c.rank (row_of call).touch (let ranks = has.ranks in omega arith) in
     let there = there-within s.memories (memory_rank s.limits c.rank call) (let memories = has.memories in omega arith) in
@@ -226,6 +240,10 @@ called-there s t c call reply has h =
         let here : slice_get s.memories rank ≡ Some memory = rw is at there in
         worked posts m after made memory there (rw (is, here) refl) (rw is refl)
     by-reach (PeerPosts rank) is posts m after made memory there = unworked posts m after made memory there (rw is refl) (rw is refl)
+    by-reach (Group id) is posts m after made memory there = unworked posts m after made memory there (rw is refl) (rw is refl)
+    by-reach (GroupAndMemory id) is posts m after made memory there =
+        let here : slice_get s.memories c.rank ≡ Some memory = rw is at there in
+        worked posts m after made memory there (rw (is, here) refl) (rw is refl)
 
 -- The memory that an event of some reach works on is there.
 worked-there : (s : State) (me : ℕ) (touch : Touch) → HasMemories s → me < s.limits.ranks → is_unworked (reach_of s.limits.ranks me touch) ≡ false
@@ -241,6 +259,8 @@ worked-there s me touch has less worked =
     go (PeerMemory rank) works m at = at ∙ ap (λ (x : Memory). Some x) (sym (ap memory_or_none at))
     go (BothMemories rank) works m at = at ∙ ap (λ (x : Memory). Some x) (sym (ap memory_or_none at))
     go (PeerPosts rank) works m at = absurd (let none : ⊥ = cc in none)
+    go (Group id) works m at = absurd (let none : ⊥ = cc in none)
+    go (GroupAndMemory id) works m at = at ∙ ap (λ (x : Memory). Some x) (sym (ap memory_or_none at))
 
 worked-set : (r : Reach) (me : ℕ) (memory : Memory) (all : List Memory) → is_unworked r ≡ false → memories_at r me memory all ≡ slice_set all (memory_place r me) memory
 worked-set Alone me memory all works = absurd (let none : ⊥ = cc in none)
@@ -248,6 +268,8 @@ worked-set OwnMemory me memory all works = refl
 worked-set (PeerMemory rank) me memory all works = refl
 worked-set (BothMemories rank) me memory all works = refl
 worked-set (PeerPosts rank) me memory all works = absurd (let none : ⊥ = cc in none)
+worked-set (Group id) me memory all works = absurd (let none : ⊥ = cc in none)
+worked-set (GroupAndMemory id) me memory all works = refl
 
 -- that of a rank is worked on
 rank-worked : (ranks rank me : ℕ) → nat_lt rank ranks ≡ true
@@ -299,9 +321,9 @@ pub record IsPutThere (s t : State) (origin queue target number : ℕ) (outcome 
 has-memories : (s : State) → IsSound s → HasMemories s
 has-memories s sound = record { ranks = sound.ranks; memories = sound.memories }
 
-pub sound-called : (s t : State) (c : CallerId) (call : Call) (reply : Reply) → IsSound s → step s (Called c call reply) ≡ Ok t
+pub sound-called : (s t : State) (c : CallerId) (call : Call) (reply : Reply) → (row_of call).group ≡ None → IsSound s → step s (Called c call reply) ≡ Ok t
     → (posts : Posts) × (memory : Memory) × (after : Worked) × IsCalledThere s t c call reply posts memory after
-sound-called s t c call reply sound h = called-there s t c call reply (has-memories s sound) h
+sound-called s t c call reply plain sound h = called-there s t c call reply plain (has-memories s sound) h
 
 -- the target of an entry that was found is a rank
 target-ranked : (s : State) (origin queue target number : ℕ) (posts : Posts) (at : Found) → IsSound s → slice_get s.posts origin ≡ Some posts → IsFound posts queue target number at

@@ -1,7 +1,7 @@
 -- The collective calls: whether one may join its group, is not ready, or what it answers; and what a join and a completion leave. A
 -- call of a rank `me` on a group with the number `id` reads that rank's posts and that group. (GASPI: collectives, groups,
 -- segments, timeouts)
-use Rattle.std.specs.Prelude.{ℕ, ◌+◌, ◌&&◌, Bool, false, not, nat_lt, List, [], ◌∷◌, length, Option, None, Some, Result, Ok, Err, if◌then◌else◌, slice_set}
+use Rattle.std.specs.Prelude.{ℕ, ◌+◌, ◌&&◌, Bool, true, false, not, nat_lt, List, [], ◌∷◌, length, Option, None, Some, Result, Ok, Err, if◌then◌else◌, slice_set}
 use Rattle.gaspi_types.specs.Checks.{◌>>=◌, check, found}
 use Rattle.gaspi_types.specs.Collectives.{count_checks, type_checks, same_args, resume, is_turn_full, turn_checks, turn_fold, turn_made, with_joined, with_completed}
 use Rattle.gaspi_types.specs.Groups.{is_building, handle_at, building_at, with_committed, fix_checks}
@@ -137,7 +137,13 @@ is_reply_of (ready.Reply found) reply = same_reply reply found
 is_reply_of (ready.Join args) reply = false
 is_reply_of ready.NotReady reply = same_reply reply replies.Timeout
 
--- whether it may join with those arguments
+-- whether it may join
+abbrev pub is_joining : Ready → Bool
+is_joining (ready.Reply found) = false
+is_joining (ready.Join may) = true
+is_joining ready.NotReady = false
+
+-- and with those arguments
 abbrev pub is_join_of : Ready → Args → Bool
 is_join_of (ready.Reply found) args = false
 is_join_of (ready.Join may) args = same_args may args

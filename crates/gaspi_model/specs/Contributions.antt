@@ -1,5 +1,5 @@
 -- What ranks have given to groups, and what is pending of it, in the states of legal histories. (GASPI: collectives, groups, segments)
-use Rattle.std.specs.Prelude.{◌≡◌, ℕ, ◌+◌, ◌≤◌, true, length, List, slice_get, Option, None, Some}
+use Rattle.std.specs.Prelude.{◌≡◌, ℕ, ◌+◌, ◌<◌, ◌≤◌, true, length, List, slice_get, Option, None, Some}
 use Rattle.gaspi_types.specs.Collectives.{part_of, given_in}
 use Rattle.gaspi_types.specs.Groups.{handle_at}
 use Rattle.gaspi_types.specs.Masks.{is_member}
@@ -8,7 +8,7 @@ use Rattle.gaspi_types.specs.Tables.{entry_at}
 use Rattle.gaspi_types.specs.declared.collectives.Coll.{Coll}
 use Rattle.gaspi_types.specs.declared.collectives.Coll.TheVariants.{Barrier, Allreduce, Create, Commit}
 use Rattle.gaspi_types.specs.declared.collectives.NumType.{NumType}
-use Rattle.gaspi_types.specs.declared.collectives.Stage.TheVariants.{Committed}
+use Rattle.gaspi_types.specs.declared.collectives.Stage.TheVariants.{Building, Committed}
 use Rattle.gaspi_types.specs.declared.groups.Args.{Args}
 use Rattle.gaspi_types.specs.declared.groups.Contribution.{Contribution}
 use Rattle.gaspi_types.specs.declared.groups.Group.{Group}
@@ -48,6 +48,13 @@ pub record IsSoundPart (events : ℕ) (pending : Option Pending) (part : Part) :
   pub last : (p : Pending) → pending ≡ Some p → (c : Contribution) × (slice_get part.contributions part.completed ≡ Some c) × (c.args ≡ p.args)
   pub few : part.completed ≤ events
 
+-- How far a rank has come with a group tells how many turns it has completed: none before it has committed it, and at least its
+-- commit after it; group 0 is committed from the start.
+pub record HasBegun (posts : Posts) (id completed : ℕ) : Type 0 where
+  pub unmade : posts.groups.made < id → completed ≡ 0
+  pub building : (h : Handle) → handle_at posts.groups id ≡ Some h → h.stage ≡ Building → completed ≡ 0
+  pub committed : (h : Handle) → handle_at posts.groups id ≡ Some h → h.stage ≡ Committed → (id ≡ 0 → ⊥) → 1 ≤ completed
+
 -- What is given to one turn agrees in all but values and generation; who gives is a member; and a commit has the list of ranks that
 -- is fixed.
 pub record IsSoundGroup (ranks : ℕ) (g : Group) : Type 0 where
@@ -62,13 +69,17 @@ abbrev pub WasMadeSo : Tables → ℕ → ℕ → ℕ → Type 0
 WasMadeSo tables segment generation size =
     WasMade tables segment generation × ((x : Extent) → extent_in tables.own segment ≡ Some x → x.generation ≡ generation → x.size ≡ size)
 
--- There are eight groups. Of a group that a rank has committed the same ranks are members in the whole world, and that rank is one.
+-- There are eight groups. The first turn of each but group 0 is its commit. Of a group that a rank has committed the same ranks are members in the whole world, and that rank is one.
 -- And each segment that a rank has given to a turn was made.
 pub record AreSoundCollectives (s : State) : Type 0 where
   pub eight : length s.groups ≡ 8
   pub groups : (id : ℕ) (g : Group) → slice_get s.groups id ≡ Some g → IsSoundGroup s.limits.ranks g
   pub parts : (id : ℕ) (g : Group) (rank : ℕ) (posts : Posts) → slice_get s.groups id ≡ Some g → slice_get s.posts rank ≡ Some posts
       → IsSoundPart posts.events (entry_at posts.pending id) (part_of g rank)
+  pub begun : (id : ℕ) (g : Group) (rank : ℕ) (posts : Posts) → slice_get s.groups id ≡ Some g → slice_get s.posts rank ≡ Some posts
+      → HasBegun posts id (part_of g rank).completed
+  pub first : (id : ℕ) (g : Group) (rank : ℕ) (c : Contribution) → slice_get s.groups id ≡ Some g → (id ≡ 0 → ⊥) → given_in g 0 rank ≡ Some c
+      → (mask : ℕ) × (c.args.coll ≡ Commit mask)
   pub committed : (id : ℕ) (g : Group) (rank : ℕ) (posts : Posts) (h : Handle) → slice_get s.groups id ≡ Some g → slice_get s.posts rank ≡ Some posts
       → handle_at posts.groups id ≡ Some h → h.stage ≡ Committed → (g.members ≡ Some h.members) × (is_member h.members rank ≡ true)
   pub made : (id : ℕ) (g : Group) (rank : ℕ) (posts : Posts) → slice_get s.groups id ≡ Some g → slice_get s.posts rank ≡ Some posts

@@ -6,7 +6,10 @@ use Rattle.gaspi_types.specs.declared.entries.Entry.{Entry}
 use Rattle.gaspi_types.specs.declared.calls.Call.{Call}
 use Rattle.gaspi_types.specs.declared.calls.Call.TheVariants.{PassiveSend, GroupCreate, GroupAdd, GroupDelete}
 use Rattle.gaspi_types.specs.declared.events.Event.{Event}
-use Rattle.gaspi_types.specs.declared.events.Event.TheVariants.{Called}
+use Rattle.gaspi_types.specs.declared.calls.Call.TheVariants as calls
+use Rattle.gaspi_types.specs.declared.collectives.Coll.{Coll}
+use Rattle.gaspi_types.specs.declared.collectives.Coll.TheVariants as colls
+use Rattle.gaspi_types.specs.declared.events.Event.TheVariants.{Called, Joined}
 use Rattle.gaspi_types.specs.declared.touches.Reach.{Reach}
 use Rattle.gaspi_types.specs.declared.touches.Reach.TheVariants.{Alone, OwnMemory, PeerMemory, BothMemories, PeerPosts, Group, GroupAndMemory}
 use Rattle.gaspi_model.specs.Transfers.{entry_in}
@@ -43,11 +46,25 @@ footprint s e = by_posts (slice_get s.posts (owner_of e))
     by_posts None = shards.Posts (owner_of e) ∷ []
     by_posts (Some posts) = reach_shards (owner_of e) (event_reach s.limits posts e)
 
--- whether an event is a send, which has the memory of its own rank and that of the rank that it names; every other event has
--- at most one shard beside its owner's posts
-abbrev pub is_send : Event → Bool
-is_send (Called c (PassiveSend call) reply) = true
-is_send e = false
+abbrev pub is_create : Coll → Bool
+is_create (colls.Create seg size) = true
+is_create coll = false
+
+-- whether an event has two shards beside its owner's posts: a send has the memory of its own rank and that of the rank that it
+-- names, and a segment_create and its join have the memory of their rank and their group; every other event has at most one
+abbrev pub is_wide : Event → Bool
+is_wide (Called c (PassiveSend call) reply) = true
+is_wide (Called c (calls.Create call) reply) = true
+is_wide (Joined c id args) = is_create args.coll
+is_wide e = false
+
+-- the group of a collective, where its number is that of one
+abbrev pub group_shards : ℕ → List Shard
+group_shards id = if nat_lt id 8 then shards.Group id ∷ [] else []
+
+-- the memory and the group of a segment_create
+abbrev pub create_shards : ℕ → ℕ → List Shard
+create_shards me id = if nat_lt id 8 then shards.Memory me ∷ shards.Group id ∷ [] else []
 
 -- the memories of a send
 abbrev pub send_shards : ℕ → ℕ → ℕ → List Shard

@@ -1,6 +1,6 @@
 //! Laws of the machine: the contracts of functions that do nothing.
 
-ghost use Rattle.std.specs.Prelude.{◌==◌, ◌≡◌, ◌≢◌, ℕ, ◌+◌, ◌%◌, ◌^◌, ◌<◌, ◌≤◌, ◌∷◌, ◌++◌, [], List, Ok, Some, IsOk, true, false, length, slice_get};
+ghost use Rattle.std.specs.Prelude.{◌==◌, ◌≡◌, ◌≢◌, ℕ, ◌+◌, ◌%◌, ◌^◌, ◌<◌, ◌≤◌, ◌∷◌, ◌++◌, [], List, Ok, Some, IsOk, true, false, length, slice_get, if◌then◌else◌};
 ghost use Rattle.byteorder.specs.Endian.{little_bytes};
 ghost use Rattle.gaspi_types.specs.CallRows.{need_of, row_of};
 ghost use Rattle.gaspi_types.specs.declared.call_rows.Posting.{Posting};
@@ -42,7 +42,9 @@ ghost use Rattle.gaspi_types.specs.declared.calls.atomics.CompareSwap as compare
 ghost use Rattle.gaspi_types.specs.declared.calls.groups.GroupAdd as group_add;
 ghost use Rattle.gaspi_types.specs.declared.calls.groups.GroupDelete as group_delete;
 ghost use Rattle.gaspi_types.specs.declared.events.Event.{Event};
-ghost use Rattle.gaspi_types.specs.declared.events.Event.TheVariants.{Called, Take, Put};
+ghost use Rattle.gaspi_types.specs.declared.events.Event.TheVariants.{Called, Joined, Take, Put};
+ghost use Rattle.gaspi_types.specs.declared.groups.Args.{Args};
+ghost use Rattle.gaspi_types.specs.declared.calls.collectives.Create as create;
 ghost use Rattle.gaspi_types.specs.declared.events.Outcome.TheVariants.{Applied, Failed};
 ghost use Rattle.gaspi_types.specs.declared.events.Outcome.{Outcome};
 ghost use Rattle.gaspi_types.specs.declared.events.Transfer.{Transfer};
@@ -56,12 +58,14 @@ ghost use Rattle.gaspi_types.specs.Lanes.{is_write, is_read};
 ghost use Rattle.gaspi_model.specs.Messages.{IsEarliest, inbox_of, sent_in, received_in};
 ghost use Rattle.gaspi_model.specs.Order.{AreStanding, IsNotificationStanding, IsReadNoteStanding, IsReadStanding, IsWriteStanding, is_purge_of};
 ghost use Rattle.gaspi_model.specs.RankGroups.{handle_of, is_drop_of};
-ghost use Rattle.gaspi_model.specs.Shards.{AgreeOn, ComeToSame, HaveSamePart, is_send, send_shards, is_group_call, is_shard, same_shard, footprint, numbers_of, is_among};
+ghost use Rattle.gaspi_model.specs.Shards.{AgreeOn, ComeToSame, HaveSamePart, is_wide, is_create, group_shards, create_shards, send_shards, is_group_call, is_shard, same_shard, footprint, numbers_of, is_among};
 ghost use Rattle.gaspi_model.specs.declared.states.Shard.{Shard};
 ghost use Rattle.gaspi_model.specs.declared.states.Shard.TheVariants as shards;
 ghost use Rattle.gaspi_model.specs.Settled.{AreLanesEmpty, IsSettled};
 ghost use Rattle.gaspi_model.specs.State.{opening};
-ghost use Rattle.gaspi_model.specs.Step.{step, owner_of, after, reached, own_calls, is_legal, ends_caller, answer_in, is_active, room_taken, transfer_event};
+ghost use Rattle.gaspi_model.specs.Step.{step, owner_of, after, reached, own_calls, is_legal, ends_caller, answer_in, is_active, is_pending, room_taken, transfer_event};
+ghost use Rattle.gaspi_model.specs.CollectiveCalls.{is_joining, joining_call};
+ghost use Rattle.gaspi_types.specs.declared.replies.Ready.TheVariants.{Join};
 ghost use Rattle.gaspi_model.specs.Sound.{IsSound, events_left};
 ghost use Rattle.gaspi_model.specs.Transfers.{transfers, is_earlier};
 ghost use Rattle.gaspi_model.specs.declared.states.Posts.{Posts};
@@ -94,13 +98,26 @@ pub fn soundness()
 {}
 
 /// What may come next is a step: each transfer that is listed, and each call of a caller that has not ended, with the
-/// reply that it has (or with a timeout, where it is not ready), where its rank has room for what it needs.
+/// reply that it has (or with a timeout, where it is not ready), where its rank has room for what it needs; of a collective that
+/// has not joined its join. A collective needs room for two events before it has joined, and for one after. It joins with its own
+/// arguments, once: then it is pending for its caller, its rank has one event more, and it answers or is not ready. (GASPI:
+/// collectives, timeouts)
 pub fn enabled()
     ensures transfer { (s : State) (t : Transfer) (k : ℕ) → IsSound s → slice_get (transfers s.limits s.posts) k ≡ Some t
         → IsOk (step s (transfer_event s t)) }
     ensures call { (s : State) (rank thread : ℕ) (call : Call) (ready : Ready) → IsSound s → is_active s rank thread ≡ true
-        → room_taken s rank + need_of call false false ≤ s.limits.events → answer_in s rank thread call ≡ Some ready
+        → room_taken s rank + need_of call (is_pending s rank thread call) false ≤ s.limits.events → answer_in s rank thread call ≡ Some ready → is_joining ready ≡ false
         → IsOk (step s (Called (record { rank = rank; thread = thread }) call (recorded_reply ready))) }
+    ensures join { (s : State) (rank thread id : ℕ) (call : Call) (args : Args) → IsSound s → is_active s rank thread ≡ true
+        → room_taken s rank + need_of call (is_pending s rank thread call) false ≤ s.limits.events → (row_of call).group ≡ Some id
+        → answer_in s rank thread call ≡ Some (Join args) → IsOk (step s (Joined (record { rank = rank; thread = thread }) id args)) }
+    ensures itself { (s : State) (rank thread id : ℕ) (call : Call) (args : Args) → (row_of call).group ≡ Some id
+        → answer_in s rank thread call ≡ Some (Join args) → joining_call id args ≡ call }
+    ensures joined { (s t : State) (c : CallerId) (call : Call) (id : ℕ) (args : Args) → IsSound s → (row_of call).group ≡ Some id → step s (Joined c id args) ≡ Ok t
+        → (is_pending t c.rank c.thread call ≡ true) × (room_taken t c.rank ≡ room_taken s c.rank + 1) }
+    ensures pending { (s : State) (rank thread : ℕ) (call : Call) (ready : Ready) → is_pending s rank thread call ≡ true → answer_in s rank thread call ≡ Some ready
+        → is_joining ready ≡ false }
+    ensures needs { (call : Call) (id : ℕ) → (row_of call).group ≡ Some id → (need_of call false false ≡ 2) × (need_of call true false ≡ 1) }
 {}
 
 /// What events change. A put that is made changes exactly the range or the one slot that its entry states, of its target or,
@@ -289,7 +306,7 @@ pub fn locality()
     ensures owner { (s : State) (e : Event) → is_shard (footprint s e) (shards.Posts (owner_of e)) ≡ true }
     ensures footprint { (s s' : State) (e : Event) → s.limits ≡ s'.limits → HaveSamePart s s' (shards.Posts (owner_of e)) → footprint s e ≡ footprint s' e }
     ensures reply { (s : State) (c : CallerId) (call : Call) (reply reply' : Reply) → footprint s (Called c call reply) ≡ footprint s (Called c call reply') }
-    ensures few { (s : State) (e : Event) → is_send e ≡ false → length (footprint s e) ≤ 2 }
+    ensures few { (s : State) (e : Event) → is_wide e ≡ false → length (footprint s e) ≤ 2 }
     ensures posting { (s : State) (c : CallerId) (call : Call) (reply : Reply) (to : Posting) → (row_of call).posting ≡ Some to
         → footprint s (Called c call reply) ≡ shards.Posts c.rank ∷ [] }
     ensures waiting { (s : State) (c : CallerId) (call : wait.Wait) (reply : Reply) → footprint s (Called c (Wait call) reply) ≡ shards.Posts c.rank ∷ [] }
@@ -301,6 +318,12 @@ pub fn locality()
     ensures receiving { (s : State) (posts : Posts) (c : CallerId) (call : receive.PassiveReceive) (reply : Reply) → slice_get s.posts c.rank ≡ Some posts
         → footprint s (Called c (PassiveReceive call) reply) ≡ shards.Posts c.rank ∷ shards.Memory c.rank ∷ [] }
     ensures grouping { (s : State) (c : CallerId) (call : Call) (reply : Reply) → is_group_call call ≡ true → footprint s (Called c call reply) ≡ shards.Posts c.rank ∷ [] }
+    ensures meeting { (s : State) (posts : Posts) (c : CallerId) (call : Call) (id : ℕ) (reply : Reply) → slice_get s.posts c.rank ≡ Some posts → (row_of call).group ≡ Some id
+        → is_wide (Called c call reply) ≡ false → footprint s (Called c call reply) ≡ shards.Posts c.rank ∷ group_shards id }
+    ensures creating { (s : State) (posts : Posts) (c : CallerId) (call : create.Create) (reply : Reply) → slice_get s.posts c.rank ≡ Some posts
+        → footprint s (Called c (calls.Create call) reply) ≡ shards.Posts c.rank ∷ create_shards c.rank call.group }
+    ensures joining { (s : State) (posts : Posts) (c : CallerId) (id : ℕ) (args : Args) → slice_get s.posts c.rank ≡ Some posts
+        → footprint s (Joined c id args) ≡ shards.Posts c.rank ∷ (if is_create args.coll then create_shards c.rank id else group_shards id) }
     ensures once { (s : State) (e : Event) (shard : Shard) → count_by (λ x. same_shard x shard) (footprint s e) ≤ 1 }
 {}
 

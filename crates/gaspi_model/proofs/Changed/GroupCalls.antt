@@ -55,7 +55,7 @@ same-id a b h = cc
 
 pub group-made : (s t : State) (c : CallerId) (id : ℕ) → IsSound s → step s (Called c calls.GroupCreate (replies.Id id)) ≡ Ok t → IsGroupMade s t c.rank id
 group-made s t c id sound h =
-    let made = posts-worked s t c calls.GroupCreate (replies.Id id) refl refl (λ posts brought memory. refl) sound h in
+    let made = posts-worked s t c calls.GroupCreate (replies.Id id) refl refl refl (λ posts brought memory. refl) sound h in
     let m = made.2 in
     let posts = made.0 in
     let found = create-found posts (replies.Id id) m.finds in
@@ -81,7 +81,7 @@ group-made s t c id sound h =
 
 pub group-added : (s t : State) (c : CallerId) (call : group_add.GroupAdd) → IsSound s → step s (Called c (calls.GroupAdd call) replies.Done) ≡ Ok t → IsGroupAdded s t c.rank call.group call.rank
 group-added s t c call sound h =
-    let made = posts-worked s t c (calls.GroupAdd call) replies.Done refl refl (λ posts brought memory. refl) sound h in
+    let made = posts-worked s t c (calls.GroupAdd call) replies.Done refl refl refl (λ posts brought memory. refl) sound h in
     let m = made.2 in
     let posts = made.0 in
     let found = add-found s.limits posts call replies.Done m.finds in
@@ -104,7 +104,7 @@ group-added s t c call sound h =
 
 pub group-dropped : (s t : State) (c : CallerId) (call : group_delete.GroupDelete) → IsSound s → step s (Called c (calls.GroupDelete call) replies.Done) ≡ Ok t → IsGroupDropped s t c.rank call.group
 group-dropped s t c call sound h =
-    let made = posts-worked s t c (calls.GroupDelete call) replies.Done refl refl (λ posts brought memory. refl) sound h in
+    let made = posts-worked s t c (calls.GroupDelete call) replies.Done refl refl refl (λ posts brought memory. refl) sound h in
     let m = made.2 in
     let posts = made.0 in
     let found = drop-found posts call replies.Done m.finds in

@@ -56,7 +56,7 @@ send-tells_none ranks rank me p call reply all = go (rank == me) (nat_lt rank ra
 pub message-sent : (s t : State) (c : CallerId) (call : send.PassiveSend) → IsSound s → step s (Called c (calls.PassiveSend call) replies.Done) ≡ Ok t
     → IsSent s t c.rank call.rank call.seg call.offset call.size
 message-sent s t c call sound h =
-    let made = sound-called s t c (calls.PassiveSend call) replies.Done sound h in
+    let made = sound-called s t c (calls.PassiveSend call) replies.Done refl sound h in
     let m = made.3 in
     let posts = made.0 in
     let peer = made.1 in
@@ -98,7 +98,7 @@ same-id a b h = cc
 pub message-received : (s t : State) (c : CallerId) (call : receive.PassiveReceive) (sender : ℕ) → IsSound s → step s (Called c (calls.PassiveReceive call) (replies.Id sender)) ≡ Ok t
     → IsReceived s t c.rank call.seg call.offset call.size sender
 message-received s t c call sender sound h =
-    let made = own_calls.own-worked s t c (calls.PassiveReceive call) (replies.Id sender) refl refl sound h in
+    let made = own_calls.own-worked s t c (calls.PassiveReceive call) (replies.Id sender) refl refl refl sound h in
     let m = made.2 in
     let posts = made.0 in
     let memory = made.1 in

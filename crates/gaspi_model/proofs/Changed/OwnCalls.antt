@@ -64,10 +64,10 @@ pub record IsOwnWorked (s t : State) (c : CallerId) (call : Call) (reply : Reply
     memories = slice_set s.memories c.rank (memory_after s.limits posts (call_brought s c.rank call) memory call reply);
   }
 
-pub own-worked : (s t : State) (c : CallerId) (call : Call) (reply : Reply) → (row_of call).touch ≡ touches.OwnMemory → is_idle reply ≡ false → IsSound s → step s (Called c call reply) ≡ Ok t
+pub own-worked : (s t : State) (c : CallerId) (call : Call) (reply : Reply) → (row_of call).group ≡ None → (row_of call).touch ≡ touches.OwnMemory → is_idle reply ≡ false → IsSound s → step s (Called c call reply) ≡ Ok t
     → (posts : Posts) × (memory : Memory) × IsOwnWorked s t c call reply posts memory
-own-worked s t c call reply own awake sound h =
-    let made = sound-called s t c call reply sound h in
+own-worked s t c call reply plain own awake sound h =
+    let made = sound-called s t c call reply plain sound h in
     let m = made.3 in
     let worked : memory_rank s.limits c.rank call ≡ c.rank = ap (λ (touch : Touch). memory_place (reach_of s.limits.ranks c.rank touch) c.rank) own in
     let same : told s.limits.ranks c.rank made.0 call reply (slice_set s.posts c.rank made.2.posts) ≡ slice_set s.posts c.rank made.2.posts =
@@ -115,7 +115,7 @@ load-found posts memory call bytes h =
 pub load-read : (s t : State) (c : CallerId) (call : load.Load) (bytes : List ℕ) → IsSound s → step s (Called c (calls.Load call) (replies.Bytes bytes)) ≡ Ok t
     → IsRead s t c.rank call.seg (λ x. bytes ≡ range_of x.bytes call.offset call.size)
 load-read s t c call bytes sound h =
-    let made = own-worked s t c (calls.Load call) (replies.Bytes bytes) refl refl sound h in
+    let made = own-worked s t c (calls.Load call) (replies.Bytes bytes) refl refl refl sound h in
     let m = made.2 in
     let found = load-found made.0 made.1 call bytes m.finds in
     let item = own-there s c.rank made.0 made.1 call.seg found.0 sound m.posts_there m.memory_there found.1 in (
@@ -143,7 +143,7 @@ waitsome-found limits posts memory call n h =
 pub slot-read : (s t : State) (c : CallerId) (call : waitsome.Waitsome) (n : ℕ) → IsSound s → step s (Called c (calls.Waitsome call) (replies.Id n)) ≡ Ok t
     → AreSlotsRead s t c.rank call.seg (λ slots. first_set slots call.begin call.num ≡ Some n)
 slot-read s t c call n sound h =
-    let made = own-worked s t c (calls.Waitsome call) (replies.Id n) refl refl sound h in
+    let made = own-worked s t c (calls.Waitsome call) (replies.Id n) refl refl refl sound h in
     let m = made.2 in
     let found = waitsome-found s.limits made.0 made.1 call n m.finds in
     let item = own-there s c.rank made.0 made.1 call.seg found.0 sound m.posts_there m.memory_there found.1 in
@@ -179,7 +179,7 @@ index-there (y ∷ ys) (suc i) x h = index-there ys i x h
 pub slot-reset : (s t : State) (c : CallerId) (call : reset.Reset) (value : ℕ) → IsSound s → step s (Called c (calls.Reset call) (replies.Value value)) ≡ Ok t
     → IsReset s t c.rank call.seg call.note value
 slot-reset s t c call value sound h =
-    let made = own-worked s t c (calls.Reset call) (replies.Value value) refl refl sound h in
+    let made = own-worked s t c (calls.Reset call) (replies.Value value) refl refl refl sound h in
     let m = made.2 in
     let found = reset-found s.limits made.0 made.1 call value m.finds in
     let item = own-there s c.rank made.0 made.1 call.seg found.mine sound m.posts_there m.memory_there found.there in
@@ -219,7 +219,7 @@ wait-found posts call h =
 
 pub waited : (s t : State) (c : CallerId) (call : wait.Wait) → IsSound s → step s (Called c (calls.Wait call) replies.Done) ≡ Ok t → IsWaited s t c.rank call.queue
 waited s t c call sound h =
-    let made = sound-called s t c (calls.Wait call) replies.Done sound h in
+    let made = sound-called s t c (calls.Wait call) replies.Done refl sound h in
     let m = made.3 in
     let found = wait-found made.0 call (found-reply s.limits c.rank made.0 made.1 c.thread (calls.Wait call) replies.Done (same_reply-same _ _ m.is.answered) refl) in
     let kept : made.2.memory ≡ made.1 = rw m.is.leaves refl in
@@ -248,7 +248,7 @@ alloc-found posts call h =
 
 pub segment-made : (s t : State) (c : CallerId) (call : alloc.Alloc) → IsSound s → step s (Called c (calls.Alloc call) replies.Done) ≡ Ok t → IsMade s t c.rank call.seg call.size
 segment-made s t c call sound h =
-    let made = own-worked s t c (calls.Alloc call) replies.Done refl refl sound h in
+    let made = own-worked s t c (calls.Alloc call) replies.Done refl refl refl sound h in
     let m = made.2 in
     let found = alloc-found made.0 call m.finds in
     let less = ltb-true call.seg 32 found.0 in
@@ -290,7 +290,7 @@ delete-found posts call h =
 
 pub segment-gone : (s t : State) (c : CallerId) (call : delete.Delete) → IsSound s → step s (Called c (calls.Delete call) replies.Done) ≡ Ok t → IsGone s t c.rank call.seg
 segment-gone s t c call sound h =
-    let made = own-worked s t c (calls.Delete call) replies.Done refl refl sound h in
+    let made = own-worked s t c (calls.Delete call) replies.Done refl refl refl sound h in
     let m = made.2 in
     let found = delete-found made.0 call m.finds in
     let item = own-there s c.rank made.0 made.1 call.seg found.0 sound m.posts_there m.memory_there found.1 in

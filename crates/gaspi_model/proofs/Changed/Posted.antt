@@ -22,7 +22,7 @@ use Rattle.gaspi_model.specs.Step.{step}
 use Rattle.gaspi_model.specs.declared.states.Posts.{Posts}
 use Rattle.gaspi_model.specs.declared.states.State.{State}
 use Rattle.gaspi_model.proofs.Changed.QueueCalls.{posts-worked}
-use Rattle.gaspi_model.proofs.Local.Steps.{posting-reaches-none}
+use Rattle.gaspi_model.proofs.Local.Steps.{posting-plain, posting-reaches-none}
 use Rattle.gaspi_model.proofs.Sound.Accounts.{asks-counted, post-ok}
 use Rattle.gaspi_model.proofs.Sound.CallTables.{post-leaves}
 use Rattle.gaspi_model.proofs.Sound.OpenCounts.{posted-length}
@@ -30,7 +30,7 @@ use Rattle.gaspi_model.proofs.Sound.OpenCounts.{posted-length}
 pub post-done : (s t : State) (c : CallerId) (call : Call) (to : Posting) → IsSound s → (row_of call).posting ≡ Some to → step s (Called c call replies.Done) ≡ Ok t
     → IsPosted s t c.rank call to.queue to.rank
 post-done s t c call to sound posting h =
-    let made = posts-worked s t c call replies.Done (posting-reaches-none call to posting) refl (λ posts brought memory. post-leaves s.limits posts brought memory call to posting) sound h in
+    let made = posts-worked s t c call replies.Done (posting-plain call to posting) (posting-reaches-none call to posting) refl (λ posts brought memory. post-leaves s.limits posts brought memory call to posting) sound h in
     let m = made.2 in
     let posts = made.0 in
     let asked = call_asks s.limits c.rank posts call in

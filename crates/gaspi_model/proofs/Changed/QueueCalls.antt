@@ -1,5 +1,5 @@
 -- What a purge, the size of a queue and the state vector answer, and leave.
-use Rattle.std.proofs.Common.{◌≡◌, ℕ, false, List, Option, Some, Ok, refl, sym, ap, ◌∙◌}
+use Rattle.std.proofs.Common.{◌≡◌, ℕ, false, List, Option, Some, Ok, refl, sym, ap, ◌∙◌, None}
 use Rattle.std.specs.List.{slice_get, slice_set}
 use Rattle.std.specs.Int.{bit_at}
 use Rattle.std.proofs.lemmas.List.{length-map}
@@ -45,11 +45,11 @@ pub record IsPostsWorked (s t : State) (c : CallerId) (call : Call) (reply : Rep
   pub finds : call_finds s.limits c.rank posts memory call ≡ Ok (Some reply)
   pub leaves : t ≡ record s { posts = slice_set s.posts c.rank (posts_after s.limits c.rank posts c.thread call reply) }
 
-pub posts-worked : (s t : State) (c : CallerId) (call : Call) (reply : Reply) → (row_of call).touch ≡ touches.Nothing → is_idle reply ≡ false
+pub posts-worked : (s t : State) (c : CallerId) (call : Call) (reply : Reply) → (row_of call).group ≡ None → (row_of call).touch ≡ touches.Nothing → is_idle reply ≡ false
     → ((posts : Posts) (brought : Option Message) (memory : Memory) → memory_done s.limits posts brought memory call ≡ memory) → IsSound s → step s (Called c call reply) ≡ Ok t
     → (posts : Posts) × (memory : Memory) × IsPostsWorked s t c call reply posts memory
-posts-worked s t c call reply alone awake unmoved sound h =
-    let made = sound-called s t c call reply sound h in
+posts-worked s t c call reply plain alone awake unmoved sound h =
+    let made = sound-called s t c call reply plain sound h in
     let m = made.3 in
     let place = memory_rank s.limits c.rank call in
     let same : told s.limits.ranks c.rank made.0 call reply (slice_set s.posts c.rank made.2.posts) ≡ slice_set s.posts c.rank made.2.posts =
@@ -74,7 +74,7 @@ purge-found posts call h = found_then (slice_get posts.queues call.queue) _ _ (S
 
 pub purge-done : (s t : State) (c : CallerId) (call : purge.Purge) → IsSound s → step s (Called c (calls.Purge call) replies.Done) ≡ Ok t → IsPurged s t c.rank call.queue
 purge-done s t c call sound h =
-    let made = posts-worked s t c (calls.Purge call) replies.Done refl refl (λ posts brought memory. refl) sound h in
+    let made = posts-worked s t c (calls.Purge call) replies.Done refl refl refl (λ posts brought memory. refl) sound h in
     let m = made.2 in
     let found = purge-found made.0 call m.finds in
     record {
@@ -99,7 +99,7 @@ qsize-found posts call value h =
 pub sized : (s t : State) (c : CallerId) (call : qsize.Qsize) (value : ℕ) → IsSound s → step s (Called c (calls.Qsize call) (replies.Value value)) ≡ Ok t
     → IsSizeAnswered s t c.rank call.queue value
 sized s t c call value sound h =
-    let made = posts-worked s t c (calls.Qsize call) (replies.Value value) refl refl (λ posts brought memory. refl) sound h in
+    let made = posts-worked s t c (calls.Qsize call) (replies.Value value) refl refl refl (λ posts brought memory. refl) sound h in
     let m = made.2 in
     let found = qsize-found made.0 call value m.finds in
     record {
@@ -116,7 +116,7 @@ same-mask a b h = cc
 
 pub state-answered : (s t : State) (c : CallerId) (mask : ℕ) → IsSound s → step s (Called c calls.State (replies.Mask mask)) ≡ Ok t → IsStateAnswered s t c.rank mask
 state-answered s t c mask sound h =
-    let made = posts-worked s t c calls.State (replies.Mask mask) refl refl (λ posts brought memory. refl) sound h in
+    let made = posts-worked s t c calls.State (replies.Mask mask) refl refl refl (λ posts brought memory. refl) sound h in
     let m = made.2 in
     let is : mask ≡ mask_of made.0.corrupt = same-mask (mask_of made.0.corrupt) mask (same_Ok _ _ m.finds) in (
       (λ rank. ap (λ (n : ℕ). bit_at n rank) is ∙ mask-bit made.0.corrupt rank ∙ marks made.0 m.posts_there rank),

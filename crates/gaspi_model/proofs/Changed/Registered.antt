@@ -40,7 +40,7 @@ register-found limits posts call reply h =
 
 pub registered : (s t : State) (c : CallerId) (call : register.Register) → IsSound s → step s (Called c (Register call) replies.Done) ≡ Ok t → IsRegistered s t c.rank call.seg call.rank
 registered s t c call sound h =
-    let made = sound-called s t c (Register call) replies.Done sound h in
+    let made = sound-called s t c (Register call) replies.Done refl sound h in
     let m = made.3 in
     let found = register-found s.limits made.0 call replies.Done (found-reply s.limits c.rank made.0 made.1 c.thread (Register call) replies.Done (same_reply-same _ _ m.is.answered) refl) in
     let after : made.2.posts ≡ counted made.0 = rw m.is.leaves refl in

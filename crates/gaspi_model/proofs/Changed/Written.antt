@@ -89,7 +89,7 @@ store-found posts call reply h =
 
 pub store-written : (s t : State) (c : CallerId) (call : store.Store) → IsSound s → step s (Called c (Store call) replies.Done) ≡ Ok t → IsWritten s t c.rank c.rank call.seg call.offset call.bytes
 store-written s t c call sound h =
-    let made = sound-called s t c (Store call) replies.Done sound h in
+    let made = sound-called s t c (Store call) replies.Done refl sound h in
     let m = made.3 in
     let posts = made.0 in
     let memory = made.1 in
@@ -198,7 +198,7 @@ word-answered s t c call reply seg offset rank old posts memory after m touches_
 pub sum-answered : (s t : State) (c : CallerId) (call : fetch_add.FetchAdd) (old : ℕ) → IsSound s → step s (Called c (FetchAdd call) (replies.Value old)) ≡ Ok t
     → IsAnswered s call.rank call.seg (λ x. word_at x.bytes call.offset ≡ old)
 sum-answered s t c call old sound h =
-    let made = sound-called s t c (FetchAdd call) (replies.Value old) sound h in
+    let made = sound-called s t c (FetchAdd call) (replies.Value old) refl sound h in
     let m = made.3 in
     let found = word-found s.limits c.rank made.0 made.1 call.seg call.offset call.rank old (found-reply s.limits c.rank made.0 made.1 c.thread (FetchAdd call) (replies.Value old) (same_reply-same _ _ m.is.answered) refl) in
     word-answered s t c (FetchAdd call) (replies.Value old) call.seg call.offset call.rank old made.0 made.1 made.2 m refl found
@@ -206,7 +206,7 @@ sum-answered s t c call old sound h =
 pub swap-answered : (s t : State) (c : CallerId) (call : compare_swap.CompareSwap) (old : ℕ) → IsSound s → step s (Called c (CompareSwap call) (replies.Value old)) ≡ Ok t
     → IsAnswered s call.rank call.seg (λ x. word_at x.bytes call.offset ≡ old)
 swap-answered s t c call old sound h =
-    let made = sound-called s t c (CompareSwap call) (replies.Value old) sound h in
+    let made = sound-called s t c (CompareSwap call) (replies.Value old) refl sound h in
     let m = made.3 in
     let found = word-found s.limits c.rank made.0 made.1 call.seg call.offset call.rank old (found-reply s.limits c.rank made.0 made.1 c.thread (CompareSwap call) (replies.Value old) (same_reply-same _ _ m.is.answered) refl) in
     word-answered s t c (CompareSwap call) (replies.Value old) call.seg call.offset call.rank old made.0 made.1 made.2 m refl found
@@ -214,7 +214,7 @@ swap-answered s t c call old sound h =
 pub sum-written : (s t : State) (c : CallerId) (call : fetch_add.FetchAdd) (old : ℕ) → IsSound s → step s (Called c (FetchAdd call) (replies.Value old)) ≡ Ok t
     → IsWritten s t c.rank call.rank call.seg call.offset (little_bytes 8 ((old + call.value) % 2 ^ 64))
 sum-written s t c call old sound h =
-    let made = sound-called s t c (FetchAdd call) (replies.Value old) sound h in
+    let made = sound-called s t c (FetchAdd call) (replies.Value old) refl sound h in
     let m = made.3 in
     let posts = made.0 in
     let memory = made.1 in
@@ -226,7 +226,7 @@ sum-written s t c call old sound h =
 pub swap-written : (s t : State) (c : CallerId) (call : compare_swap.CompareSwap) → IsSound s → step s (Called c (CompareSwap call) (replies.Value call.comparator)) ≡ Ok t
     → IsWritten s t c.rank call.rank call.seg call.offset (little_bytes 8 call.new)
 swap-written s t c call sound h =
-    let made = sound-called s t c (CompareSwap call) (replies.Value call.comparator) sound h in
+    let made = sound-called s t c (CompareSwap call) (replies.Value call.comparator) refl sound h in
     let m = made.3 in
     let posts = made.0 in
     let memory = made.1 in
@@ -238,7 +238,7 @@ swap-written s t c call sound h =
 
 pub swap-kept : (s t : State) (c : CallerId) (call : compare_swap.CompareSwap) (old : ℕ) → old ≢ call.comparator → step s (Called c (CompareSwap call) (replies.Value old)) ≡ Ok t → IsOnlyCounted s t c.rank
 swap-kept s t c call old apart h =
-    let made = step-called s t c (CompareSwap call) (replies.Value old) h in
+    let made = step-called s t c (CompareSwap call) (replies.Value old) refl h in
     let m = made.3 in
     let posts = made.0 in
     let memory = made.1 in

@@ -4,6 +4,7 @@ use Rattle.std.specs.List.{slice_get, slice_set}
 use Rattle.std.proofs.lemmas.Bool.{eqb-true, eqb-false}
 use Rattle.gaspi_types.specs.Replies.{is_idle}
 use Rattle.gaspi_types.specs.declared.entries.Kind.{Kind}
+use Rattle.gaspi_types.specs.declared.shapes.CallerId.{CallerId}
 use Rattle.gaspi_types.specs.declared.shapes.Limits.{Limits}
 use Rattle.gaspi_types.specs.declared.calls.Call.{Call}
 use Rattle.gaspi_types.specs.declared.calls.Call.TheVariants.{End}
@@ -14,7 +15,7 @@ use Rattle.gaspi_types.specs.declared.replies.Refusal.{Refusal}
 use Rattle.gaspi_types.specs.declared.events.Outcome.{Outcome}
 use Rattle.gaspi_types.specs.declared.events.Outcome.TheVariants.{Applied, Failed}
 use Rattle.gaspi_types.specs.declared.events.Event.{Event}
-use Rattle.gaspi_types.specs.declared.events.Event.TheVariants.{Called, Take, Put}
+use Rattle.gaspi_types.specs.declared.events.Event.TheVariants.{Called, Joined, Take, Put}
 use Rattle.gaspi_model.specs.State.{thread_at}
 use Rattle.gaspi_model.specs.Posting.{with_post}
 use Rattle.gaspi_model.specs.Calls.{posts_done, plain_done, call_asks}
@@ -27,6 +28,7 @@ use Rattle.gaspi_model.specs.declared.states.Memory.{Memory}
 use Rattle.gaspi_model.specs.declared.states.State.{State}
 use Rattle.gaspi_types.proofs.Items.{slice_get-set_other, slice_get-set_same}
 use Rattle.gaspi_model.proofs.Sound.Told.{IsTold, told, told-get}
+use Rattle.gaspi_model.proofs.MetPosts.{IsMet, met-called, met-joined}
 use Rattle.gaspi_model.proofs.Made.{IsTake, IsPut, memories_at, call_reach, put_reach, step-called, step-take, step-put}
 
 -- of a state with the posts of a rank replaced
@@ -78,14 +80,36 @@ threads-after : (b : Bool) (posts done : Posts) (thread : ℕ) → slice_get don
 threads-after true posts done thread h = refl
 threads-after false posts done thread h = h
 
-pub active : (s t : State) (e : Event) (rank thread : ℕ) → step s e ≡ Ok t → ends_caller rank thread e ≡ false → is_active t rank thread ≡ is_active s rank thread
-active s t (Called c call reply) rank thread h ends =
-    let made = step-called s t c call reply h in
+-- what is active depends on the posts alone
+same-active : (s t : State) (rank thread : ℕ) → t.posts ≡ s.posts → is_active t rank thread ≡ is_active s rank thread
+same-active s t rank thread same = go (slice_get s.posts rank) refl
+  where
+    go : (o : Option Posts) → slice_get s.posts rank ≡ o → is_active t rank thread ≡ is_active s rank thread
+    go None at = let there : slice_get t.posts rank ≡ None = ap (λ (all : List Posts). slice_get all rank) same ∙ at in rw (there, at) refl
+    go (Some posts) at = let there : slice_get t.posts rank ≡ Some posts = ap (λ (all : List Posts). slice_get all rank) same ∙ at in rw (there, at) refl
+
+met-active : (s t : State) (me : ℕ) (posts after : Posts) (rank thread : ℕ) → IsMet s t me posts after → is_active t rank thread ≡ is_active s rank thread
+met-active s t me posts after rank thread met =
+    same-active (record s { posts = slice_set s.posts me after; memories = s.memories }) t rank thread met.leaves
+    ∙ active-changed s s.posts me posts after met.there s.memories rank thread (λ here. rw met.keeps.threads refl)
+
+called-active : (s t : State) (c : CallerId) (call : Call) (reply : Reply) (rank thread : ℕ) → (row_of call).group ≡ None → step s (Called c call reply) ≡ Ok t → ends_caller rank thread (Called c call reply) ≡ false
+    → is_active t rank thread ≡ is_active s rank thread
+called-active s t c call reply rank thread plain h ends =
+    let made = step-called s t c call reply plain h in
     let m = made.3 in
     let memories = memories_at (call_reach s.limits.ranks c.rank call) c.rank made.2.memory s.memories in
     rw m.leaves (active-told s s.limits.ranks c.rank made.0 call reply (slice_set s.posts c.rank made.2.posts) memories rank thread
     ∙ active-changed s s.posts c.rank made.0 made.2.posts m.posts_there memories rank thread (λ here.
     rw m.is.leaves (rw (threads-after (is_idle reply) made.0 (posts_done s.limits c.rank made.0 c.thread call) thread (threads-done s.limits c.rank made.0 c.thread call thread (rw here at ends))) refl)))
+
+pub active : (s t : State) (e : Event) (rank thread : ℕ) → step s e ≡ Ok t → ends_caller rank thread e ≡ false → is_active t rank thread ≡ is_active s rank thread
+active s t (Joined c id args) rank thread h ends = met-active s t c.rank _ _ rank thread (met-joined s t c id args h).2
+active s t (Called c call reply) rank thread h ends = by-group (row_of call).group refl
+  where
+    by-group : (o : Option ℕ) → (row_of call).group ≡ o → is_active t rank thread ≡ is_active s rank thread
+    by-group (Some id) named = met-active s t c.rank _ _ rank thread (met-called s t c id call reply named h).2
+    by-group None plain = called-active s t c call reply rank thread plain h ends
 active s t (Take origin queue target number outcome) rank thread h ends =
     let made = step-take s t origin queue target number outcome h in
     let m = made.4 in

@@ -52,7 +52,7 @@ end-after posts thread reply false ended is = rw is ended
 
 pub end-inactive : (s t : State) (c : CallerId) (reply : Reply) → step s (Called c End reply) ≡ Ok t → is_active t c.rank c.thread ≡ false
 end-inactive s t c reply h =
-    let made = step-called s t c End reply h in
+    let made = step-called s t c End reply refl h in
     let m = made.3 in
     let answered = same_reply-same _ _ m.is.answered in
     let there : slice_get t.posts c.rank ≡ Some made.2.posts =

@@ -45,12 +45,19 @@ use Rattle.gaspi_model.specs.declared.states.Memory.{Memory}
 use Rattle.gaspi_model.specs.declared.states.State.{State}
 use Rattle.gaspi_model.specs.declared.states.Why.{Why}
 use Rattle.gaspi_model.specs.declared.states.Why.TheVariants as whys
+use Rattle.gaspi_types.specs.declared.calls.Call.TheVariants as calls
+use Rattle.gaspi_types.specs.declared.groups.Group.{Group}
+use Rattle.gaspi_types.specs.declared.replies.Ready.TheVariants as ready
+use Rattle.gaspi_model.specs.CollectiveCalls.{collective_answer, is_reply_of, is_joining}
+use Rattle.gaspi_model.specs.Parts.{group_or_none}
+use Rattle.gaspi_model.specs.Step.{Met, completed, group_in, is_pending}
+use Rattle.gaspi_model.proofs.GroupSteps.{group-worked, collective-touch}
 use Rattle.gaspi_model.proofs.Sound.Rising.{place_of-rising}
 use Rattle.gaspi_types.proofs.Items.{past-none, flat_map-parts, enumerate-at}
 
 -- Replies compare as the same as themselves.
 
-pointwise-refl : (a : List ℕ) → pointwise nat_eq a a ≡ true
+pub pointwise-refl : (a : List ℕ) → pointwise nat_eq a a ≡ true
 pointwise-refl [] = refl
 pointwise-refl (x ∷ a) = rw (eq-eqb x x refl) (pointwise-refl a)
 
@@ -62,7 +69,7 @@ pointwise-int-refl : (a : List ℤ) → pointwise int_eq a a ≡ true
 pointwise-int-refl [] = refl
 pointwise-int-refl (x ∷ a) = rw (int_eq_equiv.refl x) (pointwise-int-refl a)
 
-same_numbers-refl : (a : Numbers) → same_numbers a a ≡ true
+pub same_numbers-refl : (a : Numbers) → same_numbers a a ≡ true
 same_numbers-refl a = rw (eq-eqb (type_number a.num_type) (type_number a.num_type) refl) (pointwise-int-refl a.items)
 
 pub same_reply-refl : (a : Reply) → same_reply a a ≡ true
@@ -81,7 +88,7 @@ same_outcome-refl Failed = refl
 
 -- Calls.
 
-running-there : (t : ThreadState) → is_running t ≡ true → is_there t ≡ true
+pub running-there : (t : ThreadState) → is_running t ≡ true → is_there t ≡ true
 running-there Absent h = absurd (let no : ⊥ = cc in no)
 running-there Running h = refl
 running-there Ended h = absurd (let no : ⊥ = cc in no)
@@ -91,27 +98,39 @@ done-charge entries true = omega arith
 done-charge entries false = omega arith
 
 -- no call takes more room than it needs
-pub charge-need : (t : ThreadState) (call : Call) (reply : Reply) → is_running t ≡ true → charge t call reply ≤ need_of call false false
-charge-need t call reply running = go (is_end call) refl
+pub charge-need : (t : ThreadState) (call : Call) (reply : Reply) (pending : Bool) → (row_of call).group ≡ None → is_running t ≡ true → charge t call reply ≤ need_of call pending false
+charge-need t call reply pending plain running = go (is_end call) refl
   where
-    go : (b : Bool) → is_end call ≡ b → charge t call reply ≤ need_of call false false
+    go : (b : Bool) → is_end call ≡ b → charge t call reply ≤ need_of call pending false
     go true ends = rw (ends, running) (omega arith)
-    go false goes = rw goes (done-charge (entries_of call) (is_done reply))
+    go false goes = rw (goes, plain) (done-charge (entries_of call) (is_done reply))
+
+-- a collective needs room for itself and, where it is not pending, for its join
+pub collective-needs : (call : Call) (id : ℕ) → (row_of call).group ≡ Some id → (need_of call false false ≡ 2) × (need_of call true false ≡ 1)
+collective-needs (calls.Commit call) id named = (refl, refl)
+collective-needs (calls.Barrier call) id named = (refl, refl)
+collective-needs (calls.Allreduce call) id named = (refl, refl)
+collective-needs (calls.Create call) id named = (refl, refl)
+collective-needs other id named = absurd (let no : ⊥ = cc in no)
+
+pub needs-one : (call : Call) (id : ℕ) (pending : Bool) → (row_of call).group ≡ Some id → 1 ≤ need_of call pending false
+needs-one call id true named = let needs = collective-needs call id named in omega arith
+needs-one call id false named = let needs = collective-needs call id named in omega arith
 
 -- a call of a running thread with the reply that may be recorded, where there is room for it
-called-enabled : (limits : Limits) (me : ℕ) (posts : Posts) (brought : Option Message) (memory : Memory) (thread : ℕ) (call : Call) → is_running (thread_at posts thread) ≡ true
-    → posts.events + owed posts + need_of call false false ≤ limits.events
+called-enabled : (limits : Limits) (me : ℕ) (posts : Posts) (brought : Option Message) (memory : Memory) (thread : ℕ) (call : Call) (pending : Bool) → (row_of call).group ≡ None → is_running (thread_at posts thread) ≡ true
+    → posts.events + owed posts + need_of call pending false ≤ limits.events
     → IsOk (called limits me posts brought memory thread call (recorded_reply (answer limits me posts memory thread call)))
-called-enabled limits me posts brought memory thread call running room =
+called-enabled limits me posts brought memory thread call pending plain running room =
     let reply = recorded_reply (answer limits me posts memory thread call) in
     let there = running-there (thread_at posts thread) running in
     let same = same_reply-refl reply in
-    let less = charge-need (thread_at posts thread) call reply running in
+    let less = charge-need (thread_at posts thread) call reply pending plain running in
     let fits = le-leb (posts.events + owed posts + charge (thread_at posts thread) call reply) limits.events (omega arith) in
     rw (there, same, fits) refl
 
 -- a rank that has an active caller is there
-active-posts : (s : State) (rank thread : ℕ) → is_active s rank thread ≡ true → (posts : Posts) × (slice_get s.posts rank ≡ Some posts) × (is_running (thread_at posts thread) ≡ true)
+pub active-posts : (s : State) (rank thread : ℕ) → is_active s rank thread ≡ true → (posts : Posts) × (slice_get s.posts rank ≡ Some posts) × (is_running (thread_at posts thread) ≡ true)
 active-posts s rank thread h = go (slice_get s.posts rank) refl
   where
     go : (o : Option Posts) → slice_get s.posts rank ≡ o → (posts : Posts) × (slice_get s.posts rank ≡ Some posts) × (is_running (thread_at posts thread) ≡ true)
@@ -125,34 +144,74 @@ memory-there s rank sound within = go (slice_get s.memories rank) refl
     go (Some memory) at = (memory, at)
     go None at = absurd (past-none s.memories rank (let same = sound.memories in omega arith) at)
 
-ok-then : {A B E : Type 0} (r : Result A E) (f : A → B) → IsOk r → IsOk {E = E} (r >>= λ x. Ok (f x))
+pub ok-then : {A B E : Type 0} (r : Result A E) (f : A → B) → IsOk r → IsOk {E = E} (r >>= λ x. Ok (f x))
 ok-then (Ok x) f h = refl
 ok-then (Err e) f h = absurd (let no : ⊥ = cc in no)
 
 -- a call of an active caller, with the reply that it has, is a step where there is room for it
-called-step : (s : State) (rank thread : ℕ) (call : Call) (posts : Posts) → slice_get s.posts rank ≡ Some posts
-    → is_running (thread_at posts thread) ≡ true → posts.events + owed posts + need_of call false false ≤ s.limits.events
+called-step : (s : State) (rank thread : ℕ) (call : Call) (posts : Posts) (pending : Bool) → (row_of call).group ≡ None → slice_get s.posts rank ≡ Some posts
+    → is_running (thread_at posts thread) ≡ true → posts.events + owed posts + need_of call pending false ≤ s.limits.events
     → IsOk (step s (Called (record { rank = rank; thread = thread }) call (recorded_reply (answer s.limits rank posts (call_memory s rank posts call) thread call))))
-called-step s rank thread call posts hp running room =
+called-step s rank thread call posts pending plain hp running room =
     let memory = call_memory s rank posts call in
     let reply = recorded_reply (answer s.limits rank posts memory thread call) in
     let reach = reach_of s.limits.ranks rank (row_of call).touch in
     let parts = parts_of s posts (touched_of rank reach) in
     let leave = λ (after : Worked). (let left : Parts = record (with_worked_memory reach parts after.memory) { posts = after.posts; peer_posts = option_map (peer_after rank posts call reply) parts.peer_posts } in left) in
-    let recorded = called-enabled s.limits rank posts (call_brought s rank call) memory thread call running room in
-    rw hp (ok-then (called s.limits rank posts (call_brought s rank call) memory thread call reply >>= λ after. Ok (leave after)) (with_parts s rank (touched_of rank reach))
+    let recorded = called-enabled s.limits rank posts (call_brought s rank call) memory thread call pending plain running room in
+    rw (hp, plain) (ok-then (called s.limits rank posts (call_brought s rank call) memory thread call reply >>= λ after. Ok (leave after)) (with_parts s rank (touched_of rank reach))
     (ok-then (called s.limits rank posts (call_brought s rank call) memory thread call reply) leave recorded))
 
-pub called-is_step : (s : State) (rank thread : ℕ) (call : Call) (ready : Ready) → IsSound s → is_active s rank thread ≡ true
-    → room_taken s rank + need_of call false false ≤ s.limits.events → answer_in s rank thread call ≡ Some ready
-    → IsOk (step s (Called (record { rank = rank; thread = thread }) call (recorded_reply ready)))
-called-is_step s rank thread call ready sound active room is =
-    let p = active-posts s rank thread active in
-    let room' : p.0.events + owed p.0 + need_of call false false ≤ s.limits.events = rw p.1 at room in
-    let answers : ◌≡◌ {A = Option Ready} (Some (answer s.limits rank p.0 (call_memory s rank p.0 call) thread call)) (Some ready) = rw p.1 at is in
-    let same : answer s.limits rank p.0 (call_memory s rank p.0 call) thread call ≡ ready = cc in
-    subst (λ (r : Ready). IsOk (step s (Called (record { rank = rank; thread = thread }) call (recorded_reply r)))) same
-    (called-step s rank thread call p.0 p.1 p.2 room')
+-- a collective with the reply that it has
+completed-step : (s : State) (rank thread id : ℕ) (call : Call) (posts : Posts) (found : Ready) → (row_of call).group ≡ Some id → slice_get s.posts rank ≡ Some posts → is_running (thread_at posts thread) ≡ true
+    → posts.events + owed posts + 1 ≤ s.limits.events → collective_answer posts (group_in s id) rank thread id call ≡ found → is_joining found ≡ false
+    → IsOk (step s (Called (record { rank = rank; thread = thread }) call (recorded_reply found)))
+completed-step s rank thread id call posts found named hp running room is answered =
+    let reach = reach_of s.limits.ranks rank (row_of call).touch in
+    let parts = parts_of s posts (touched_of rank reach) in
+    let group = group-worked s posts rank id (row_of call).touch (collective-touch call id named) in
+    let there = running-there (thread_at posts thread) running in
+    let fits = le-leb (posts.events + owed posts + 1) s.limits.events room in
+    let answers : is_reply_of (collective_answer posts (group_or_none parts.group) rank thread id call) (recorded_reply found) ≡ true =
+    ap (λ (g : Group). is_reply_of (collective_answer posts g rank thread id call) (recorded_reply found)) group ∙ ap (λ (r : Ready). is_reply_of r (recorded_reply found)) is ∙ itself found answered in
+    let done : IsOk (completed s.limits rank posts (group_or_none parts.group) thread id call (recorded_reply found)) = rw (there, answers, fits) refl in
+    let leave = λ (after : Met). (let left : Parts = record parts { posts = after.posts; group = Some after.group } in left) in
+    rw (hp, named) (ok-then (completed s.limits rank posts (group_or_none parts.group) thread id call (recorded_reply found) >>= λ after. Ok (leave after)) (with_parts s rank (touched_of rank reach))
+    (ok-then (completed s.limits rank posts (group_or_none parts.group) thread id call (recorded_reply found)) leave done))
+  where
+    itself : (r : Ready) → is_joining r ≡ false → is_reply_of r (recorded_reply r) ≡ true
+    itself (ready.Reply reply) h = same_reply-refl reply
+    itself (ready.Join args) h = absurd (let no : ⊥ = cc in no)
+    itself ready.NotReady h = refl
+
+pub called-is_step : (s : State) (rank thread : ℕ) (call : Call) (found : Ready) → IsSound s → is_active s rank thread ≡ true
+    → room_taken s rank + need_of call (is_pending s rank thread call) false ≤ s.limits.events → answer_in s rank thread call ≡ Some found → is_joining found ≡ false
+    → IsOk (step s (Called (record { rank = rank; thread = thread }) call (recorded_reply found)))
+called-is_step s rank thread call found sound active room is answered = by-group (row_of call).group refl
+  where
+    p : (posts : Posts) × (slice_get s.posts rank ≡ Some posts) × (is_running (thread_at posts thread) ≡ true)
+    p = active-posts s rank thread active
+
+    with-posts : (posts : Posts) → slice_get s.posts rank ≡ Some posts → is_running (thread_at posts thread) ≡ true → (o : Option ℕ) → (row_of call).group ≡ o
+        → IsOk (step s (Called (record { rank = rank; thread = thread }) call (recorded_reply found)))
+    with-posts posts hp running None plain =
+        let room' : posts.events + owed posts + need_of call (is_pending s rank thread call) false ≤ s.limits.events = subst (λ (n : ℕ). n + need_of call (is_pending s rank thread call) false ≤ s.limits.events) (taken posts hp) room in
+        let answers : ◌≡◌ {A = Option Ready} (Some (answer s.limits rank posts (call_memory s rank posts call) thread call)) (Some found) = rw (hp, plain) at is in
+        let same : answer s.limits rank posts (call_memory s rank posts call) thread call ≡ found = cc in
+        subst (λ (r : Ready). IsOk (step s (Called (record { rank = rank; thread = thread }) call (recorded_reply r)))) same
+        (called-step s rank thread call posts (is_pending s rank thread call) plain hp running room')
+      where
+        taken : (x : Posts) → slice_get s.posts rank ≡ Some x → room_taken s rank ≡ x.events + owed x
+        taken x at = rw at refl
+    with-posts posts hp running (Some id) named =
+        let one = needs-one call id (is_pending s rank thread call) named in
+        let taken : room_taken s rank ≡ posts.events + owed posts = rw hp refl in
+        let answers : ◌≡◌ {A = Option Ready} (Some (collective_answer posts (group_in s id) rank thread id call)) (Some found) = rw (hp, named) at is in
+        let same : collective_answer posts (group_in s id) rank thread id call ≡ found = cc in
+        completed-step s rank thread id call posts found named hp running (omega arith) same answered
+
+    by-group : (o : Option ℕ) → (row_of call).group ≡ o → IsOk (step s (Called (record { rank = rank; thread = thread }) call (recorded_reply found)))
+    by-group o named = with-posts p.0 p.1 p.2 o named
 
 -- Transfers.
 

@@ -2,8 +2,9 @@
 use Rattle.std.proofs.Common.{◌≡◌, ℕ, zero, suc, Bool, true, false, ◌==◌, ◌||◌, List, [], ◌∷◌, Option, None, Some, Result, Ok, Err, refl, sym, ap, ◌∙◌, subst}
 use Rattle.std.specs.List.{slice_get, slice_set}
 use Rattle.std.proofs.lemmas.Bool.{eq-eqb, eqb-true, eqb-false}
+use Rattle.gaspi_types.specs.declared.groups.Group as groups
 use Rattle.gaspi_types.specs.declared.touches.Reach.{Reach}
-use Rattle.gaspi_types.specs.declared.touches.Reach.TheVariants.{Alone, OwnMemory, PeerMemory, BothMemories, PeerPosts}
+use Rattle.gaspi_types.specs.declared.touches.Reach.TheVariants.{Alone, OwnMemory, PeerMemory, BothMemories, PeerPosts, Group, GroupAndMemory}
 use Rattle.gaspi_model.specs.Parts.{Parts, touched_of, with_part, parts_of, with_parts, lifted}
 use Rattle.gaspi_model.specs.Shards.{reach_shards, is_shard, same_shard, HaveSamePart, AgreeOn, ComeToSame}
 use Rattle.gaspi_model.specs.declared.states.Posts.{Posts}
@@ -41,6 +42,22 @@ owner-is-shard me OwnMemory = first-is-shard (shards.Posts me) (shards.Memory me
 owner-is-shard me (PeerMemory rank) = first-is-shard (shards.Posts me) (shards.Memory rank ∷ [])
 owner-is-shard me (BothMemories rank) = first-is-shard (shards.Posts me) (shards.Memory me ∷ shards.Memory rank ∷ [])
 owner-is-shard me (PeerPosts rank) = first-is-shard (shards.Posts me) (shards.Posts rank ∷ [])
+owner-is-shard me (Group id) = first-is-shard (shards.Posts me) (shards.Group id ∷ [])
+owner-is-shard me (GroupAndMemory id) = first-is-shard (shards.Posts me) (shards.Memory me ∷ shards.Group id ∷ [])
+
+third-is-shard : (a b c : Shard) → is_shard (a ∷ b ∷ c ∷ []) c ≡ true
+third-is-shard a b c = go (same_shard a c) refl
+  where
+    go : (t : Bool) → same_shard a c ≡ t → is_shard (a ∷ b ∷ c ∷ []) c ≡ true
+    go true is = rw is refl
+    go false is = rw is (second-is-shard b c)
+
+middle-is-shard : (a b c : Shard) → is_shard (a ∷ b ∷ c ∷ []) b ≡ true
+middle-is-shard a b c = go (same_shard a b) refl
+  where
+    go : (t : Bool) → same_shard a b ≡ t → is_shard (a ∷ b ∷ c ∷ []) b ≡ true
+    go true is = rw is refl
+    go false is = rw is (first-is-shard b (c ∷ []))
 
 -- Frame.
 
@@ -69,7 +86,17 @@ frame-parts s me (PeerPosts rank) parts (shards.Posts k) out =
     part-elsewhere (slice_set s.posts me parts.posts) rank k parts.peer_posts (neither (rank == k) false first.1).0
     ∙ slice_get-set_other s.posts me k parts.posts (apart me k first.0)
 frame-parts s me (PeerPosts rank) parts (shards.Memory k) out = refl
-frame-parts s me reach parts (shards.Group k) out = refl
+frame-parts s me (Group id) parts (shards.Posts k) out = slice_get-set_other s.posts me k parts.posts (apart me k (neither (me == k) false out).0)
+frame-parts s me (Group id) parts (shards.Memory k) out = refl
+frame-parts s me (Group id) parts (shards.Group k) out = part-elsewhere s.groups id k parts.group (neither (id == k) false out).0
+frame-parts s me (GroupAndMemory id) parts (shards.Posts k) out = slice_get-set_other s.posts me k parts.posts (apart me k (neither (me == k) false out).0)
+frame-parts s me (GroupAndMemory id) parts (shards.Memory k) out = part-elsewhere s.memories me k parts.memory (neither (me == k) false out).0
+frame-parts s me (GroupAndMemory id) parts (shards.Group k) out = part-elsewhere s.groups id k parts.group (neither (id == k) false out).0
+frame-parts s me Alone parts (shards.Group k) out = refl
+frame-parts s me OwnMemory parts (shards.Group k) out = refl
+frame-parts s me (PeerMemory rank) parts (shards.Group k) out = refl
+frame-parts s me (BothMemories rank) parts (shards.Group k) out = refl
+frame-parts s me (PeerPosts rank) parts (shards.Group k) out = refl
 
 pub lifted-frame : (s t : State) (me : ℕ) (missing : Why) (reach : Posts → Reach) (local : Parts → Result Parts Why) (posts : Posts) (shard : Shard)
     → lifted s me missing (λ x. touched_of me (reach x)) local ≡ Ok t → slice_get s.posts me ≡ Some posts → is_shard (reach_shards me (reach posts)) shard ≡ false → HaveSamePart t s shard
@@ -110,19 +137,27 @@ same-parts : (s s' : State) (me : ℕ) (reach : Reach) (posts : Posts) → Agree
     → parts_of s posts (touched_of me reach) ≡ parts_of s' posts (touched_of me reach)
 same-parts s s' me Alone posts agree = refl
 same-parts s s' me OwnMemory posts agree =
-    ap (λ (m : Option Memory). let x : Parts = record { posts = posts; memory = m; peer_posts = None; peer_memory = None } in x)
+    ap (λ (m : Option Memory). let x : Parts = record { posts = posts; memory = m; peer_posts = None; peer_memory = None; group = None } in x)
     (agree.parts (shards.Memory me) (second-is-shard (shards.Posts me) (shards.Memory me)))
 same-parts s s' me (PeerMemory rank) posts agree =
-    ap (λ (m : Option Memory). let x : Parts = record { posts = posts; memory = None; peer_posts = None; peer_memory = m } in x)
+    ap (λ (m : Option Memory). let x : Parts = record { posts = posts; memory = None; peer_posts = None; peer_memory = m; group = None } in x)
     (agree.parts (shards.Memory rank) (second-is-shard (shards.Posts me) (shards.Memory rank)))
 same-parts s s' me (BothMemories rank) posts agree =
-    ap (λ (m : Option Memory). let x : Parts = record { posts = posts; memory = m; peer_posts = None; peer_memory = slice_get s.memories rank } in x)
+    ap (λ (m : Option Memory). let x : Parts = record { posts = posts; memory = m; peer_posts = None; peer_memory = slice_get s.memories rank; group = None } in x)
     (agree.parts (shards.Memory me) (first-is-shard (shards.Memory me) (shards.Memory rank ∷ [])))
-    ∙ ap (λ (m : Option Memory). let x : Parts = record { posts = posts; memory = slice_get s'.memories me; peer_posts = None; peer_memory = m } in x)
+    ∙ ap (λ (m : Option Memory). let x : Parts = record { posts = posts; memory = slice_get s'.memories me; peer_posts = None; peer_memory = m; group = None } in x)
     (agree.parts (shards.Memory rank) (second-is-shard (shards.Memory me) (shards.Memory rank)))
 same-parts s s' me (PeerPosts rank) posts agree =
-    ap (λ (p : Option Posts). let x : Parts = record { posts = posts; memory = None; peer_posts = p; peer_memory = None } in x)
+    ap (λ (p : Option Posts). let x : Parts = record { posts = posts; memory = None; peer_posts = p; peer_memory = None; group = None } in x)
     (agree.parts (shards.Posts rank) (second-is-shard (shards.Posts me) (shards.Posts rank)))
+same-parts s s' me (Group id) posts agree =
+    ap (λ (g : Option groups.Group). let x : Parts = record { posts = posts; memory = None; peer_posts = None; peer_memory = None; group = g } in x)
+    (agree.parts (shards.Group id) (second-is-shard (shards.Posts me) (shards.Group id)))
+same-parts s s' me (GroupAndMemory id) posts agree =
+    ap (λ (m : Option Memory). let x : Parts = record { posts = posts; memory = m; peer_posts = None; peer_memory = None; group = slice_get s.groups id } in x)
+    (agree.parts (shards.Memory me) (middle-is-shard (shards.Posts me) (shards.Memory me) (shards.Group id)))
+    ∙ ap (λ (g : Option groups.Group). let x : Parts = record { posts = posts; memory = slice_get s'.memories me; peer_posts = None; peer_memory = None; group = g } in x)
+    (agree.parts (shards.Group id) (third-is-shard (shards.Posts me) (shards.Memory me) (shards.Group id)))
 
 -- what was the same stays the same
 same-after : (s s' : State) (me : ℕ) (reach : Reach) (parts : Parts) → AgreeOn (is_shard (reach_shards me reach)) s s' → (shard : Shard) → HaveSamePart s s' shard
@@ -147,7 +182,20 @@ same-after s s' me (PeerPosts rank) parts agree (shards.Posts k) here =
     part-agree (slice_set s.posts me parts.posts) (slice_set s'.posts me parts.posts) rank k parts.peer_posts
     (set-agree s.posts s'.posts me rank parts.posts mine theirs) (set-agree s.posts s'.posts me k parts.posts mine here)
 same-after s s' me (PeerPosts rank) parts agree (shards.Memory k) here = here
-same-after s s' me reach parts agree (shards.Group k) here = here
+same-after s s' me (Group id) parts agree (shards.Posts k) here = set-agree s.posts s'.posts me k parts.posts (agree.parts (shards.Posts me) (owner-is-shard me (Group id))) here
+same-after s s' me (Group id) parts agree (shards.Memory k) here = here
+same-after s s' me (Group id) parts agree (shards.Group k) here =
+    part-agree s.groups s'.groups id k parts.group (agree.parts (shards.Group id) (second-is-shard (shards.Posts me) (shards.Group id))) here
+same-after s s' me (GroupAndMemory id) parts agree (shards.Posts k) here = set-agree s.posts s'.posts me k parts.posts (agree.parts (shards.Posts me) (owner-is-shard me (GroupAndMemory id))) here
+same-after s s' me (GroupAndMemory id) parts agree (shards.Memory k) here =
+    part-agree s.memories s'.memories me k parts.memory (agree.parts (shards.Memory me) (middle-is-shard (shards.Posts me) (shards.Memory me) (shards.Group id))) here
+same-after s s' me (GroupAndMemory id) parts agree (shards.Group k) here =
+    part-agree s.groups s'.groups id k parts.group (agree.parts (shards.Group id) (third-is-shard (shards.Posts me) (shards.Memory me) (shards.Group id))) here
+same-after s s' me Alone parts agree (shards.Group k) here = here
+same-after s s' me OwnMemory parts agree (shards.Group k) here = here
+same-after s s' me (PeerMemory rank) parts agree (shards.Group k) here = here
+same-after s s' me (BothMemories rank) parts agree (shards.Group k) here = here
+same-after s s' me (PeerPosts rank) parts agree (shards.Group k) here = here
 
 pub lifted-determined : (s s' : State) (me : ℕ) (missing : Why) (reach : Posts → Reach) (local : Parts → Result Parts Why) → s.limits ≡ s'.limits
     → slice_get s.posts me ≡ slice_get s'.posts me

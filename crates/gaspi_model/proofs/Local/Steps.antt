@@ -11,6 +11,7 @@ use Rattle.gaspi_types.specs.declared.calls.Call.{Call}
 use Rattle.gaspi_types.specs.declared.calls.Call.TheVariants.{Write, Read, Notify, WriteNotify, ReadNotify, WriteList, WriteListNotify, ReadList, ReadListNotify, Wait}
 use Rattle.gaspi_types.specs.declared.calls.Call.TheVariants as calls
 use Rattle.gaspi_types.specs.declared.calls.queues.Wait as wait
+use Rattle.gaspi_types.specs.declared.calls.collectives.Create as create
 use Rattle.gaspi_types.specs.declared.calls.queues.Purge as purge
 use Rattle.gaspi_types.specs.declared.calls.queues.Qsize as qsize
 use Rattle.gaspi_types.specs.declared.calls.passive.PassiveSend as send
@@ -21,15 +22,18 @@ use Rattle.gaspi_types.specs.declared.entries.Kind.TheVariants as kinds
 use Rattle.gaspi_types.specs.declared.call_rows.Posting.{Posting}
 use Rattle.gaspi_types.specs.declared.replies.Reply.{Reply}
 use Rattle.gaspi_types.specs.declared.events.Event.{Event}
-use Rattle.gaspi_types.specs.declared.events.Event.TheVariants.{Called, Take, Put}
+use Rattle.gaspi_types.specs.declared.events.Event.TheVariants.{Called, Joined, Take, Put}
 use Rattle.gaspi_types.specs.declared.touches.Touch.{Touch}
 use Rattle.gaspi_types.specs.declared.touches.Touch.TheVariants as touches
 use Rattle.gaspi_types.specs.declared.touches.Reach.{Reach}
-use Rattle.gaspi_types.specs.declared.touches.Reach.TheVariants.{Alone, OwnMemory, PeerMemory, BothMemories, PeerPosts}
+use Rattle.gaspi_types.specs.declared.touches.Reach.TheVariants.{Alone, OwnMemory, PeerMemory, BothMemories, PeerPosts, Group, GroupAndMemory}
 use Rattle.gaspi_model.specs.Parts.{touched_of, lifted}
-use Rattle.gaspi_model.specs.Step.{step, owner_of, entry_touch, event_touch, event_reach, local_step, missing}
+use Rattle.gaspi_types.specs.declared.collectives.Coll.{Coll}
+use Rattle.gaspi_types.specs.declared.collectives.Coll.TheVariants as colls
+use Rattle.gaspi_types.specs.declared.groups.Args.{Args}
+use Rattle.gaspi_model.specs.Step.{step, owner_of, entry_touch, join_touch, event_touch, event_reach, local_step, missing}
 use Rattle.gaspi_model.specs.Transfers.{entry_in}
-use Rattle.gaspi_model.specs.Shards.{footprint, reach_shards, is_send, send_shards, is_group_call, is_shard, same_shard, HaveSamePart, AgreeOn, ComeToSame, numbers_of, is_among, without_repeats}
+use Rattle.gaspi_model.specs.Shards.{footprint, reach_shards, is_wide, is_create, group_shards, create_shards, send_shards, is_group_call, is_shard, same_shard, HaveSamePart, AgreeOn, ComeToSame, numbers_of, is_among, without_repeats}
 use Rattle.gaspi_model.specs.declared.states.Posts.{Posts}
 use Rattle.gaspi_model.specs.declared.states.State.{State}
 use Rattle.gaspi_model.specs.declared.states.Shard.{Shard}
@@ -91,6 +95,12 @@ reach-once me (BothMemories rank) other both (shards.Posts k) = either (me == k)
 reach-once me (BothMemories rank) other both (shards.Memory k) = let two = once-of-two me rank k (both rank refl) in omega arith
 reach-once me (PeerPosts rank) other both (shards.Posts k) = let two = once-of-two me rank k (other rank refl) in omega arith
 reach-once me (PeerPosts rank) other both (shards.Memory k) = omega arith
+reach-once me (Group id) other both (shards.Posts k) = either (me == k) (λ is. rw is (omega arith)) (λ is. rw is (omega arith))
+reach-once me (Group id) other both (shards.Memory k) = omega arith
+reach-once me (Group id) other both (shards.Group k) = either (id == k) (λ is. rw is (omega arith)) (λ is. rw is (omega arith))
+reach-once me (GroupAndMemory id) other both (shards.Posts k) = either (me == k) (λ is. rw is (omega arith)) (λ is. rw is (omega arith))
+reach-once me (GroupAndMemory id) other both (shards.Memory k) = either (me == k) (λ is. rw is (omega arith)) (λ is. rw is (omega arith))
+reach-once me (GroupAndMemory id) other both (shards.Group k) = either (id == k) (λ is. rw is (omega arith)) (λ is. rw is (omega arith))
 reach-once me Alone other both (shards.Group k) = omega arith
 reach-once me OwnMemory other both (shards.Group k) = omega arith
 reach-once me (PeerMemory rank) other both (shards.Group k) = omega arith
@@ -106,9 +116,10 @@ once s e shard = go (slice_get s.posts (owner_of e)) refl
         rw at (reach-once (owner_of e) (event_reach s.limits posts e) (λ rank is. (peer-touched s.limits.ranks (owner_of e) rank (event_touch posts e) is).1)
         (λ rank is. (both-touched s.limits.ranks (owner_of e) rank (event_touch posts e) is).1) shard)
 
--- an event that is no send has at most one shard beside its owner's posts
+-- most events have at most one shard beside their owner's posts
 abbrev is_both : Touch → Bool
 is_both (touches.BothMemories rank) = true
+is_both (touches.GroupAndMemory id) = true
 is_both touch = false
 
 touch-few : (ranks me : ℕ) (touch : Touch) → is_both touch ≡ false → length (reach_shards me (reach_of ranks me touch)) ≤ 2
@@ -127,9 +138,16 @@ touch-few ranks me (touches.PostsOf rank) h = go (rank == me) (nat_lt rank ranks
     go true c = omega arith
     go false true = omega arith
     go false false = omega arith
+touch-few ranks me (touches.GroupOf id) h = go (nat_lt id 8)
+  where
+    go : (b : Bool) → length (reach_shards me (if b then Group id else Alone)) ≤ 2
+    go true = omega arith
+    go false = omega arith
+touch-few ranks me (touches.GroupAndMemory id) h = absurd (let no : ⊥ = cc in no)
 
-call-both : (c : CallerId) (call : Call) (reply : Reply) → is_send (Called c call reply) ≡ false → is_both (row_of call).touch ≡ false
+call-both : (c : CallerId) (call : Call) (reply : Reply) → is_wide (Called c call reply) ≡ false → is_both (row_of call).touch ≡ false
 call-both c (calls.PassiveSend call) reply h = absurd (let no : ⊥ = cc in no)
+call-both c (calls.Create call) reply h = absurd (let no : ⊥ = cc in no)
 call-both c call reply h = refl
 
 take-both : (target : ℕ) (o : Option Entry) → is_both (entry_touch (take_touch target) o) ≡ false
@@ -152,12 +170,19 @@ put-both target (Some e) = by-kind e.kind
     by-kind (kinds.Notify to value) = refl
     by-kind (kinds.ReadNote own) = refl
 
-event-both : (posts : Posts) (e : Event) → is_send e ≡ false → is_both (event_touch posts e) ≡ false
+join-both : (id : ℕ) (coll : Coll) → is_create coll ≡ false → is_both (join_touch id coll) ≡ false
+join-both id colls.Barrier h = refl
+join-both id (colls.Allreduce op t n) h = refl
+join-both id (colls.Create seg size) h = absurd (let no : ⊥ = cc in no)
+join-both id (colls.Commit mask) h = refl
+
+event-both : (posts : Posts) (e : Event) → is_wide e ≡ false → is_both (event_touch posts e) ≡ false
+event-both posts (Joined c id args) h = join-both id args.coll h
 event-both posts (Called c call reply) h = call-both c call reply h
 event-both posts (Take origin queue target number outcome) h = take-both target (entry_in posts queue target number)
 event-both posts (Put origin queue target number outcome) h = put-both target (entry_in posts queue target number)
 
-pub few : (s : State) (e : Event) → is_send e ≡ false → length (footprint s e) ≤ 2
+pub few : (s : State) (e : Event) → is_wide e ≡ false → length (footprint s e) ≤ 2
 few s e h = go (slice_get s.posts (owner_of e)) refl
   where
     go : (o : Option Posts) → slice_get s.posts (owner_of e) ≡ o → length (footprint s e) ≤ 2
@@ -176,6 +201,58 @@ posting-reaches-none (WriteListNotify call) to is = refl
 posting-reaches-none (ReadList call) to is = refl
 posting-reaches-none (ReadListNotify call) to is = refl
 posting-reaches-none call to is = absurd (let no : ⊥ = cc in no)
+
+-- and is no collective
+pub posting-plain : (call : Call) (to : Posting) → (row_of call).posting ≡ Some to → (row_of call).group ≡ None
+posting-plain (Write call) to is = refl
+posting-plain (Read call) to is = refl
+posting-plain (Notify call) to is = refl
+posting-plain (WriteNotify call) to is = refl
+posting-plain (ReadNotify call) to is = refl
+posting-plain (WriteList call) to is = refl
+posting-plain (WriteListNotify call) to is = refl
+posting-plain (ReadList call) to is = refl
+posting-plain (ReadListNotify call) to is = refl
+posting-plain call to is = absurd (let no : ⊥ = cc in no)
+
+-- A collective and its join have their group, and where a segment is made the own memory.
+grouped : (s : State) (posts : Posts) (me id : ℕ) → slice_get s.posts me ≡ Some posts
+    → reach_shards me (reach_of s.limits.ranks me (touches.GroupOf id)) ≡ shards.Posts me ∷ group_shards id
+grouped s posts me id at = go (nat_lt id 8)
+  where
+    go : (b : Bool) → reach_shards me (if b then Group id else Alone) ≡ shards.Posts me ∷ (if b then shards.Group id ∷ [] else [])
+    go true = refl
+    go false = refl
+
+made-grouped : (s : State) (posts : Posts) (me id : ℕ) → slice_get s.posts me ≡ Some posts
+    → reach_shards me (reach_of s.limits.ranks me (touches.GroupAndMemory id)) ≡ shards.Posts me ∷ create_shards me id
+made-grouped s posts me id at = go (nat_lt id 8)
+  where
+    go : (b : Bool) → reach_shards me (if b then GroupAndMemory id else Alone) ≡ shards.Posts me ∷ (if b then shards.Memory me ∷ shards.Group id ∷ [] else [])
+    go true = refl
+    go false = refl
+
+pub collective-group : (s : State) (posts : Posts) (c : CallerId) (call : Call) (id : ℕ) (reply : Reply) → slice_get s.posts c.rank ≡ Some posts → (row_of call).group ≡ Some id → is_wide (Called c call reply) ≡ false
+    → footprint s (Called c call reply) ≡ shards.Posts c.rank ∷ group_shards id
+collective-group s posts c (calls.Commit call) id reply at named narrow = (let same : call.group ≡ id = cc in rw at (grouped s posts c.rank call.group at ∙ ap (λ (k : ℕ). shards.Posts c.rank ∷ group_shards k) same))
+collective-group s posts c (calls.Barrier call) id reply at named narrow = (let same : call.group ≡ id = cc in rw at (grouped s posts c.rank call.group at ∙ ap (λ (k : ℕ). shards.Posts c.rank ∷ group_shards k) same))
+collective-group s posts c (calls.Allreduce call) id reply at named narrow = (let same : call.group ≡ id = cc in rw at (grouped s posts c.rank call.group at ∙ ap (λ (k : ℕ). shards.Posts c.rank ∷ group_shards k) same))
+collective-group s posts c (calls.Create call) id reply at named narrow = absurd (let no : ⊥ = cc in no)
+collective-group s posts c other id reply at named narrow = absurd (let no : ⊥ = cc in no)
+
+pub create-group : (s : State) (posts : Posts) (c : CallerId) (call : create.Create) (reply : Reply) → slice_get s.posts c.rank ≡ Some posts
+    → footprint s (Called c (calls.Create call) reply) ≡ shards.Posts c.rank ∷ create_shards c.rank call.group
+create-group s posts c call reply at = rw at (made-grouped s posts c.rank call.group at)
+
+pub join-group : (s : State) (posts : Posts) (c : CallerId) (id : ℕ) (args : Args) → slice_get s.posts c.rank ≡ Some posts
+    → footprint s (Joined c id args) ≡ shards.Posts c.rank ∷ (if is_create args.coll then create_shards c.rank id else group_shards id)
+join-group s posts c id args at = rw at (go args.coll)
+  where
+    go : (coll : Coll) → reach_shards c.rank (reach_of s.limits.ranks c.rank (join_touch id coll)) ≡ shards.Posts c.rank ∷ (if is_create coll then create_shards c.rank id else group_shards id)
+    go colls.Barrier = grouped s posts c.rank id at
+    go (colls.Allreduce op t n) = grouped s posts c.rank id at
+    go (colls.Create seg size) = made-grouped s posts c.rank id at
+    go (colls.Commit mask) = grouped s posts c.rank id at
 
 untouched : (s : State) (c : CallerId) (call : Call) (reply : Reply) → (row_of call).touch ≡ touches.Nothing → footprint s (Called c call reply) ≡ shards.Posts c.rank ∷ []
 untouched s c call reply none = go (slice_get s.posts c.rank) refl

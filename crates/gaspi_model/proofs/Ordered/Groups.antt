@@ -4,7 +4,7 @@ use Rattle.std.specs.List.{slice_get, slice_set}
 use Rattle.std.specs.Option.{option_map, option_and_then}
 use Rattle.std.proofs.lemmas.Bool.{eqb-true, eqb-false, eq-eqb}
 use Rattle.gaspi_types.specs.CallRows.{row_of}
-use Rattle.gaspi_types.specs.Groups.{is_building, handle_of_all, handle_at, with_group, with_added, without_group, new_handle}
+use Rattle.gaspi_types.specs.Groups.{is_building, building_at, handle_of_all, handle_at, with_group, with_added, without_group, with_committed, new_handle}
 use Rattle.gaspi_types.specs.Replies.{is_idle}
 use Rattle.gaspi_types.specs.World.{World, IsWorld}
 use Rattle.gaspi_types.specs.declared.call_rows.Posting.{Posting}
@@ -13,7 +13,7 @@ use Rattle.gaspi_types.specs.declared.calls.Call.TheVariants.{GroupCreate, Group
 use Rattle.gaspi_types.specs.declared.collectives.Stage.{Stage}
 use Rattle.gaspi_types.specs.declared.collectives.Stage.TheVariants.{Committed}
 use Rattle.gaspi_types.specs.declared.events.Event.{Event}
-use Rattle.gaspi_types.specs.declared.events.Event.TheVariants.{Called, Take, Put}
+use Rattle.gaspi_types.specs.declared.events.Event.TheVariants.{Called, Joined, Take, Put}
 use Rattle.gaspi_types.specs.declared.events.Outcome.{Outcome}
 use Rattle.gaspi_types.specs.declared.events.Outcome.TheVariants.{Applied, Failed}
 use Rattle.gaspi_types.specs.declared.groups.Handle.{Handle}
@@ -35,6 +35,21 @@ use Rattle.gaspi_model.specs.declared.states.State.{State}
 use Rattle.gaspi_model.proofs.FoundReplies.{found-reply}
 use Rattle.gaspi_model.proofs.GroupFinds.{create-found, add-found, drop-found}
 use Rattle.gaspi_model.proofs.Histories.{after-first, after-both, after-limits, leads, reached-sound}
+use Rattle.gaspi_types.specs.Collectives.{turn_made}
+use Rattle.gaspi_types.specs.declared.calls.Call.TheVariants as calls
+use Rattle.gaspi_types.specs.declared.collectives.Coll.{Coll}
+use Rattle.gaspi_types.specs.declared.collectives.Coll.TheVariants as colls
+use Rattle.gaspi_types.specs.declared.groups.Args.{Args}
+use Rattle.gaspi_types.specs.declared.groups.Group.{Group}
+use Rattle.gaspi_types.specs.declared.groups.Made.{Made}
+use Rattle.gaspi_model.specs.Posting.{counted}
+use Rattle.gaspi_model.specs.CollectiveCalls.{with_made_known, told_posts, completed_posts, made_posts, joined_posts}
+use Rattle.gaspi_model.specs.Step.{Met, group_in}
+use Rattle.gaspi_types.proofs.Chains.{bind_then, found_then, check_then, same_Ok}
+use Rattle.gaspi_types.specs.declared.replies.Refusal.TheVariants.{NoGroup, GroupStage}
+use Rattle.gaspi_model.proofs.CollectiveFinds.{done-found}
+use Rattle.gaspi_model.proofs.GroupSteps.{step-completed, step-joined}
+use Rattle.gaspi_model.proofs.MetPosts.{made-known}
 use Rattle.gaspi_model.proofs.Made.{IsTake, IsPut, step-called, step-take, step-put}
 use Rattle.gaspi_model.proofs.Same.{same_reply-same}
 use Rattle.gaspi_model.proofs.Sound.GroupTables.{entry-set_other, made-there, with_post-groups}
@@ -52,6 +67,7 @@ abbrev groups_done : Handles → Call → Handles
 groups_done groups GroupCreate = with_group groups
 groups_done groups (GroupAdd call) = with_added groups call.group call.rank
 groups_done groups (GroupDelete call) = without_group groups call.group
+groups_done groups (calls.Commit call) = with_committed groups call.group
 groups_done groups call = groups
 
 abbrev groups_after : Handles → Call → Reply → Handles
@@ -92,19 +108,21 @@ post-groups : (groups : Handles) (call : Call) (to : Posting) → (row_of call).
 post-groups groups GroupCreate to is = absurd (let no : ⊥ = cc in no)
 post-groups groups (GroupAdd call) to is = absurd (let no : ⊥ = cc in no)
 post-groups groups (GroupDelete call) to is = absurd (let no : ⊥ = cc in no)
+post-groups groups (calls.Commit call) to is = absurd (let no : ⊥ = cc in no)
 post-groups groups other to is = refl
 
-plain-groups : (posts : Posts) (thread : ℕ) (call : Call) → (plain_done posts thread call).groups ≡ groups_done posts.groups call
-plain-groups posts thread GroupCreate = refl
-plain-groups posts thread (GroupAdd call) = refl
-plain-groups posts thread (GroupDelete call) = refl
-plain-groups posts thread other = refl
+plain-groups : (posts : Posts) (thread : ℕ) (call : Call) → (row_of call).group ≡ None → (plain_done posts thread call).groups ≡ groups_done posts.groups call
+plain-groups posts thread GroupCreate plain = refl
+plain-groups posts thread (GroupAdd call) plain = refl
+plain-groups posts thread (GroupDelete call) plain = refl
+plain-groups posts thread (calls.Commit call) plain = absurd (let no : ⊥ = cc in no)
+plain-groups posts thread other plain = refl
 
-called-groups : (limits : Limits) (me : ℕ) (posts : Posts) (thread : ℕ) (call : Call) (reply : Reply) → (posts_after limits me posts thread call reply).groups ≡ groups_after posts.groups call reply
-called-groups limits me posts thread call reply = go (is_idle reply) refl
+called-groups : (limits : Limits) (me : ℕ) (posts : Posts) (thread : ℕ) (call : Call) (reply : Reply) → (row_of call).group ≡ None → (posts_after limits me posts thread call reply).groups ≡ groups_after posts.groups call reply
+called-groups limits me posts thread call reply plain = go (is_idle reply) refl
   where
     done : (o : Option Posting) → (row_of call).posting ≡ o → (posts_done limits me posts thread call).groups ≡ groups_done posts.groups call
-    done None none = rw none (plain-groups posts thread call)
+    done None none = rw none (plain-groups posts thread call plain)
     done (Some to) post = rw post (with_post-groups posts to.queue to.rank (call_asks limits me posts call) ∙ sym (post-groups posts.groups call to post))
 
     go : (b : Bool) → is_idle reply ≡ b → (posts_after limits me posts thread call reply).groups ≡ groups_after posts.groups call reply
@@ -116,23 +134,66 @@ same-groups : (o : Option Handles) → o ≡ option_map (λ (g : Handles). g) o
 same-groups None = refl
 same-groups (Some g) = refl
 
-step-groups : (s t : State) (e : Event) (rank : ℕ) → step s e ≡ Ok t → groups_of t rank ≡ option_map (event_groups e rank) (groups_of s rank)
-step-groups s t (Called c call reply) rank h =
-    let made = step-called s t c call reply h in
-    let m = made.3 in
-    let left : made.2.posts.groups ≡ groups_after made.0.groups call reply =
-    ap (λ (w : Worked). w.posts.groups) m.is.leaves ∙ called-groups s.limits c.rank made.0 c.thread call reply in
-    ap (λ (x : State). groups_of x rank) m.leaves
-    ∙ told-groups s.limits.ranks c.rank made.0 call reply (slice_set s.posts c.rank made.2.posts) rank
-    ∙ set-groups s.posts c.rank made.0 made.2.posts rank m.posts_there
-    ∙ by-rank made.0 made.2.posts m.posts_there left (c.rank == rank) refl
+-- what a collective that is done, and a join, leave of the groups
+made-groups : (seg size : ℕ) (made : List Made) (posts : Posts) → (with_made_known seg size made posts).groups ≡ posts.groups
+made-groups seg size made posts = ap (λ (p : Posts). p.groups) (made-known seg size made posts).1
+
+told-left : (group : Group) (me id : ℕ) (call : Call) (posts : Posts) → (row_of call).group ≡ Some id → (told_posts group me id call posts).groups ≡ groups_done posts.groups call
+told-left group me id (calls.Commit call) posts named = (let same : call.group ≡ id = cc in ap (with_committed posts.groups) (sym same))
+told-left group me id (calls.Create call) posts named = made-groups call.seg call.size (turn_made group me) posts
+told-left group me id (calls.Barrier call) posts named = refl
+told-left group me id (calls.Allreduce call) posts named = refl
+told-left group me id other posts named = absurd (let no : ⊥ = cc in no)
+
+completed-groups : (b : Bool) (posts : Posts) (group : Group) (me id : ℕ) (call : Call) → (row_of call).group ≡ Some id
+    → (counted (if b then posts else completed_posts posts group me id call)).groups ≡ (if b then posts.groups else groups_done posts.groups call)
+completed-groups true posts group me id call named = refl
+completed-groups false posts group me id call named = told-left group me id call posts named
+
+joined-groups : (posts : Posts) (thread id : ℕ) (args : Args) → (counted (joined_posts posts thread id args)).groups ≡ posts.groups
+joined-groups posts thread id args = go args.coll
   where
-    by-rank : (posts new : Posts) → slice_get s.posts c.rank ≡ Some posts → new.groups ≡ groups_after posts.groups call reply → (b : Bool) → (c.rank == rank) ≡ b
-        → (if b then Some new.groups else groups_of s rank) ≡ option_map (λ (g : Handles). if b then groups_after g call reply else g) (groups_of s rank)
-    by-rank posts new there left true is =
-        let here : groups_of s rank ≡ Some posts.groups = subst (λ (k : ℕ). groups_of s k ≡ Some posts.groups) (eqb-true c.rank rank is) (ap groups_in there) in
-        ap (λ (g : Handles). Some g) left ∙ ap (λ (o : Option Handles). option_map (λ (g : Handles). groups_after g call reply) o) (sym here)
-    by-rank posts new there left false is = same-groups (groups_of s rank)
+    go : (coll : Coll) → (made_posts posts coll).groups ≡ posts.groups
+    go colls.Barrier = refl
+    go (colls.Allreduce op t n) = refl
+    go (colls.Create seg size) = refl
+    go (colls.Commit mask) = refl
+
+by-rank : (s : State) (c : CallerId) (call : Call) (reply : Reply) (rank : ℕ) (posts new : Posts) → slice_get s.posts c.rank ≡ Some posts → new.groups ≡ groups_after posts.groups call reply → (b : Bool) → (c.rank == rank) ≡ b
+    → (if b then Some new.groups else groups_of s rank) ≡ option_map (λ (g : Handles). if b then groups_after g call reply else g) (groups_of s rank)
+by-rank s c call reply rank posts new there left true is =
+    let here : groups_of s rank ≡ Some posts.groups = subst (λ (k : ℕ). groups_of s k ≡ Some posts.groups) (eqb-true c.rank rank is) (ap groups_in there) in
+    ap (λ (g : Handles). Some g) left ∙ ap (λ (o : Option Handles). option_map (λ (g : Handles). groups_after g call reply) o) (sym here)
+by-rank s c call reply rank posts new there left false is = same-groups (groups_of s rank)
+
+step-groups : (s t : State) (e : Event) (rank : ℕ) → step s e ≡ Ok t → groups_of t rank ≡ option_map (event_groups e rank) (groups_of s rank)
+step-groups s t (Joined c id args) rank h =
+    let made = step-joined s t c id args h in
+    let m = made.2 in
+    let left : made.1.posts.groups ≡ made.0.groups = ap (λ (w : Met). w.posts.groups) m.is.leaves ∙ joined-groups made.0 c.thread id args in
+    ap (λ (x : State). groups_of x rank) m.leaves
+    ∙ set-same_groups s.posts c.rank made.0 made.1.posts rank m.posts_there left
+    ∙ same-groups (groups_of s rank)
+step-groups s t (Called c call reply) rank h = by-group (row_of call).group refl
+  where
+    by-group : (o : Option ℕ) → (row_of call).group ≡ o → groups_of t rank ≡ option_map (event_groups (Called c call reply) rank) (groups_of s rank)
+    by-group None plain =
+        let made = step-called s t c call reply plain h in
+        let m = made.3 in
+        let left : made.2.posts.groups ≡ groups_after made.0.groups call reply =
+        ap (λ (w : Worked). w.posts.groups) m.is.leaves ∙ called-groups s.limits c.rank made.0 c.thread call reply plain in
+        ap (λ (x : State). groups_of x rank) m.leaves
+        ∙ told-groups s.limits.ranks c.rank made.0 call reply (slice_set s.posts c.rank made.2.posts) rank
+        ∙ set-groups s.posts c.rank made.0 made.2.posts rank m.posts_there
+        ∙ by-rank s c call reply rank made.0 made.2.posts m.posts_there left (c.rank == rank) refl
+    by-group (Some id) named =
+        let made = step-completed s t c id call reply named h in
+        let m = made.2 in
+        let left : made.1.posts.groups ≡ groups_after made.0.groups call reply =
+        ap (λ (w : Met). w.posts.groups) m.is.leaves ∙ completed-groups (is_idle reply) made.0 (group_in s id) c.rank id call named in
+        ap (λ (x : State). groups_of x rank) m.leaves
+        ∙ set-groups s.posts c.rank made.0 made.1.posts rank m.posts_there
+        ∙ by-rank s c call reply rank made.0 made.1.posts m.posts_there left (c.rank == rank) refl
 step-groups s t (Take origin queue target number outcome) rank h =
     let made = step-take s t origin queue target number outcome h in
     let m = made.4 in
@@ -190,7 +251,7 @@ same-id a b h = cc
 
 create-made : (s t : State) (c : CallerId) (id : ℕ) → step s (Called c GroupCreate (replies.Id id)) ≡ Ok t → (id ≡ made_in (groups_of s c.rank) + 1) × (made_in (groups_of t c.rank) ≡ id)
 create-made s t c id h =
-    let made = step-called s t c GroupCreate (replies.Id id) h in
+    let made = step-called s t c GroupCreate (replies.Id id) refl h in
     let m = made.3 in
     let found = create-found made.0 (replies.Id id) (found-reply s.limits c.rank made.0 made.1 c.thread GroupCreate (replies.Id id) (same_reply-same _ _ m.is.answered) refl) in
     let here : groups_of s c.rank ≡ Some made.0.groups = ap groups_in m.posts_there in
@@ -243,13 +304,20 @@ same-handle : (groups : Handles) (a b : ℕ) (x y : Handle) → a ≡ b → hand
 same-handle groups a b x y same ha hb =
     let some : ◌≡◌ {A = Option Handle} (Some x) (Some y) = sym ha ∙ ap (handle_at groups) same ∙ hb in cc
 
+building-there : (groups : Handles) (id : ℕ) (h : Handle) → building_at groups id ≡ Ok h → (handle_at groups id ≡ Some h) × (is_building h.stage ≡ true)
+building-there groups id h is =
+    found_then (handle_at groups id) NoGroup _ h is (λ x there h1.
+    check_then (is_building x.stage) (GroupStage x.stage) _ h h1 (λ building h2.
+    let same : x ≡ h = same_Ok _ _ h2 in
+    (there ∙ ap (λ (y : Handle). Some y) same, subst (λ (y : Handle). is_building y.stage ≡ true) same building)))
+
 call-keeps : (s t : State) (c : CallerId) (call : Call) (reply : Reply) (id : ℕ) (posts : Posts) (h : Handle) → IsSound s → step s (Called c call reply) ≡ Ok t → slice_get s.posts c.rank ≡ Some posts
     → handle_at posts.groups id ≡ Some h → h.stage ≡ Committed → is_drop_of c.rank id (Called c call reply) ≡ false → is_idle reply ≡ false → handle_at (groups_done posts.groups call) id ≡ Some h
 call-keeps s t c GroupCreate reply id posts h sound made there at committed kept awake =
     let few = made-there s.limits.ranks posts.groups id h (sound.posts c.rank posts there).groups at in
     entry-set_other posts.groups.table (posts.groups.made + 1) id (Some new_handle) (λ same. (let no : ⊥ = omega arith in no)) ∙ at
 call-keeps s t c (GroupAdd call) reply id posts h sound made there at committed kept awake =
-    let called = step-called s t c (GroupAdd call) reply made in
+    let called = step-called s t c (GroupAdd call) reply refl made in
     let m = called.3 in
     let same : called.0 ≡ posts = (let some : ◌≡◌ {A = Option Posts} (Some called.0) (Some posts) = sym m.posts_there ∙ there in cc) in
     let finds = found-reply s.limits c.rank called.0 called.1 c.thread (GroupAdd call) reply (same_reply-same _ _ m.is.answered) awake in
@@ -258,13 +326,22 @@ call-keeps s t c (GroupAdd call) reply id posts h sound made there at committed 
     entry-set_other posts.groups.table call.group id _ (λ is.
     building-apart h committed (subst (λ (x : Handle). is_building x.stage ≡ true) (same-handle posts.groups call.group id found.handle h is theirs at) found.building)) ∙ at
 call-keeps s t c (GroupDelete call) reply id posts h sound made there at committed kept awake =
-    let called = step-called s t c (GroupDelete call) reply made in
+    let called = step-called s t c (GroupDelete call) reply refl made in
     let m = called.3 in
     let finds = found-reply s.limits c.rank called.0 called.1 c.thread (GroupDelete call) reply (same_reply-same _ _ m.is.answered) awake in
     let found = drop-found called.0 call reply finds in
     let done : is_drop_of c.rank id (Called c (GroupDelete call) replies.Done) ≡ false = subst (λ (r : Reply). is_drop_of c.rank id (Called c (GroupDelete call) r) ≡ false) found.done kept in
     entry-set_other posts.groups.table call.group id None (λ is.
     (let dropped : ((c.rank == c.rank) && (call.group == id)) ≡ true = rw (eq-eqb c.rank c.rank refl, eq-eqb call.group id is) refl in let no : ⊥ = cc in no)) ∙ at
+call-keeps s t c (calls.Commit call) reply id posts h sound made there at committed kept awake =
+    let met = step-completed s t c call.group (calls.Commit call) reply refl made in
+    let m = met.2 in
+    let same : met.0 ≡ posts = (let some : ◌≡◌ {A = Option Posts} (Some met.0) (Some posts) = sym m.posts_there ∙ there in cc) in
+    let found = done-found met.0 (group_in s call.group) c.rank c.thread call.group (calls.Commit call) reply m.is.answered awake in
+    bind_then (building_at met.0.groups call.group) _ found.0 found.2.staged (λ handle built h1.
+    let theirs = building-there posts.groups call.group handle (subst (λ (p : Posts). building_at p.groups call.group ≡ Ok handle) same built) in
+    entry-set_other posts.groups.table call.group id _ (λ is.
+    building-apart h committed (subst (λ (x : Handle). is_building x.stage ≡ true) (same-handle posts.groups call.group id handle h is theirs.0 at) theirs.1)) ∙ at)
 call-keeps s t c other reply id posts h sound made there at committed kept awake = at
 
 pub committed-kept : (s t : State) (e : Event) (rank id : ℕ) (h : Handle) → IsSound s → step s e ≡ Ok t → handle_of s rank id ≡ Some h → h.stage ≡ Committed → is_drop_of rank id e ≡ false
@@ -283,6 +360,7 @@ committed-kept s t e rank id h sound made there committed kept = go (slice_get s
             let here_there = subst (λ (k : ℕ). slice_get s.posts k ≡ Some posts) (sym here) there in
             let here_kept = subst (λ (k : ℕ). is_drop_of k id (Called c call reply) ≡ false) (sym here) kept in
             call-keeps s t c call reply id posts h sound made here_there at committed here_kept awake
+    event (Joined c k args) posts made there at kept = at
     event (Take origin queue target number outcome) posts made there at kept = at
     event (Put origin queue target number outcome) posts made there at kept = at
 

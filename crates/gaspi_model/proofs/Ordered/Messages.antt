@@ -1,5 +1,5 @@
 -- What a rank receives is a front part of what is sent to it, and what stands in its inbox is the rest.
-use Rattle.std.proofs.Common.{◌≡◌, ℕ, ◌≤◌, Bool, true, false, ◌==◌, List, [], ◌∷◌, ◌++◌, length, take, Option, None, Some, Ok, refl, sym, ap, ◌∙◌, subst, arith, append_assoc}
+use Rattle.std.proofs.Common.{◌≡◌, ℕ, zero, suc, ◌≤◌, Bool, true, false, ◌==◌, nat_lt, ◌⊎◌, inl, inr, if◌then◌else◌, List, [], ◌∷◌, ◌++◌, length, take, Option, None, Some, Ok, refl, sym, ap, ◌∙◌, subst, arith, append_assoc}
 use Rattle.std.specs.List.{slice_get, slice_set, range_with_len}
 use Rattle.std.proofs.lemmas.Bool.{eqb-true, eqb-false}
 use Rattle.gaspi_types.specs.Kinds.{destination_of}
@@ -9,13 +9,23 @@ use Rattle.gaspi_types.specs.Segments.{bytes_in}
 use Rattle.gaspi_types.specs.declared.segments.Segment.{Segment}
 use Rattle.gaspi_model.specs.Changes.{IsSent, IsReceived, put_rank}
 use Rattle.gaspi_types.specs.World.{World, IsWorld}
+use Rattle.gaspi_types.specs.CallRows.{row_of}
+use Rattle.gaspi_types.specs.Touches.{reach_of}
 use Rattle.gaspi_types.specs.declared.calls.Call.{Call}
+use Rattle.gaspi_types.specs.declared.calls.Call.TheVariants as calls
+use Rattle.gaspi_types.specs.declared.collectives.Coll.{Coll}
+use Rattle.gaspi_types.specs.declared.collectives.Coll.TheVariants as colls
+use Rattle.gaspi_types.specs.declared.groups.Args.{Args}
+use Rattle.gaspi_types.specs.declared.touches.Touch.{Touch}
+use Rattle.gaspi_types.specs.declared.touches.Reach.{Reach}
+use Rattle.gaspi_types.specs.declared.touches.Reach.TheVariants.{Alone, Group, GroupAndMemory}
+use Rattle.gaspi_model.specs.CollectiveCalls.{made_memory}
 use Rattle.gaspi_types.specs.declared.calls.Call.TheVariants.{Alloc, Delete, Store, Reset, PassiveSend, PassiveReceive, FetchAdd, CompareSwap}
 use Rattle.gaspi_types.specs.declared.calls.passive.PassiveSend as send
 use Rattle.gaspi_types.specs.declared.calls.passive.PassiveReceive as receive
 use Rattle.gaspi_types.specs.declared.inboxes.Message.{Message}
 use Rattle.gaspi_types.specs.declared.events.Event.{Event}
-use Rattle.gaspi_types.specs.declared.events.Event.TheVariants.{Called, Take, Put}
+use Rattle.gaspi_types.specs.declared.events.Event.TheVariants.{Called, Joined, Take, Put}
 use Rattle.gaspi_types.specs.declared.events.Outcome.{Outcome}
 use Rattle.gaspi_types.specs.declared.events.Outcome.TheVariants.{Applied, Failed}
 use Rattle.gaspi_types.specs.declared.replies.Reply.{Reply}
@@ -29,14 +39,16 @@ use Rattle.gaspi_model.specs.Parts.{memory_or_none}
 use Rattle.gaspi_model.specs.PassiveCalls.{message_of}
 use Rattle.gaspi_model.specs.Sound.{IsSound}
 use Rattle.gaspi_model.specs.State.{opening, opening_memory}
-use Rattle.gaspi_model.specs.Step.{step, call_brought, after, reached, is_legal}
+use Rattle.gaspi_model.specs.Step.{step, join_touch, call_brought, after, reached, is_legal}
 use Rattle.gaspi_model.specs.Transfers.{Found, Worked, carried_bytes}
 use Rattle.gaspi_model.specs.declared.states.Posts.{Posts}
 use Rattle.gaspi_model.specs.declared.states.Memory.{Memory}
 use Rattle.gaspi_model.specs.declared.states.State.{State}
 use Rattle.gaspi_model.proofs.FoundReplies.{found-reply}
-use Rattle.gaspi_model.proofs.Histories.{after-first, after-joined, after-limits, leads, only-counted, reached-sound}
-use Rattle.gaspi_model.proofs.Made.{IsPut, step-take}
+use Rattle.gaspi_model.proofs.Histories.{after-first, after-joined, after-limits, leads, reached-sound}
+use Rattle.gaspi_model.proofs.IdleSteps.{only-counted}
+use Rattle.gaspi_model.proofs.GroupSteps.{IsOnGroup, join-touch, step-completed, step-joined}
+use Rattle.gaspi_model.proofs.Made.{IsPut, memory_at, memories_at, step-take}
 use Rattle.gaspi_model.proofs.PassiveFinds.{send-found, receive-found}
 use Rattle.gaspi_model.proofs.Same.{same_reply-same}
 use Rattle.gaspi_model.proofs.Changed.Messages.{message-sent, message-received}
@@ -75,9 +87,57 @@ plain-keeps limits posts brought memory (FetchAdd call) is = refl
 plain-keeps limits posts brought memory (CompareSwap call) is = refl
 plain-keeps limits posts brought memory other is = refl
 
-other-keeps : (s t : State) (c : CallerId) (call : Call) (reply : Reply) (rank : ℕ) → IsSound s → step s (Called c call reply) ≡ Ok t → is_passive call ≡ false → inbox_of t rank ≡ inbox_of s rank
-other-keeps s t c call reply rank sound h plain =
-    let made = sound-called s t c call reply sound h in
+-- a collective that is answered touches no memory, and a join no inbox
+completed-inbox : (s t : State) (c : CallerId) (id : ℕ) (call : Call) (reply : Reply) (rank : ℕ) → (row_of call).group ≡ Some id → step s (Called c call reply) ≡ Ok t → inbox_of t rank ≡ inbox_of s rank
+completed-inbox s t c id call reply rank named h = ap (λ (x : State). inbox_of x rank) (step-completed s t c id call reply named h).2.leaves
+
+made-inbox : (limits : Limits) (posts : Posts) (memory : Memory) (coll : Coll) → (made_memory limits posts memory coll).inbox ≡ memory.inbox
+made-inbox limits posts memory colls.Barrier = refl
+made-inbox limits posts memory (colls.Allreduce op t n) = refl
+made-inbox limits posts memory (colls.Create seg size) = refl
+made-inbox limits posts memory (colls.Commit mask) = refl
+
+-- the inboxes where the own memory, if it is touched, is replaced by one with the same inbox
+reach-inbox : (all : List Memory) (me id : ℕ) (touch : Touch) (memory : Memory) (rank ranks : ℕ) → IsOnGroup touch id
+    → memory.inbox ≡ (memory_at (reach_of ranks me touch) me all).inbox
+    → (memory_or_none (slice_get (memories_at (reach_of ranks me touch) me memory all) rank)).inbox ≡ (memory_or_none (slice_get all rank)).inbox
+reach-inbox all me id touch memory rank ranks (inl is) same = rw is (go (nat_lt id 8))
+  where
+    go : (b : Bool) → (memory_or_none (slice_get (memories_at (if b then Group id else Alone) me memory all) rank)).inbox ≡ (memory_or_none (slice_get all rank)).inbox
+    go true = refl
+    go false = refl
+reach-inbox all me id touch memory rank ranks (inr is) same = rw is (go (nat_lt id 8) (subst (λ (x : Touch). memory.inbox ≡ (memory_at (reach_of ranks me x) me all).inbox) is same))
+  where
+    there : (o : Option Memory) → slice_get all me ≡ o → memory.inbox ≡ (memory_or_none (slice_get all me)).inbox
+        → (memory_or_none (slice_get (slice_set all me memory) rank)).inbox ≡ (memory_or_none (slice_get all rank)).inbox
+    there (Some old) at inbox = same-or-not me rank
+        (λ same. let now = subst (λ (k : ℕ). slice_get (slice_set all me memory) k ≡ Some memory) same (slice_get-set_same all me old memory at) in
+        let before = subst (λ (k : ℕ). slice_get all k ≡ Some old) same at in
+        let old_inbox : memory.inbox ≡ old.inbox = inbox ∙ ap (λ (o : Option Memory). (memory_or_none o).inbox) at in
+        ap (λ (o : Option Memory). (memory_or_none o).inbox) now ∙ old_inbox ∙ sym (ap (λ (o : Option Memory). (memory_or_none o).inbox) before))
+        (λ apart. ap (λ (o : Option Memory). (memory_or_none o).inbox) (slice_get-set_other all me rank memory apart))
+    there None at inbox = ap (λ (ms : List Memory). (memory_or_none (slice_get ms rank)).inbox) (none-set all me at)
+      where
+        none-set : (xs : List Memory) (k : ℕ) → slice_get xs k ≡ None → slice_set xs k memory ≡ xs
+        none-set [] k at = refl
+        none-set (y ∷ xs) zero at = absurd (let no : ⊥ = cc in no)
+        none-set (y ∷ xs) (suc k) at = ap (λ (rest : List Memory). y ∷ rest) (none-set xs k at)
+
+    go : (b : Bool) → memory.inbox ≡ (memory_at (if b then GroupAndMemory id else Alone) me all).inbox
+        → (memory_or_none (slice_get (memories_at (if b then GroupAndMemory id else Alone) me memory all) rank)).inbox ≡ (memory_or_none (slice_get all rank)).inbox
+    go true inbox = there (slice_get all me) refl inbox
+    go false inbox = refl
+
+joined-inbox : (s t : State) (c : CallerId) (id : ℕ) (args : Args) (rank : ℕ) → step s (Joined c id args) ≡ Ok t → inbox_of t rank ≡ inbox_of s rank
+joined-inbox s t c id args rank h =
+    let made = step-joined s t c id args h in
+    let m = made.2 in
+    ap (λ (x : State). inbox_of x rank) m.leaves
+    ∙ reach-inbox s.memories c.rank id (join_touch id args.coll) _ rank s.limits.ranks (join-touch id args.coll) (made-inbox s.limits made.0 _ args.coll)
+
+other-keeps : (s t : State) (c : CallerId) (call : Call) (reply : Reply) (rank : ℕ) → (row_of call).group ≡ None → IsSound s → step s (Called c call reply) ≡ Ok t → is_passive call ≡ false → inbox_of t rank ≡ inbox_of s rank
+other-keeps s t c call reply rank ungrouped sound h plain =
+    let made = sound-called s t c call reply ungrouped sound h in
     let m = made.3 in
     let left : made.2.memory.inbox ≡ made.1.inbox = ap (λ (w : Worked). w.memory.inbox) m.is.leaves ∙ go made.0 made.1 (call_brought s c.rank call) (is_idle reply) refl in
     ap (λ (x : State). inbox_of x rank) m.leaves ∙ kept-inbox s.memories (memory_rank s.limits c.rank call) made.1 made.2.memory rank m.memory_there left
@@ -97,7 +157,7 @@ send-keeps s t c call reply rank sound h apart = go (is_idle reply) refl
     go : (b : Bool) → is_idle reply ≡ b → inbox_of t rank ≡ inbox_of s rank
     go true idle = idle-keeps s t c (PassiveSend call) reply rank idle h
     go false awake =
-        let made = sound-called s t c (PassiveSend call) reply sound h in
+        let made = sound-called s t c (PassiveSend call) reply refl sound h in
         let finds = found-reply s.limits c.rank made.0 made.1 c.thread (PassiveSend call) reply (same_reply-same _ _ made.3.is.answered) awake in
         absurd (apart (send-found s.limits made.0 made.1 call reply finds).done)
 
@@ -108,7 +168,7 @@ receive-keeps s t c call reply rank sound h apart = go (is_idle reply) refl
     go : (b : Bool) → is_idle reply ≡ b → inbox_of t rank ≡ inbox_of s rank
     go true idle = idle-keeps s t c (PassiveReceive call) reply rank idle h
     go false awake =
-        let made = sound-called s t c (PassiveReceive call) reply sound h in
+        let made = sound-called s t c (PassiveReceive call) reply refl sound h in
         let finds = found-reply s.limits c.rank made.0 made.1 c.thread (PassiveReceive call) reply (same_reply-same _ _ made.3.is.answered) awake in
         let found = receive-found made.0 made.1 call reply finds in
         absurd (apart found.message.sender found.answers)
@@ -188,7 +248,12 @@ put-keeps posts memory queue target number Failed after at h = ap (λ (w : Worke
 flows : (s t : State) (e : Event) (rank : ℕ) → IsSound s → step s e ≡ Ok t → Flows s t e rank
 flows s t (Called c (PassiveSend call) reply) rank sound h = send-flows s t c call reply rank sound h
 flows s t (Called c (PassiveReceive call) reply) rank sound h = receive-flows s t c call reply rank sound h
-flows s t (Called c call reply) rank sound h = none-flows (inbox_of s rank) (inbox_of t rank) (other-keeps s t c call reply rank sound h refl)
+flows s t (Called c (calls.Commit call) reply) rank sound h = none-flows (inbox_of s rank) (inbox_of t rank) (completed-inbox s t c call.group (calls.Commit call) reply rank refl h)
+flows s t (Called c (calls.Barrier call) reply) rank sound h = none-flows (inbox_of s rank) (inbox_of t rank) (completed-inbox s t c call.group (calls.Barrier call) reply rank refl h)
+flows s t (Called c (calls.Allreduce call) reply) rank sound h = none-flows (inbox_of s rank) (inbox_of t rank) (completed-inbox s t c call.group (calls.Allreduce call) reply rank refl h)
+flows s t (Called c (calls.Create call) reply) rank sound h = none-flows (inbox_of s rank) (inbox_of t rank) (completed-inbox s t c call.group (calls.Create call) reply rank refl h)
+flows s t (Called c call reply) rank sound h = none-flows (inbox_of s rank) (inbox_of t rank) (other-keeps s t c call reply rank refl sound h refl)
+flows s t (Joined c id args) rank sound h = none-flows (inbox_of s rank) (inbox_of t rank) (joined-inbox s t c id args rank h)
 flows s t (Take origin queue target number outcome) rank sound h =
     none-flows (inbox_of s rank) (inbox_of t rank) (ap (λ (x : State). inbox_of x rank) (step-take s t origin queue target number outcome h).4.leaves)
 flows s t (Put origin queue target number outcome) rank sound h =

@@ -23,7 +23,7 @@ use Rattle.gaspi_types.specs.declared.replies.Refusal.TheVariants.{BadQueue}
 use Rattle.gaspi_types.specs.declared.shapes.CallerId.{CallerId}
 use Rattle.gaspi_types.specs.declared.events.Outcome.TheVariants.{Applied, Failed}
 use Rattle.gaspi_types.specs.declared.events.Event.{Event}
-use Rattle.gaspi_types.specs.declared.events.Event.TheVariants.{Called, Take, Put}
+use Rattle.gaspi_types.specs.declared.events.Event.TheVariants.{Called, Joined, Take, Put}
 use Rattle.gaspi_model.specs.Posting.{with_post, counted}
 use Rattle.gaspi_types.specs.Tables.{changed_at}
 use Rattle.gaspi_types.specs.Queues.{with_entries}
@@ -45,6 +45,7 @@ use Rattle.gaspi_model.specs.declared.states.Why.TheVariants as whys
 use Rattle.gaspi_types.proofs.Chains.{both, found_then, same_Ok}
 use Rattle.gaspi_model.proofs.FoundReplies.{found-reply}
 use Rattle.gaspi_model.proofs.Same.{same_reply-same}
+use Rattle.gaspi_model.proofs.MetPosts.{IsMet, met-called, met-joined}
 use Rattle.gaspi_model.proofs.Made.{step-called, step-take, step-put}
 use Rattle.gaspi_types.proofs.Items.{slice_get-set_same, slice_get-set_other, same-or-not}
 use Rattle.gaspi_model.proofs.Sound.Told.{IsTold, told, told-get}
@@ -291,17 +292,31 @@ this-or-not origin origin' queue queue' target target' m m' this other =
     (λ differs. other (λ a b c d. differs b)))
     (λ differs. other (λ a b c d. differs a))
 
--- an entry that stands is put, or still stands, unless its queue is purged
-step-keeps : {K : Kind → Bool} (s t : State) (e : Event) (origin queue target m : ℕ) → is_purge_of origin queue e ≡ false → step s e ≡ Ok t → Stands K s origin queue target m
-    → (e ≡ Put origin queue target m Applied) ⊎ Stands K t origin queue target m
-step-keeps s t (Called c call reply) origin queue target m unpurged h stands =
-    let made = step-called s t c call reply h in
+-- an event on a group leaves what stands in lanes
+met-stands : {K : Kind → Bool} (s t : State) (me : ℕ) (posts after : Posts) (origin queue target m : ℕ) → IsMet s t me posts after → Stands K s origin queue target m → Stands K t origin queue target m
+met-stands {K} s t me posts after origin queue target m met stands =
+    posts-replaced s me posts after origin queue target m met.there t met.leaves (λ same i. subst (λ (qs : List Queue). InQueues K qs queue target m) (sym met.keeps.queues) i) stands
+
+called-keeps : {K : Kind → Bool} (s t : State) (c : CallerId) (call : Call) (reply : Reply) (origin queue target m : ℕ) → (row_of call).group ≡ None → is_purge_of origin queue (Called c call reply) ≡ false
+    → step s (Called c call reply) ≡ Ok t → Stands K s origin queue target m → (Called c call reply ≡ Put origin queue target m Applied) ⊎ Stands K t origin queue target m
+called-keeps s t c call reply origin queue target m plain unpurged h stands =
+    let made = step-called s t c call reply plain h in
     let f = made.3 in
     let all = slice_set s.posts c.rank made.2.posts in
     inr (told-stands t s.limits.ranks c.rank made.0 call reply all origin queue target m (ap (λ (x : State). x.posts) f.leaves)
     (posts-replaced s c.rank made.0 made.2.posts origin queue target m f.posts_there (record s { posts = all }) refl
     (λ same i. rw f.is.leaves (idle-keeps (is_idle reply) made.0 (posts_done s.limits c.rank made.0 c.thread call) queue target m i
     (λ awake. done-keeps s.limits c.rank made.0 c.thread call queue target m (not-purged s.limits c made.0 made.1 call reply origin queue same unpurged awake (same_reply-same _ _ f.is.answered)) i))) stands))
+
+-- an entry that stands is put, or still stands, unless its queue is purged
+step-keeps : {K : Kind → Bool} (s t : State) (e : Event) (origin queue target m : ℕ) → is_purge_of origin queue e ≡ false → step s e ≡ Ok t → Stands K s origin queue target m
+    → (e ≡ Put origin queue target m Applied) ⊎ Stands K t origin queue target m
+step-keeps s t (Joined c id args) origin queue target m unpurged h stands = inr (met-stands s t c.rank _ _ origin queue target m (met-joined s t c id args h).2 stands)
+step-keeps {K} s t (Called c call reply) origin queue target m unpurged h stands = by-group (row_of call).group refl
+  where
+    by-group : (o : Option ℕ) → (row_of call).group ≡ o → (Called c call reply ≡ Put origin queue target m Applied) ⊎ Stands K t origin queue target m
+    by-group (Some id) named = inr (met-stands s t c.rank _ _ origin queue target m (met-called s t c id call reply named h).2 stands)
+    by-group None plain = called-keeps s t c call reply origin queue target m plain unpurged h stands
 step-keeps s t (Take origin' queue' target' number Failed) origin queue target m unpurged h stands =
     let made = step-take s t origin' queue' target' number Failed h in
     let f = made.4 in

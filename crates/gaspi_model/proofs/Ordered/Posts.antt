@@ -49,6 +49,7 @@ use Rattle.gaspi_model.specs.declared.states.State.{State}
 use Rattle.gaspi_model.specs.declared.states.Why.{Why}
 use Rattle.gaspi_model.specs.declared.states.Why.TheVariants as whys
 use Rattle.gaspi_model.proofs.Asked.{AreTransfers, near_in, far_in, transfers-length, alone-ok, noted_writes-ok, noted_reads-ok, listed-ok}
+use Rattle.gaspi_types.specs.CallRows.{row_of}
 use Rattle.gaspi_model.proofs.Made.{step-called}
 use Rattle.gaspi_model.proofs.Same.{same_reply-same}
 use Rattle.gaspi_types.proofs.Items.{slice_get-set_same, past-none, front-of-joined, behind-of-joined}
@@ -78,11 +79,12 @@ record PostLeaves (t : State) (origin queue target next : ℕ) (asked : Result (
 record IsPosting (limits : Limits) (me thread : ℕ) (posts : Posts) (call : Call) (rank queue : ℕ) (asked : Result (List Kind) Refusal) : Type 0 where
   finds : (memory : Memory) → call_finds limits me posts memory call ≡ asked_finds limits posts rank queue asked
   leaves : posts_done limits me posts thread call ≡ with_post posts queue rank asked
+  plain : (row_of call).group ≡ None
 
 post-leaves : (s t : State) (c : CallerId) (call : Call) (rank queue : ℕ) (posts : Posts) (asked : Result (List Kind) Refusal) → IsSound s → slice_get s.posts c.rank ≡ Some posts
     → IsPosting s.limits c.rank c.thread posts call rank queue asked → step s (Called c call replies.Done) ≡ Ok t → PostLeaves t c.rank queue rank posts.next asked
 post-leaves s t c call rank queue posts asked sound hp so h =
-    let made = step-called s t c call replies.Done h in
+    let made = step-called s t c call replies.Done so.plain h in
     let m = made.3 in
     let same : made.0 ≡ posts = (let some : ◌≡◌ {A = Option Posts} (Some made.0) (Some posts) = sym m.posts_there ∙ hp in cc) in
     let finds = found-reply s.limits c.rank made.0 made.1 c.thread call replies.Done (same_reply-same _ _ m.is.answered) refl in
@@ -221,7 +223,7 @@ pub posted-write : (w : World) (history : List Event) (c : CallerId) (call : wri
     → IsWriteStanding w (history ++ Called c (calls.Write call) replies.Done ∷ []) c.rank call.queue call.rank posts.next
 posted-write w history c call s posts world h hp legal =
     let asked = write_kinds c.rank posts.segments call in
-    let a = after-post w history c (calls.Write call) call.rank call.queue s posts asked world h hp (record { finds = λ memory. refl; leaves = refl }) legal in
+    let a = after-post w history c (calls.Write call) call.rank call.queue s posts asked world h hp (record { finds = λ memory. refl; leaves = refl; plain = refl }) legal in
     let are = alone-ok Outward c.rank posts.segments call.rank (write_item call ∷ []) a.leaves.kinds a.leaves.asks in
     first-of is_write w (history ++ Called c (calls.Write call) replies.Done ∷ []) c.rank call.queue call.rank posts.next 1 (omega arith)
     (transfers-stand Outward is_write (near_in posts.segments) (far_in c.rank posts.segments call.rank) (write_item call ∷ []) a.leaves.kinds [] w history c (calls.Write call) call.rank call.queue posts.next asked a writes are (nothing-behind a.leaves.kinds))
@@ -231,7 +233,7 @@ pub posted-read : (w : World) (history : List Event) (c : CallerId) (call : read
     → IsReadStanding w (history ++ Called c (calls.Read call) replies.Done ∷ []) c.rank call.queue call.rank posts.next
 posted-read w history c call s posts world h hp legal =
     let asked = read_kinds c.rank posts.segments call in
-    let a = after-post w history c (calls.Read call) call.rank call.queue s posts asked world h hp (record { finds = λ memory. refl; leaves = refl }) legal in
+    let a = after-post w history c (calls.Read call) call.rank call.queue s posts asked world h hp (record { finds = λ memory. refl; leaves = refl; plain = refl }) legal in
     let are = alone-ok Inward c.rank posts.segments call.rank (read_item call ∷ []) a.leaves.kinds a.leaves.asks in
     first-of is_read w (history ++ Called c (calls.Read call) replies.Done ∷ []) c.rank call.queue call.rank posts.next 1 (omega arith)
     (transfers-stand Inward is_read (near_in posts.segments) (far_in c.rank posts.segments call.rank) (read_item call ∷ []) a.leaves.kinds [] w history c (calls.Read call) call.rank call.queue posts.next asked a reads are (nothing-behind a.leaves.kinds))
@@ -241,7 +243,7 @@ pub posted-notify : (w : World) (history : List Event) (c : CallerId) (call : no
     → IsNotificationStanding w (history ++ Called c (calls.Notify call) replies.Done ∷ []) c.rank call.queue call.rank posts.next
 posted-notify w history c call s posts world h hp legal =
     let asked = notify_kinds s.limits.notes c.rank posts.segments call in
-    let a = after-post w history c (calls.Notify call) call.rank call.queue s posts asked world h hp (record { finds = λ memory. refl; leaves = refl }) legal in
+    let a = after-post w history c (calls.Notify call) call.rank call.queue s posts asked world h hp (record { finds = λ memory. refl; leaves = refl; plain = refl }) legal in
     let k = noted_writes-ok s.limits.notes c.rank posts.segments call.rank [] call.rseg call.note call.value a.leaves.kinds a.leaves.asks in
     let number : posts.next + 0 ≡ posts.next = omega arith in
     subst (λ (n : ℕ). IsNotificationStanding w (history ++ Called c (calls.Notify call) replies.Done ∷ []) c.rank call.queue call.rank n) number
@@ -253,7 +255,7 @@ pub posted-write_notify : (w : World) (history : List Event) (c : CallerId) (cal
     × IsNotificationStanding w (history ++ Called c (calls.WriteNotify call) replies.Done ∷ []) c.rank call.queue call.rank (posts.next + 1)
 posted-write_notify w history c call s posts world h hp legal =
     let asked = write_notify_kinds s.limits.notes c.rank posts.segments call in
-    let a = after-post w history c (calls.WriteNotify call) call.rank call.queue s posts asked world h hp (record { finds = λ memory. refl; leaves = refl }) legal in
+    let a = after-post w history c (calls.WriteNotify call) call.rank call.queue s posts asked world h hp (record { finds = λ memory. refl; leaves = refl; plain = refl }) legal in
     let k = noted_writes-ok s.limits.notes c.rank posts.segments call.rank (write_notify_item call ∷ []) call.rseg call.note call.value a.leaves.kinds a.leaves.asks in
     let note = Notify (slot_in k.theirs call.rseg call.note) call.value in (
       first-of is_write w (history ++ Called c (calls.WriteNotify call) replies.Done ∷ []) c.rank call.queue call.rank posts.next 1 (omega arith)
@@ -267,7 +269,7 @@ pub posted-read_notify : (w : World) (history : List Event) (c : CallerId) (call
     × IsReadNoteStanding w (history ++ Called c (calls.ReadNotify call) replies.Done ∷ []) c.rank call.queue call.rank (posts.next + 1)
 posted-read_notify w history c call s posts world h hp legal =
     let asked = read_notify_kinds s.limits.notes c.rank posts.segments call in
-    let a = after-post w history c (calls.ReadNotify call) call.rank call.queue s posts asked world h hp (record { finds = λ memory. refl; leaves = refl }) legal in
+    let a = after-post w history c (calls.ReadNotify call) call.rank call.queue s posts asked world h hp (record { finds = λ memory. refl; leaves = refl; plain = refl }) legal in
     let k = noted_reads-ok s.limits.notes c.rank posts.segments call.rank (read_notify_item call ∷ []) call.seg call.note a.leaves.kinds a.leaves.asks in
     let note = ReadNote (slot_in k.mine call.seg call.note) in (
       first-of is_read w (history ++ Called c (calls.ReadNotify call) replies.Done ∷ []) c.rank call.queue call.rank posts.next 1 (omega arith)
@@ -280,7 +282,7 @@ pub posted-write_list : (w : World) (history : List Event) (c : CallerId) (call 
     → AreStanding is_write w (history ++ Called c (calls.WriteList call) replies.Done ∷ []) c.rank call.queue call.rank posts.next (length call.items)
 posted-write_list w history c call s posts world h hp legal =
     let asked = write_list_kinds c.rank posts.segments call in
-    let a = after-post w history c (calls.WriteList call) call.rank call.queue s posts asked world h hp (record { finds = λ memory. refl; leaves = refl }) legal in
+    let a = after-post w history c (calls.WriteList call) call.rank call.queue s posts asked world h hp (record { finds = λ memory. refl; leaves = refl; plain = refl }) legal in
     let l = listed-ok call.items _ a.leaves.kinds a.leaves.asks in
     let are = alone-ok Outward c.rank posts.segments call.rank call.items a.leaves.kinds l.1 in
     transfers-stand Outward is_write (near_in posts.segments) (far_in c.rank posts.segments call.rank) call.items a.leaves.kinds [] w history c (calls.WriteList call) call.rank call.queue posts.next asked a writes are (nothing-behind a.leaves.kinds)
@@ -290,7 +292,7 @@ pub posted-read_list : (w : World) (history : List Event) (c : CallerId) (call :
     → AreStanding is_read w (history ++ Called c (calls.ReadList call) replies.Done ∷ []) c.rank call.queue call.rank posts.next (length call.items)
 posted-read_list w history c call s posts world h hp legal =
     let asked = read_list_kinds c.rank posts.segments call in
-    let a = after-post w history c (calls.ReadList call) call.rank call.queue s posts asked world h hp (record { finds = λ memory. refl; leaves = refl }) legal in
+    let a = after-post w history c (calls.ReadList call) call.rank call.queue s posts asked world h hp (record { finds = λ memory. refl; leaves = refl; plain = refl }) legal in
     let l = listed-ok call.items _ a.leaves.kinds a.leaves.asks in
     let are = alone-ok Inward c.rank posts.segments call.rank call.items a.leaves.kinds l.1 in
     transfers-stand Inward is_read (near_in posts.segments) (far_in c.rank posts.segments call.rank) call.items a.leaves.kinds [] w history c (calls.ReadList call) call.rank call.queue posts.next asked a reads are (nothing-behind a.leaves.kinds)
@@ -301,7 +303,7 @@ pub posted-write_list_notify : (w : World) (history : List Event) (c : CallerId)
     × IsNotificationStanding w (history ++ Called c (calls.WriteListNotify call) replies.Done ∷ []) c.rank call.queue call.rank (posts.next + length call.items)
 posted-write_list_notify w history c call s posts world h hp legal =
     let asked = write_list_notify_kinds s.limits.notes c.rank posts.segments call in
-    let a = after-post w history c (calls.WriteListNotify call) call.rank call.queue s posts asked world h hp (record { finds = λ memory. refl; leaves = refl }) legal in
+    let a = after-post w history c (calls.WriteListNotify call) call.rank call.queue s posts asked world h hp (record { finds = λ memory. refl; leaves = refl; plain = refl }) legal in
     let l = listed-ok call.items _ a.leaves.kinds a.leaves.asks in
     let k = noted_writes-ok s.limits.notes c.rank posts.segments call.rank call.items call.nseg call.note call.value a.leaves.kinds l.1 in
     let note = Notify (slot_in k.theirs call.nseg call.note) call.value in (
@@ -315,7 +317,7 @@ pub posted-read_list_notify : (w : World) (history : List Event) (c : CallerId) 
     × IsReadNoteStanding w (history ++ Called c (calls.ReadListNotify call) replies.Done ∷ []) c.rank call.queue call.rank (posts.next + length call.items)
 posted-read_list_notify w history c call s posts world h hp legal =
     let asked = read_list_notify_kinds s.limits.notes c.rank posts.segments call in
-    let a = after-post w history c (calls.ReadListNotify call) call.rank call.queue s posts asked world h hp (record { finds = λ memory. refl; leaves = refl }) legal in
+    let a = after-post w history c (calls.ReadListNotify call) call.rank call.queue s posts asked world h hp (record { finds = λ memory. refl; leaves = refl; plain = refl }) legal in
     let l = listed-ok call.items _ a.leaves.kinds a.leaves.asks in
     let k = noted_reads-ok s.limits.notes c.rank posts.segments call.rank call.items call.nseg call.note a.leaves.kinds l.1 in
     let note = ReadNote (slot_in k.mine call.nseg call.note) in (

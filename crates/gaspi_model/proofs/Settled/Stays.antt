@@ -1,10 +1,16 @@
 -- A settled state stays settled: its callers are refused, and there is no transfer to be made.
-use Rattle.std.proofs.Common.{◌≡◌, ℕ, true, false, List, [], ◌∷◌, Some, Ok, refl, sym, ◌∙◌, subst, is_none, ◌⊎◌, inl, inr}
+use Rattle.std.proofs.Common.{◌≡◌, ℕ, true, false, List, [], ◌∷◌, Option, None, Some, Ok, refl, sym, ap, ◌∙◌, subst, is_none, ◌⊎◌, inl, inr}
 use Rattle.std.specs.List.{slice_get}
+use Rattle.gaspi_types.specs.CallRows.{row_of}
 use Rattle.gaspi_types.specs.Replies.{is_idle}
+use Rattle.gaspi_types.specs.declared.calls.Call.{Call}
+use Rattle.gaspi_types.specs.declared.replies.Reply.{Reply}
+use Rattle.gaspi_types.specs.declared.replies.Ready.TheVariants as ready
+use Rattle.gaspi_types.specs.declared.shapes.CallerId.{CallerId}
+use Rattle.gaspi_model.specs.CollectiveCalls.{is_reply_of}
 use Rattle.gaspi_types.specs.declared.entries.Entry.{Entry}
 use Rattle.gaspi_types.specs.declared.events.Event.{Event}
-use Rattle.gaspi_types.specs.declared.events.Event.TheVariants.{Called, Take, Put}
+use Rattle.gaspi_types.specs.declared.events.Event.TheVariants.{Called, Joined, Take, Put}
 use Rattle.gaspi_types.specs.declared.replies.Reply.TheVariants as replies
 use Rattle.gaspi_types.specs.declared.replies.Refusal.TheVariants.{CallerEnded}
 use Rattle.gaspi_model.specs.State.{thread_at, is_running}
@@ -18,7 +24,9 @@ use Rattle.gaspi_types.specs.declared.entries.Queue.{Queue}
 use Rattle.gaspi_model.specs.declared.states.Posts.{Posts}
 use Rattle.gaspi_model.specs.declared.states.State.{State}
 use Rattle.gaspi_model.proofs.Ended.Activity.{active-changed}
-use Rattle.gaspi_model.proofs.Histories.{after-first, only-counted}
+use Rattle.gaspi_model.proofs.Histories.{after-first}
+use Rattle.gaspi_model.proofs.IdleSteps.{only-counted}
+use Rattle.gaspi_model.proofs.GroupSteps.{step-completed, step-joined}
 use Rattle.gaspi_model.proofs.Made.{step-called, step-take, step-put}
 use Rattle.gaspi_model.proofs.Same.{same_reply-same}
 use Rattle.gaspi_types.proofs.Items.{slice_get-set}
@@ -44,15 +52,34 @@ counted-settled s t rank settled only = rw only.after (record {
         settled.lanes rank only.posts only.there queue q (subst (λ (p : Posts). slice_get p.queues queue ≡ Some q) here.1 hq) whole target lane hl
     by-rank origin posts (inr was) queue q hq whole target lane hl = settled.lanes origin posts was queue q hq whole target lane hl
 
-step-settled : (s t : State) (e : Event) → IsSettled s → step s e ≡ Ok t → IsSettled t
-step-settled s t (Called c call reply) settled h =
-    let made = step-called s t c call reply h in
+called-settled : (s t : State) (c : CallerId) (call : Call) (reply : Reply) → (row_of call).group ≡ None → IsSettled s → step s (Called c call reply) ≡ Ok t → IsSettled t
+called-settled s t c call reply plain settled h =
+    let made = step-called s t c call reply plain h in
     let m = made.3 in
     let ended : is_running (thread_at made.0 c.thread) ≡ false = rw m.posts_there at (settled.callers c.rank c.thread) in
     let answered : reply ≡ recorded_reply (answer s.limits c.rank made.0 made.1 c.thread call) = same_reply-same _ _ m.is.answered in
     let refused : reply ≡ replies.Refused CallerEnded = rw ended at answered in
     let idle : is_idle reply ≡ true = rw refused refl in
     counted-settled s t c.rank settled (only-counted s t c call reply idle h)
+
+step-settled : (s t : State) (e : Event) → IsSettled s → step s e ≡ Ok t → IsSettled t
+step-settled s t (Joined c id args) settled h =
+    let made = step-joined s t c id args h in
+    let m = made.2 in
+    let ended : is_running (thread_at made.0 c.thread) ≡ false = rw m.posts_there at (settled.callers c.rank c.thread) in
+    let joins = rw ended at m.is.joins in
+    absurd (let no : ⊥ = cc in no)
+step-settled s t (Called c call reply) settled h = by-group (row_of call).group refl
+  where
+    by-group : (o : Option ℕ) → (row_of call).group ≡ o → IsSettled t
+    by-group (Some id) named =
+        let made = step-completed s t c id call reply named h in
+        let m = made.2 in
+        let ended : is_running (thread_at made.0 c.thread) ≡ false = rw m.posts_there at (settled.callers c.rank c.thread) in
+        let answered : is_reply_of (ready.Reply (replies.Refused CallerEnded)) reply ≡ true = rw ended at m.is.answered in
+        let refused : reply ≡ replies.Refused CallerEnded = same_reply-same reply (replies.Refused CallerEnded) answered in
+        counted-settled s t c.rank settled (only-counted s t c call reply (ap is_idle refused) h)
+    by-group None plain = called-settled s t c call reply plain settled h
 step-settled s t (Take origin queue target number outcome) settled h =
     let made = step-take s t origin queue target number outcome h in
     absurd (no-entry s made.0 origin queue target number made.3 settled.lanes made.4.posts_there made.4.is.is made.4.is.whole)

@@ -146,7 +146,7 @@ regrouped-fits notes tables me posts groups may all = record {
   owns = λ queue q hq target lane hl place e he owns. owns;
 }
 
-plain-fits : (limits : Limits) (tables : List Tables) (me : ℕ) (posts : Posts) (memory : Memory) (thread : ℕ) (call : Call) (reply : Reply) → MayPost tables me (tables_of posts) posts.segments.known
+pub plain-fits : (limits : Limits) (tables : List Tables) (me : ℕ) (posts : Posts) (memory : Memory) (thread : ℕ) (call : Call) (reply : Reply) → MayPost tables me (tables_of posts) posts.segments.known
     → length posts.segments.next_generations ≡ 32 → AllFit limits.notes tables me posts.queues → plain_finds limits me posts memory call ≡ Ok (Some reply)
     → KeepsFit limits.notes tables me posts (plain_done posts thread call)
 plain-fits limits tables me posts memory thread (Alloc call) reply may many all finds =
@@ -232,7 +232,7 @@ set-slots notes memory seg o slots fresh all =
     ∙ sym (map-set count (extents_of memory.segments) seg (option_map extent_of o))
     ∙ ap (counts_of notes) (sym (map-set (option_map extent_of) memory.segments seg o))
 
-plain-tables : (limits : Limits) (me : ℕ) (posts : Posts) (brought : Option Message) (memory : Memory) (thread : ℕ) (call : Call)
+pub plain-tables : (limits : Limits) (me : ℕ) (posts : Posts) (brought : Option Message) (memory : Memory) (thread : ℕ) (call : Call)
     → KeepsTables limits.notes me (memory_rank limits me call) posts (plain_done posts thread call) memory (memory_done limits posts brought memory call)
 plain-tables limits me posts brought memory thread (Alloc call) =
     let generation = next_generation posts.segments.next_generations call.seg in

@@ -1,5 +1,5 @@
 -- Every step keeps a state coherent.
-use Rattle.std.proofs.Common.{◌≡◌, ℕ, Bool, true, false, List, remove, Option, Some, Ok, refl, sym, ap, ◌∙◌, subst, ◌⊎◌, inl, inr}
+use Rattle.std.proofs.Common.{◌≡◌, ℕ, Bool, true, false, List, remove, Option, None, Some, Ok, refl, sym, ap, ◌∙◌, subst, ◌⊎◌, inl, inr}
 use Rattle.std.specs.List.{slice_get, slice_set}
 use Rattle.std.specs.Option.{option_map}
 use Rattle.std.proofs.lemmas.Option.{slice_get-map}
@@ -9,7 +9,9 @@ use Rattle.gaspi_types.specs.declared.entries.Kind.TheVariants.{Write, Read, Not
 use Rattle.gaspi_types.specs.declared.entries.Phase.{Phase}
 use Rattle.gaspi_types.specs.declared.segments.Extent.{Extent}
 use Rattle.gaspi_types.specs.declared.entries.Phase.TheVariants as phases
+use Rattle.gaspi_types.specs.CallRows.{row_of}
 use Rattle.gaspi_types.specs.declared.calls.Call.{Call}
+use Rattle.gaspi_types.specs.declared.shapes.CallerId.{CallerId}
 use Rattle.gaspi_types.specs.declared.shapes.Limits.{Limits}
 use Rattle.gaspi_types.specs.declared.replies.Reply.{Reply}
 use Rattle.gaspi_types.specs.declared.events.Outcome.{Outcome}
@@ -19,7 +21,7 @@ use Rattle.gaspi_types.specs.declared.events.Event.TheVariants.{Called, Take, Pu
 use Rattle.gaspi_types.specs.Tables.{changed_at}
 use Rattle.gaspi_model.specs.State.{segment_at}
 use Rattle.gaspi_model.specs.Posting.{counted}
-use Rattle.gaspi_model.specs.Changes.{take_rank, put_rank}
+use Rattle.gaspi_model.specs.Changes.{IsOnlyCounted, take_rank, put_rank}
 use Rattle.gaspi_model.specs.Transfers.{Found, Worked, taken_bytes, outcome_at, take_outcome, same_outcome}
 use Rattle.gaspi_model.specs.Step.{step, call_brought}
 use Rattle.gaspi_model.specs.Coherence.{counts_of, HasSlots, Tables, tables_of, all_tables, LiesIn, LiesInIfThere, HasOwn, FitsTarget, AreMade, AllFit, Knows, IsCoherent}
@@ -42,12 +44,12 @@ use Rattle.gaspi_model.proofs.Sound.CallTables.{KeepsFit, KeepsTables, fits-itse
 use Rattle.gaspi_model.proofs.FoundEntries.{IsFound, with_phase, queue_with_failed, failed_with}
 
 -- what a state has of each rank was there before it, with tables that come after the old ones
-record ComesFrom (s t : State) : Type 0 where
-  limits : t.limits ≡ s.limits
-  posts : (rank : ℕ) (after : Posts) → slice_get t.posts rank ≡ Some after
+pub record ComesFrom (s t : State) : Type 0 where
+  pub limits : t.limits ≡ s.limits
+  pub posts : (rank : ℕ) (after : Posts) → slice_get t.posts rank ≡ Some after
       → (before : Posts) × (slice_get s.posts rank ≡ Some before) × KeepsFit s.limits.notes (all_tables s.posts) rank before after
-  own : (rank : ℕ) (posts : Posts) (memory : Memory) → slice_get t.posts rank ≡ Some posts → slice_get t.memories rank ≡ Some memory → posts.segments.own ≡ extents_of memory.segments
-  slots : (rank : ℕ) (memory : Memory) → slice_get t.memories rank ≡ Some memory → HasSlots s.limits.notes memory
+  pub own : (rank : ℕ) (posts : Posts) (memory : Memory) → slice_get t.posts rank ≡ Some posts → slice_get t.memories rank ≡ Some memory → posts.segments.own ≡ extents_of memory.segments
+  pub slots : (rank : ℕ) (memory : Memory) → slice_get t.memories rank ≡ Some memory → HasSlots s.limits.notes memory
 
 pub mine-there : (table : List Posts) (rank : ℕ) (posts : Posts) → slice_get table rank ≡ Some posts → slice_get (all_tables table) rank ≡ Some (tables_of posts)
 mine-there table rank posts at = slice_get-map tables_of table rank ∙ ap (option_map tables_of) at
@@ -61,7 +63,7 @@ follows s t from rank after h =
     let p = from.posts rank new.0 new.1 in
     (tables_of p.0, mine-there s.posts rank p.0 p.1, subst (λ (x : Tables). Succeeds (tables_of p.0) x) (sym new.2) p.2.succeeds)
 
-keeps-coherent : (s t : State) → IsCoherent s → ComesFrom s t → IsCoherent t
+pub keeps-coherent : (s t : State) → IsCoherent s → ComesFrom s t → IsCoherent t
 keeps-coherent s t coherent from =
     let follow = follows s t from in
     record {
@@ -80,7 +82,7 @@ keeps-coherent s t coherent from =
     }
 
 -- the posts of a rank replaced
-posts-from : (notes : ℕ) (table : List Posts) (place : ℕ) (old new : Posts) → slice_get table place ≡ Some old → KeepsFit notes (all_tables table) place old new
+pub posts-from : (notes : ℕ) (table : List Posts) (place : ℕ) (old new : Posts) → slice_get table place ≡ Some old → KeepsFit notes (all_tables table) place old new
     → ((rank : ℕ) (p : Posts) → slice_get table rank ≡ Some p → KeepsFit notes (all_tables table) rank p p)
     → (rank : ℕ) (after : Posts) → slice_get (slice_set table place new) rank ≡ Some after
     → (before : Posts) × (slice_get table rank ≡ Some before) × KeepsFit notes (all_tables table) rank before after
@@ -107,15 +109,15 @@ told-posts-from ranks notes table place old new call reply at made keeps all ran
         → KeepsFit notes (all_tables table) rank before after
     told-fits before x known is fits knows = record { succeeds = rw is fits.succeeds; known = knows; entries = rw is fits.entries; owns = rw is fits.owns }
 
-keeps-itself : (s : State) → IsCoherent s → (rank : ℕ) (p : Posts) → slice_get s.posts rank ≡ Some p → KeepsFit s.limits.notes (all_tables s.posts) rank p p
+pub keeps-itself : (s : State) → IsCoherent s → (rank : ℕ) (p : Posts) → slice_get s.posts rank ≡ Some p → KeepsFit s.limits.notes (all_tables s.posts) rank p p
 keeps-itself s coherent rank p at = fits-itself s.limits.notes (all_tables s.posts) rank p (coherent.known rank p at) (coherent.entries rank p at)
 
 -- The own tables and the memories.
 
-abbrev OwnAgrees : List Posts → List Memory → Type 0
+abbrev pub OwnAgrees : List Posts → List Memory → Type 0
 OwnAgrees all memories = (rank : ℕ) (posts : Posts) (memory : Memory) → slice_get all rank ≡ Some posts → slice_get memories rank ≡ Some memory → posts.segments.own ≡ extents_of memory.segments
 
-own-from : (table : List Posts) (place : ℕ) (old new : Posts) → slice_get table place ≡ Some old → new.segments.own ≡ old.segments.own → (rank : ℕ) (after : Posts) → slice_get (slice_set table place new) rank ≡ Some after
+pub own-from : (table : List Posts) (place : ℕ) (old new : Posts) → slice_get table place ≡ Some old → new.segments.own ≡ old.segments.own → (rank : ℕ) (after : Posts) → slice_get (slice_set table place new) rank ≡ Some after
     → (before : Posts) × (slice_get table rank ≡ Some before) × (after.segments.own ≡ before.segments.own)
 own-from table place old new at same rank after here = go (slice_get-set table place rank new after here)
   where
@@ -131,7 +133,7 @@ memories-from table place old new at layout rank after here = go (slice_get-set 
     go (inl is) = (old, subst (λ (k : ℕ). slice_get table k ≡ Some old) (sym is.0) at, rw is.1 layout)
     go (inr was) = (after, was, same-layout after)
 
-changed-own : (all : List Posts) (memories : List Memory) (notes me worked : ℕ) (posts posts' : Posts) (memory memory' : Memory) → OwnAgrees all memories → slice_get all me ≡ Some posts
+pub changed-own : (all : List Posts) (memories : List Memory) (notes me worked : ℕ) (posts posts' : Posts) (memory memory' : Memory) → OwnAgrees all memories → slice_get all me ≡ Some posts
     → slice_get memories worked ≡ Some memory → KeepsTables notes me worked posts posts' memory memory' → OwnAgrees (slice_set all me posts') (slice_set memories worked memory')
 changed-own all memories notes me worked posts posts' memory memory' agrees hp hm (inl kept) rank p m at_p at_m =
     let before = own-from all me posts posts' hp kept.0 rank p at_p in
@@ -153,7 +155,7 @@ told-own ranks all memories me p call reply agrees rank posts memory hp hm =
     let from = told-from ranks me p call reply all rank posts hp in
     ap (λ (x : Posts). x.segments.own) from.3 ∙ agrees rank from.0 memory from.2 hm
 
-changed-slots : (memories : List Memory) (notes worked : ℕ) (memory' : Memory) → ((rank : ℕ) (m : Memory) → slice_get memories rank ≡ Some m → HasSlots notes m) → HasSlots notes memory'
+pub changed-slots : (memories : List Memory) (notes worked : ℕ) (memory' : Memory) → ((rank : ℕ) (m : Memory) → slice_get memories rank ≡ Some m → HasSlots notes m) → HasSlots notes memory'
     → (rank : ℕ) (m : Memory) → slice_get (slice_set memories worked memory') rank ≡ Some m → HasSlots notes m
 changed-slots memories notes worked memory' all new rank m at = go (slice_get-set memories worked rank memory' m at)
   where
@@ -164,7 +166,7 @@ changed-slots memories notes worked memory' all new rank m at = go (slice_get-se
 layout-slots : (notes : ℕ) (old new : Memory) → HaveSameLayout old new → HasSlots notes old → HasSlots notes new
 layout-slots notes old new layout all = layout.counts ∙ all ∙ ap (counts_of notes) (sym layout.extents)
 
-tables-slots : (notes me worked : ℕ) (posts posts' : Posts) (memory memory' : Memory) → KeepsTables notes me worked posts posts' memory memory' → HasSlots notes memory → HasSlots notes memory'
+pub tables-slots : (notes me worked : ℕ) (posts posts' : Posts) (memory memory' : Memory) → KeepsTables notes me worked posts posts' memory memory' → HasSlots notes memory → HasSlots notes memory'
 tables-slots notes me worked posts posts' memory memory' (inl kept) all = layout-slots notes memory memory' kept.1 all
 tables-slots notes me worked posts posts' memory memory' (inr both_change) all = both_change.2 all
 
@@ -251,10 +253,11 @@ take-own-kept : (limits : Limits) (posts after : Posts) (memory : Memory) (queue
 take-own-kept limits posts after memory queue target number Applied at h = rw h.leaves refl
 take-own-kept limits posts after memory queue target number Failed at h = rw h.leaves refl
 
-pub steps-coherent : (s t : State) (e : Event) → IsSound s → step s e ≡ Ok t → IsCoherent t
-steps-coherent s t (Called c call reply) sound h =
+-- What each event that is on no group leaves comes from what was there.
+pub called-from : (s t : State) (c : CallerId) (call : Call) (reply : Reply) → (row_of call).group ≡ None → IsSound s → step s (Called c call reply) ≡ Ok t → ComesFrom s t
+called-from s t c call reply plain sound h =
     let coherent = sound.coherent in
-    let made = sound-called s t c call reply sound h in
+    let made = sound-called s t c call reply plain sound h in
     let m = made.3 in
     let tables = all_tables s.posts in
     let worked = memory_rank s.limits c.rank call in
@@ -268,27 +271,31 @@ steps-coherent s t (Called c call reply) sound h =
     let kept : KeepsTables s.limits.notes c.rank worked made.0 made.2.posts made.1 made.2.memory = rw m.is.leaves (called-tables s.limits c.rank made.0 (call_brought s c.rank call) made.1 c.thread call reply) in
     let all = slice_set s.posts c.rank made.2.posts in
     let memories = slice_set s.memories worked made.2.memory in
-    rw m.leaves (keeps-coherent s (record s { posts = told s.limits.ranks c.rank made.0 call reply all; memories = memories }) coherent (record {
+    rw m.leaves (record {
       limits = refl;
       posts = told-posts-from s.limits.ranks s.limits.notes s.posts c.rank made.0 made.2.posts call reply m.posts_there may.made keeps (keeps-itself s coherent);
       own = told-own s.limits.ranks all memories c.rank made.0 call reply (changed-own s.posts s.memories s.limits.notes c.rank worked made.0 made.2.posts made.1 made.2.memory coherent.own m.posts_there m.memory_there kept);
       slots = changed-slots s.memories s.limits.notes worked made.2.memory coherent.slots
           (tables-slots s.limits.notes c.rank worked made.0 made.2.posts made.1 made.2.memory kept (coherent.slots worked made.1 m.memory_there));
-    }))
-steps-coherent s t (Take origin queue target number outcome) sound h =
+    })
+
+pub take-from : (s t : State) (origin queue target number : ℕ) (outcome : Outcome) → IsSound s → step s (Take origin queue target number outcome) ≡ Ok t → ComesFrom s t
+take-from s t origin queue target number outcome sound h =
     let coherent = sound.coherent in
     let made = sound-take s t origin queue target number outcome sound h in
     let m = made.4 in
     let keeps = take-keeps s origin queue target number outcome made.0 made.2 made.1 made.3 coherent m.posts_there m.memory_there m.is in
-    rw m.leaves (keeps-coherent s (record s { posts = slice_set s.posts origin made.2 }) coherent (record {
+    rw m.leaves (record {
       limits = refl;
       posts = posts-from s.limits.notes s.posts origin made.0 made.2 m.posts_there keeps (keeps-itself s coherent);
       own = λ rank posts memory hp hm.
           let before = own-from s.posts origin made.0 made.2 m.posts_there (take-own-kept s.limits made.0 made.2 made.1 queue target number outcome made.3 m.is) rank posts hp in
           before.2 ∙ coherent.own rank before.0 memory before.1 hm;
       slots = coherent.slots;
-    }))
-steps-coherent s t (Put origin queue target number outcome) sound h =
+    })
+
+pub put-from : (s t : State) (origin queue target number : ℕ) (outcome : Outcome) → IsSound s → step s (Put origin queue target number outcome) ≡ Ok t → ComesFrom s t
+put-from s t origin queue target number outcome sound h =
     let coherent = sound.coherent in
     let made = sound-put s t origin queue target number outcome sound h in
     let m = made.4 in
@@ -296,10 +303,24 @@ steps-coherent s t (Put origin queue target number outcome) sound h =
     let worked = put_rank origin target made.3.entry.kind in
     let keeps = put-keeps s.limits.notes tables made.0 made.1 origin queue target number outcome made.2 made.3 m.is (coherent.known origin made.0 m.posts_there) (coherent.entries origin made.0 m.posts_there) in
     let kept = put-tables s.limits.notes origin target queue number worked made.0 made.1 outcome made.2 made.3 m.is in
-    rw m.leaves (keeps-coherent s (record s { posts = slice_set s.posts origin made.2.posts; memories = slice_set s.memories worked made.2.memory }) coherent (record {
+    rw m.leaves (record {
       limits = refl;
       posts = posts-from s.limits.notes s.posts origin made.0 made.2.posts m.posts_there keeps (keeps-itself s coherent);
       own = changed-own s.posts s.memories s.limits.notes origin worked made.0 made.2.posts made.1 made.2.memory coherent.own m.posts_there m.memory_there kept;
       slots = changed-slots s.memories s.limits.notes worked made.2.memory coherent.slots
           (tables-slots s.limits.notes origin worked made.0 made.2.posts made.1 made.2.memory kept (coherent.slots worked made.1 m.memory_there));
-    }))
+    })
+
+-- a refusal or a timeout
+pub idle-from : (s t : State) (rank : ℕ) → IsSound s → IsOnlyCounted s t rank → ComesFrom s t
+idle-from s t rank sound only =
+    let coherent = sound.coherent in
+    let keeps = counted-fits s.limits.notes (all_tables s.posts) rank only.posts only.posts (keeps-itself s coherent rank only.posts only.there) in
+    rw only.after (record {
+      limits = refl;
+      posts = posts-from s.limits.notes s.posts rank only.posts (counted only.posts) only.there keeps (keeps-itself s coherent);
+      own = λ r posts memory hp hm.
+          let before = own-from s.posts rank only.posts (counted only.posts) only.there refl r posts hp in
+          before.2 ∙ coherent.own r before.0 memory before.1 hm;
+      slots = coherent.slots;
+    })

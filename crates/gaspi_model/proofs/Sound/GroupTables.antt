@@ -121,7 +121,7 @@ with_group-sound ranks groups room sound =
     parts id h rank is (inr there) = sound.members id h there rank is
 
 -- the handle of a group that is there and not group 0 replaced, or taken away
-set-sound : (ranks : ℕ) (groups : Handles) (id : ℕ) (x : Option Handle) → (id ≡ 0 → ⊥) → id ≤ groups.made
+pub set-sound : (ranks : ℕ) (groups : Handles) (id : ℕ) (x : Option Handle) → (id ≡ 0 → ⊥) → id ≤ groups.made
     → ((h : Handle) → x ≡ Some h → (rank : ℕ) → is_member h.members rank ≡ true → rank < ranks) → AreSoundGroups ranks groups
     → AreSoundGroups ranks (record groups { table = slice_set groups.table id x })
 set-sound ranks groups id x other known within sound = record {
@@ -145,7 +145,7 @@ made-there ranks groups id h sound at = go (nat_lt groups.made id) refl
     go false is = (let below = ltb-false groups.made id is in omega arith)
 
 -- a group that is built yet is not group 0
-building-other : (ranks : ℕ) (groups : Handles) (id : ℕ) (h : Handle) → AreSoundGroups ranks groups → handle_at groups id ≡ Some h → is_building h.stage ≡ true → id ≡ 0 → ⊥
+pub building-other : (ranks : ℕ) (groups : Handles) (id : ℕ) (h : Handle) → AreSoundGroups ranks groups → handle_at groups id ≡ Some h → is_building h.stage ≡ true → id ≡ 0 → ⊥
 building-other ranks groups id h sound at building zero_is =
     let here : handle_at groups 0 ≡ Some h = subst (λ (n : ℕ). handle_at groups n ≡ Some h) zero_is at in
     let some : ◌≡◌ {A = Option Handle} (Some (handle_of_all ranks)) (Some h) = sym sound.all ∙ here in

@@ -22,6 +22,7 @@ use Rattle.gaspi_types.specs.declared.entries.Queue.{Queue}
 use Rattle.gaspi_model.specs.declared.states.ThreadState.TheVariants.{Absent, Running}
 use Rattle.gaspi_model.proofs.Sound.GroupTables.{opening-groups}
 use Rattle.gaspi_model.proofs.Sound.Inboxes.{empty-inbox}
+use Rattle.gaspi_model.proofs.Sound.OpeningGroups.{opens-collectives}
 
 option_map-some : {A B : Type 0} (f : A → B) (o : Option A) (y : B) → option_map f o ≡ Some y → (x : A) × (y ≡ f x)
 option_map-some f None y h = absurd (let no : ⊥ = cc in no)
@@ -153,4 +154,5 @@ opens w world = record {
       let from = map-at (opening_memory w) (range_with_len 0 w.limits.ranks) rank memory at in
       rw from.2 (empty-inbox w.limits);
   coherent = opens-coherent w;
+  collectives = opens-collectives w;
 }

@@ -20,7 +20,7 @@ use Rattle.gaspi_types.specs.declared.replies.Refusal.{Refusal}
 use Rattle.gaspi_types.specs.declared.events.Outcome.{Outcome}
 use Rattle.gaspi_types.specs.declared.events.Outcome.TheVariants.{Applied, Failed}
 use Rattle.gaspi_types.specs.declared.events.Event.{Event}
-use Rattle.gaspi_types.specs.declared.events.Event.TheVariants.{Called, Take, Put}
+use Rattle.gaspi_types.specs.declared.events.Event.TheVariants.{Called, Joined, Take, Put}
 use Rattle.gaspi_model.specs.State.{owed}
 use Rattle.gaspi_types.specs.SegmentTables.{next_generation, with_generation}
 use Rattle.gaspi_types.specs.declared.segments.Extent.{Extent}
@@ -56,7 +56,13 @@ use Rattle.gaspi_model.proofs.FoundReplies.{found-reply}
 use Rattle.gaspi_model.proofs.Sound.CallAccounts.{HasLanes, with_post-events, call-grows}
 use Rattle.gaspi_types.proofs.Chains.{both, same_Ok}
 use Rattle.gaspi_model.proofs.Sound.OpenCounts.{emptied-lane, posted-unfailed, carried-unfailed, queue-phase, queue-remove, carried-more, carried-failed}
-use Rattle.gaspi_model.proofs.Sound.CoherentSteps.{steps-coherent}
+use Rattle.gaspi_types.specs.declared.shapes.CallerId.{CallerId}
+use Rattle.gaspi_types.specs.declared.groups.Args.{Args}
+use Rattle.gaspi_model.specs.Contributions.{AreSoundCollectives}
+use Rattle.gaspi_model.proofs.MetPosts.{met-called, met-joined}
+use Rattle.gaspi_model.proofs.Sound.GroupEvents.{posts-sound, left-set, steps-completed, steps-joined, counts-met}
+use Rattle.gaspi_model.proofs.Sound.KeptGroups.{called-collectives, take-collectives, put-collectives}
+use Rattle.gaspi_model.proofs.Sound.CoherentSteps.{keeps-coherent, called-from, take-from, put-from}
 use Rattle.gaspi_model.proofs.Sound.CallQueues.{queues-changed, called-queues}
 use Rattle.gaspi_model.specs.Changes.{put_rank}
 use Rattle.gaspi_model.proofs.FoundEntries.{IsFound, with_lane, with_phase, queue_with_failed, failed_with}
@@ -390,16 +396,6 @@ put-sound limits posts memory queue target number Failed after at sound h =
     (let same = ap (λ (p : Worked). p.posts.events + owed p.posts) h.leaves in omega arith) in
     rw h.leaves (failed-sound limits posts queue target number at sound h.is h.whole (carried-unfailed at.entry.phase (both (is_carried at.entry) _ h.permitted).0) tables spared)
 
--- the posts of all ranks, one of them replaced
-posts-sound : (limits : Limits) (table : List Posts) (rank : ℕ) (after : Posts) → IsSoundPosts limits after
-    → ((r : ℕ) (p : Posts) → slice_get table r ≡ Some p → IsSoundPosts limits p)
-    → (r : ℕ) (p : Posts) → slice_get (slice_set table rank after) r ≡ Some p → IsSoundPosts limits p
-posts-sound limits table rank after sound all r p h = parts (slice_get-set table rank r after p h)
-  where
-    parts : ((r ≡ rank) × (p ≡ after)) ⊎ (slice_get table r ≡ Some p) → IsSoundPosts limits p
-    parts (inl here) = rw here.1 sound
-    parts (inr there) = all r p there
-
 -- posts that are told a segment
 told-sound : (limits : Limits) (ranks me : ℕ) (p : Posts) (call : Call) (reply : Reply) (all : List Posts) → ((r : ℕ) (x : Posts) → slice_get all r ≡ Some x → IsSoundPosts limits x)
     → (r : ℕ) (x : Posts) → slice_get (told ranks me p call reply all) r ≡ Some x → IsSoundPosts limits x
@@ -421,12 +417,13 @@ told-sound limits ranks me p call reply all sound r x h =
       groups = is.groups;
     }
 
-pub steps : (s t : State) (e : Event) → IsSound s → step s e ≡ Ok t → IsSound t
-steps s t (Called c call reply) sound h =
-    let made = sound-called s t c call reply sound h in
+steps-called : (s t : State) (c : CallerId) (call : Call) (reply : Reply) → (row_of call).group ≡ None → IsSound s → step s (Called c call reply) ≡ Ok t → IsSound t
+steps-called s t c call reply plain sound h =
+    let made = sound-called s t c call reply plain sound h in
     let m = made.3 in
     let after = called-sound s.limits c.rank made.0 (call_brought s c.rank call) made.1 c.thread call reply made.2 (depth-few s.limits sound.limits) (sound.posts c.rank made.0 m.posts_there) m.is in
-    let coherent = steps-coherent s t (Called c call reply) sound h in
+    let coherent = keeps-coherent s t sound.coherent (called-from s t c call reply plain sound h) in
+    let collectives = called-collectives s t c call reply plain sound h in
     rw m.leaves (record {
       limits = sound.limits;
       ranks = told-length s.limits.ranks c.rank made.0 call reply (slice_set s.posts c.rank made.2.posts) ∙ length-set s.posts c.rank made.2.posts ∙ sound.ranks;
@@ -434,12 +431,22 @@ steps s t (Called c call reply) sound h =
       posts = told-sound s.limits s.limits.ranks c.rank made.0 call reply (slice_set s.posts c.rank made.2.posts) (posts-sound s.limits s.posts c.rank made.2.posts after sound.posts);
       inboxes = inboxes-set s.limits s.memories (memory_rank s.limits c.rank call) made.2.memory sound.inboxes (called-inbox s t c call reply made.0 made.1 made.2 sound m);
       coherent = subst IsCoherent m.leaves coherent;
+      collectives = subst AreSoundCollectives m.leaves collectives;
     })
+
+pub steps : (s t : State) (e : Event) → IsSound s → step s e ≡ Ok t → IsSound t
+steps s t (Joined c id args) sound h = steps-joined s t c id args sound h
+steps s t (Called c call reply) sound h = by-group (row_of call).group refl
+  where
+    by-group : (o : Option ℕ) → (row_of call).group ≡ o → IsSound t
+    by-group (Some id) named = steps-completed s t c id call reply named sound h
+    by-group None plain = steps-called s t c call reply plain sound h
 steps s t (Take origin queue target number outcome) sound h =
     let made = sound-take s t origin queue target number outcome sound h in
     let m = made.4 in
     let after = take-sound s.limits made.0 made.1 queue target number outcome made.2 made.3 (sound.posts origin made.0 m.posts_there) m.is in
-    let coherent = steps-coherent s t (Take origin queue target number outcome) sound h in
+    let coherent = keeps-coherent s t sound.coherent (take-from s t origin queue target number outcome sound h) in
+    let collectives = take-collectives s t origin queue target number outcome sound h in
     rw m.leaves (record {
       limits = sound.limits;
       ranks = length-set s.posts origin made.2 ∙ sound.ranks;
@@ -447,12 +454,14 @@ steps s t (Take origin queue target number outcome) sound h =
       posts = posts-sound s.limits s.posts origin made.2 after sound.posts;
       inboxes = sound.inboxes;
       coherent = subst IsCoherent m.leaves coherent;
+      collectives = subst AreSoundCollectives m.leaves collectives;
     })
 steps s t (Put origin queue target number outcome) sound h =
     let made = sound-put s t origin queue target number outcome sound h in
     let m = made.4 in
     let after = put-sound s.limits made.0 made.1 queue target number outcome made.2 made.3 (sound.posts origin made.0 m.posts_there) m.is in
-    let coherent = steps-coherent s t (Put origin queue target number outcome) sound h in
+    let coherent = keeps-coherent s t sound.coherent (put-from s t origin queue target number outcome sound h) in
+    let collectives = put-collectives s t origin queue target number outcome sound h in
     rw m.leaves (record {
       limits = sound.limits;
       ranks = length-set s.posts origin made.2.posts ∙ sound.ranks;
@@ -461,6 +470,7 @@ steps s t (Put origin queue target number outcome) sound h =
       inboxes = inboxes-set s.limits s.memories (put_rank origin target made.3.entry.kind) made.2.memory sound.inboxes
           (put-inbox s.limits made.0 made.1 queue target number outcome made.2 made.3 m.is (sound.inboxes (put_rank origin target made.3.entry.kind) made.1 m.memory_there));
       coherent = subst IsCoherent m.leaves coherent;
+      collectives = subst AreSoundCollectives m.leaves collectives;
     })
 
 -- each event adds one to the events of its owner
@@ -481,15 +491,9 @@ put-events : (posts : Posts) (memory : Memory) (queue target number : ℕ) (outc
 put-events posts memory queue target number Applied after at h = rw h.leaves refl
 put-events posts memory queue target number Failed after at h = rw h.leaves refl
 
-left-set : (limits : Limits) (table : List Posts) (rank : ℕ) (posts after : Posts) → slice_get table rank ≡ Some posts → after.events ≡ posts.events + 1 → after.events ≤ limits.events
-    → sum_by (λ (p : Posts). limits.events - p.events) (slice_set table rank after) + 1 ≡ sum_by (λ (p : Posts). limits.events - p.events) table
-left-set limits table rank posts after at more within =
-    let sum = sum_by-changed (λ (p : Posts). limits.events - p.events) table rank posts after at in
-    omega arith
-
-pub counts : (s t : State) (e : Event) → IsSound s → step s e ≡ Ok t → events_left t + 1 ≡ events_left s
-counts s t (Called c call reply) sound h =
-    let made = sound-called s t c call reply sound h in
+counts-called : (s t : State) (c : CallerId) (call : Call) (reply : Reply) → (row_of call).group ≡ None → IsSound s → step s (Called c call reply) ≡ Ok t → events_left t + 1 ≡ events_left s
+counts-called s t c call reply plain sound h =
+    let made = sound-called s t c call reply plain sound h in
     let m = made.3 in
     let before = sound.posts c.rank made.0 m.posts_there in
     let after = called-sound s.limits c.rank made.0 (call_brought s c.rank call) made.1 c.thread call reply made.2 (depth-few s.limits sound.limits) before m.is in
@@ -497,6 +501,14 @@ counts s t (Called c call reply) sound h =
     let left = left-set s.limits s.posts c.rank made.0 made.2.posts m.posts_there more (let room = after.room in omega arith) in
     let told_left = told-sum (λ (p : Posts). s.limits.events - p.events) (λ x known. refl) s.limits.ranks c.rank made.0 call reply (slice_set s.posts c.rank made.2.posts) in
     rw m.leaves (ap (λ (n : ℕ). n + 1) told_left ∙ left)
+
+pub counts : (s t : State) (e : Event) → IsSound s → step s e ≡ Ok t → events_left t + 1 ≡ events_left s
+counts s t (Joined c id args) sound h = let met = met-joined s t c id args h in counts-met s t c.rank met.0 met.1 sound (steps-joined s t c id args sound h) met.2
+counts s t (Called c call reply) sound h = by-group (row_of call).group refl
+  where
+    by-group : (o : Option ℕ) → (row_of call).group ≡ o → events_left t + 1 ≡ events_left s
+    by-group (Some id) named = let met = met-called s t c id call reply named h in counts-met s t c.rank met.0 met.1 sound (steps-completed s t c id call reply named sound h) met.2
+    by-group None plain = counts-called s t c call reply plain sound h
 counts s t (Take origin queue target number outcome) sound h =
     let made = sound-take s t origin queue target number outcome sound h in
     let m = made.4 in
@@ -513,6 +525,11 @@ counts s t (Put origin queue target number outcome) sound h =
     rw m.leaves (left-set s.limits s.posts origin made.0 made.2.posts m.posts_there more (let room = after.room in omega arith))
 
 pub limits-stay : (s t : State) (e : Event) → step s e ≡ Ok t → t.limits ≡ s.limits
-limits-stay s t (Called c call reply) h = ap (λ (x : State). x.limits) (step-called s t c call reply h).3.leaves
+limits-stay s t (Joined c id args) h = (met-joined s t c id args h).2.limits
+limits-stay s t (Called c call reply) h = by-group (row_of call).group refl
+  where
+    by-group : (o : Option ℕ) → (row_of call).group ≡ o → t.limits ≡ s.limits
+    by-group (Some id) named = (met-called s t c id call reply named h).2.limits
+    by-group None plain = ap (λ (x : State). x.limits) (step-called s t c call reply plain h).3.leaves
 limits-stay s t (Take origin queue target number outcome) h = ap (λ (x : State). x.limits) (step-take s t origin queue target number outcome h).4.leaves
 limits-stay s t (Put origin queue target number outcome) h = ap (λ (x : State). x.limits) (step-put s t origin queue target number outcome h).4.leaves

@@ -47,7 +47,7 @@ requeued-tables limits posts queues next same has = record {
 }
 
 -- or with the groups
-regrouped-tables : (limits : Limits) (posts : Posts) (groups : Handles) → HasTables limits posts → HasTables limits (record posts { groups = groups })
+pub regrouped-tables : (limits : Limits) (posts : Posts) (groups : Handles) → HasTables limits posts → HasTables limits (record posts { groups = groups })
 regrouped-tables limits posts groups has = record {
   queues = has.queues;
   corrupt = has.corrupt;
@@ -104,7 +104,7 @@ done-tables limits me posts thread call has = go (row_of call).posting refl
     go None none = rw none (plain-tables limits posts thread call has)
     go (Some to) post = rw post (post-tables limits posts to.queue to.rank (call_asks limits me posts call) has)
 
-counted-tables : (limits : Limits) (posts : Posts) → HasTables limits posts → HasTables limits (counted posts)
+pub counted-tables : (limits : Limits) (posts : Posts) → HasTables limits posts → HasTables limits (counted posts)
 counted-tables limits posts has = record {
   queues = has.queues;
   corrupt = has.corrupt;
@@ -148,7 +148,7 @@ put-tables limits posts memory queue target number Applied after at h has = rw h
 put-tables limits posts memory queue target number Failed after at h has = rw h.leaves (failed-tables limits posts queue target at has)
 
 -- a segment told
-known-tables : (limits : Limits) (owner seg : ℕ) (extent : Option Extent) (posts : Posts) → HasTables limits posts → HasTables limits (with_known owner seg extent posts)
+pub known-tables : (limits : Limits) (owner seg : ℕ) (extent : Option Extent) (posts : Posts) → HasTables limits posts → HasTables limits (with_known owner seg extent posts)
 known-tables limits owner seg extent posts has = record {
   queues = has.queues;
   corrupt = has.corrupt;

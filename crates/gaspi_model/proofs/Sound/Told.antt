@@ -13,7 +13,7 @@ use Rattle.gaspi_types.specs.declared.calls.segments.Register as register
 use Rattle.gaspi_types.specs.declared.touches.Touch.{Touch}
 use Rattle.gaspi_types.specs.declared.touches.Touch.TheVariants as touches
 use Rattle.gaspi_types.specs.declared.touches.Reach.{Reach}
-use Rattle.gaspi_types.specs.declared.touches.Reach.TheVariants.{Alone, OwnMemory, PeerMemory, BothMemories, PeerPosts}
+use Rattle.gaspi_types.specs.declared.touches.Reach.TheVariants.{Alone, OwnMemory, PeerMemory, BothMemories, PeerPosts, Group, GroupAndMemory}
 use Rattle.gaspi_types.specs.CallRows.{row_of}
 use Rattle.gaspi_types.specs.Touches.{reach_of}
 use Rattle.gaspi_model.specs.Calls.{peer_after}
@@ -62,6 +62,8 @@ changed_peer OwnMemory all change = all
 changed_peer (PeerMemory rank) all change = all
 changed_peer (BothMemories rank) all change = all
 changed_peer (PeerPosts rank) all change = changed_at all rank change
+changed_peer (Group id) all change = all
+changed_peer (GroupAndMemory id) all change = all
 
 -- the posts of all ranks after a call of that reach: of a peer that it reaches what it leaves there
 abbrev pub told_at : Reach → ℕ → Posts → Call → Reply → List Posts → List Posts
@@ -70,6 +72,8 @@ told_at OwnMemory me p call reply all = all
 told_at (PeerMemory rank) me p call reply all = all
 told_at (BothMemories rank) me p call reply all = all
 told_at (PeerPosts rank) me p call reply all = changed_at all rank (peer_after me p call reply)
+told_at (Group id) me p call reply all = all
+told_at (GroupAndMemory id) me p call reply all = all
 
 abbrev pub told : ℕ → ℕ → Posts → Call → Reply → List Posts → List Posts
 told ranks me p call reply all = told_at (reach_of ranks me (row_of call).touch) me p call reply all
@@ -99,6 +103,16 @@ peer-touched ranks me rank (touches.PostsOf r) h = go (r == me) refl (nat_lt r r
         let some : PeerPosts r ≡ PeerPosts rank = rw (is, less) at h in
         let same : r ≡ rank = cc in
         (ap touches.PostsOf same, subst (λ (n : ℕ). (n == me) ≡ false) same is, subst (λ (n : ℕ). nat_lt n ranks ≡ true) same less)
+peer-touched ranks me rank (touches.GroupOf id) h = absurd (mine (nat_lt id 8) h)
+  where
+    mine : (b : Bool) → (if b then Group id else Alone) ≡ PeerPosts rank → ⊥
+    mine true h = cc
+    mine false h = cc
+peer-touched ranks me rank (touches.GroupAndMemory id) h = absurd (mine (nat_lt id 8) h)
+  where
+    mine : (b : Bool) → (if b then GroupAndMemory id else Alone) ≡ PeerPosts rank → ⊥
+    mine true h = cc
+    mine false h = cc
 
 -- and one of both memories from a touch of those
 pub both-touched : (ranks me rank : ℕ) (touch : Touch) → reach_of ranks me touch ≡ BothMemories rank → (touch ≡ touches.BothMemories rank) × ((rank == me) ≡ false) × (nat_lt rank ranks ≡ true)
@@ -125,6 +139,16 @@ both-touched ranks me rank (touches.BothMemories r) h = go (r == me) refl (nat_l
         let some : BothMemories r ≡ BothMemories rank = rw (is, less) at h in
         let same : r ≡ rank = cc in
         (ap touches.BothMemories same, subst (λ (n : ℕ). (n == me) ≡ false) same is, subst (λ (n : ℕ). nat_lt n ranks ≡ true) same less)
+both-touched ranks me rank (touches.GroupOf id) h = absurd (mine (nat_lt id 8) h)
+  where
+    mine : (b : Bool) → (if b then Group id else Alone) ≡ BothMemories rank → ⊥
+    mine true h = cc
+    mine false h = cc
+both-touched ranks me rank (touches.GroupAndMemory id) h = absurd (mine (nat_lt id 8) h)
+  where
+    mine : (b : Bool) → (if b then GroupAndMemory id else Alone) ≡ BothMemories rank → ⊥
+    mine true h = cc
+    mine false h = cc
 
 -- a call that touches a rank's posts makes a segment known to it
 pub touching-registers : (call : Call) (rank : ℕ) → (row_of call).touch ≡ touches.PostsOf rank → (x : register.Register) × (call ≡ Register x) × (x.rank ≡ rank)
@@ -154,6 +178,8 @@ told-cases {P} ranks me p call reply same tells = by-reach (reach_of ranks me (r
     by-reach OwnMemory is = same (λ all. rw is refl)
     by-reach (PeerMemory rank) is = same (λ all. rw is refl)
     by-reach (BothMemories rank) is = same (λ all. rw is refl)
+    by-reach (Group id) is = same (λ all. rw is refl)
+    by-reach (GroupAndMemory id) is = same (λ all. rw is refl)
     by-reach (PeerPosts rank) is =
         let touched = peer-touched ranks me rank (row_of call).touch is in
         let registers = touching-registers call rank touched.0 in
@@ -168,6 +194,8 @@ told-idle ranks me p call reply all idle = go (reach_of ranks me (row_of call).t
     go OwnMemory = refl
     go (PeerMemory rank) = refl
     go (BothMemories rank) = refl
+    go (Group id) = refl
+    go (GroupAndMemory id) = refl
     go (PeerPosts rank) = changed_at-same all rank (peer_after me p call reply) (λ q. rw idle refl)
 
 -- the posts of a rank are the same, but for what it knows

@@ -1,4 +1,4 @@
-use Rattle.gaspi_model.proofs.Histories.{only-counted}
+use Rattle.gaspi_model.proofs.IdleSteps.{only-counted}
 use Rattle.gaspi_model.proofs.Changed.Puts.{put-done}
 use Rattle.gaspi_model.proofs.Changed.Written.{store-written, sum-written, sum-answered, swap-written, swap-answered, swap-kept}
 use Rattle.gaspi_model.proofs.Changed.Transfers.{put-failed, take-failed, take-done}

@@ -1,4 +1,4 @@
-use Rattle.gaspi_model.proofs.Local.Steps.{frame, determined, owner-among, footprint-by-owner, footprint-by-call, once, few, posting-alone, wait-alone, purge-alone, qsize-alone, state-alone, send-both, receive-own, group-alone}
+use Rattle.gaspi_model.proofs.Local.Steps.{frame, determined, owner-among, footprint-by-owner, footprint-by-call, once, few, posting-alone, wait-alone, purge-alone, qsize-alone, state-alone, send-both, receive-own, group-alone, collective-group, create-group, join-group}
 use Rattle.gaspi_model.proofs.laws.locality.Goals as goal
 
 pub returns-clause-frame : goal.returns-clause-frame
@@ -45,3 +45,12 @@ returns-clause-receiving c = receive-own
 
 pub returns-clause-grouping : goal.returns-clause-grouping
 returns-clause-grouping c = group-alone
+
+pub returns-clause-meeting : goal.returns-clause-meeting
+returns-clause-meeting c = collective-group
+
+pub returns-clause-creating : goal.returns-clause-creating
+returns-clause-creating c = create-group
+
+pub returns-clause-joining : goal.returns-clause-joining
+returns-clause-joining c = join-group
