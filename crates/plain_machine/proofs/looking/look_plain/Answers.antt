@@ -1,7 +1,7 @@
 use Rattle.std.proofs.Common.{rules}
 use Rattle.plain_machine.specs.Machine.{state_in}
 use Rattle.plain_machine.proofs.Fitting.{few_marks, short_at}
-use Rattle.plain_machine.proofs.looking.look_in.Goals as goal
+use Rattle.plain_machine.proofs.looking.look_plain.Goals as goal
 
 pub look-requires-clause-corrupt : goal.look-requires-clause-corrupt
 look-requires-clause-corrupt c = few_marks (state_in c.args.ranks.now c.args.memories.now) c.requires.whole.sound c.args.caller.now.rank c.at.result.now (search rules)
