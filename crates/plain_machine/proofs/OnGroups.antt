@@ -1,5 +1,5 @@
 -- A collective that is answered, and a join, in the whole state; and which calls are none.
-use Rattle.std.proofs.Common.{◌≡◌, ℕ, Bool, true, false, nat_lt, List, length, Option, None, Some, Result, Ok, Err, OnOk, OnErr, slice_get, slice_set, refl, sym, ap, subst, ◌∙◌, inl, inr}
+use Rattle.std.proofs.Common.{◌≡◌, ℕ, Bool, true, false, nat_lt, List, length, Option, None, Some, Result, Ok, Err, OnOk, OnErr, slice_get, slice_set, refl, sym, ap, subst, ◌∙◌}
 use Rattle.std.proofs.lemmas.List.{length-set}
 use Rattle.gaspi_types.specs.CallRows.{row_of}
 use Rattle.gaspi_types.specs.Checks.{◌>>=◌}
@@ -13,11 +13,8 @@ use Rattle.gaspi_types.specs.declared.collectives.Coll.TheVariants as colls
 use Rattle.gaspi_types.specs.declared.events.Event.TheVariants.{Called, Joined}
 use Rattle.gaspi_types.specs.declared.groups.Args.{Args}
 use Rattle.gaspi_types.specs.declared.groups.Group as groups
-use Rattle.gaspi_types.specs.declared.replies.Ready.{Ready}
 use Rattle.gaspi_types.specs.declared.replies.Refusal.{Refusal}
-use Rattle.gaspi_types.specs.declared.replies.Refusal.TheVariants.{CallerEnded}
 use Rattle.gaspi_types.specs.declared.replies.Reply.{Reply}
-use Rattle.gaspi_types.specs.declared.replies.Reply.TheVariants as replies
 use Rattle.gaspi_types.specs.declared.shapes.CallerId.{CallerId}
 use Rattle.gaspi_types.specs.declared.shapes.Limits.{Limits}
 use Rattle.gaspi_types.specs.declared.touches.Reach.{Reach}
@@ -28,7 +25,7 @@ use Rattle.gaspi_model.specs.Calls.{answer, call_finds, ready_of, recorded_reply
 use Rattle.gaspi_model.specs.CollectiveCalls.{is_reply_of, made_memory}
 use Rattle.gaspi_model.specs.Parts.{Parts, Touched, group_or_none, parts_of, with_parts, touched_of, worked_memory, with_worked_memory}
 use Rattle.gaspi_model.specs.State.{thread_at, is_running}
-use Rattle.gaspi_model.specs.Step.{step, Steps, Met, completed, completed_on, joined, join_touch, group_in}
+use Rattle.gaspi_model.specs.Step.{step, Steps, Met, completed, joined, join_touch, group_in}
 use Rattle.gaspi_model.specs.declared.states.Posts.{Posts}
 use Rattle.gaspi_model.specs.declared.states.Memory.{Memory}
 use Rattle.gaspi_model.specs.declared.states.State.{State}

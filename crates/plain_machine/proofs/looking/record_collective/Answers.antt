@@ -1,13 +1,10 @@
-use Rattle.std.proofs.Common.{◌≡◌, true, false, nat_lt, Option, None, Some, slice_get, refl, sym, ap, ◌∙◌}
+use Rattle.std.proofs.Common.{sym}
 use Rattle.std.proofs.lemmas.Bool.{lt-ltb, le-ltb}
 use Rattle.std.proofs.lemmas.List.{map-set}
-use Rattle.gaspi_types.specs.declared.groups.Group as groups
 use Rattle.gaspi_model.specs.Calls.{recorded_reply}
-use Rattle.gaspi_model.specs.Parts.{no_group, group_or_none}
-use Rattle.gaspi_model.specs.Step.{group_in}
 use Rattle.plain_calls.specs.Looks.{made_of}
 use Rattle.plain_machine.specs.Machine.{state_in, taken_of}
-use Rattle.plain_machine.proofs.Joining.{in_group, in_none, part_sound, completed_on, completed_none}
+use Rattle.plain_machine.proofs.Joining.{in_none, part_sound, completed_on, completed_none}
 use Rattle.plain_machine.proofs.Lists.{mapped}
 use Rattle.plain_machine.proofs.looking.record_collective.Goals as goal
 
