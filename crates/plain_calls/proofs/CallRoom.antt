@@ -111,7 +111,7 @@ post_room limits posts rank queue asked reply entries few limited sound p long =
     room_counts p q count a b is room = let same : p ≡ q = cc in let counts = ap (λ (x : Queue). x.open_count) same in grind (arith, nat_tests)
 
 -- the generation and the size of a segment that may be made fit
-alloc_room : (limits : Limits) (posts : Posts) (call : alloc.Alloc) (reply : Reply) → are_limits limits ≡ true → IsSoundPosts limits posts
+pub alloc_room : (limits : Limits) (posts : Posts) (call : alloc.Alloc) (reply : Reply) → are_limits limits ≡ true → IsSoundPosts limits posts
     → alloc_finds posts call ≡ Ok (Some reply) → HasAllocRoom posts call
 alloc_room limits posts call reply limited sound is =
     bind_then (alloc_checks posts.segments.own call.seg call.size) _ _ is (λ u fits more.

@@ -1,7 +1,10 @@
+pub mod Answered
 pub mod CallRoom
+pub mod Completed
 pub mod Emptied
 pub mod PostedEntries
 pub mod Looked
 pub mod Owed
 pub mod Postings
 pub mod Queues
+pub mod Turns

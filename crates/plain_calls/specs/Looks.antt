@@ -1,5 +1,5 @@
 -- What a look at a call finds, and what recording it leaves.
-use Rattle.std.specs.Prelude.{◌≡◌, ℕ, ◌≤◌, List, [], length, slice_get, Option, None, Some, Result, Ok, Err, if◌then◌else◌, true, false}
+use Rattle.std.specs.Prelude.{◌≡◌, ℕ, ◌≤◌, Bool, List, [], length, slice_get, Option, None, Some, Result, Ok, Err, if◌then◌else◌, true, false}
 use Rattle.gaspi_types.specs.CallRows.{row_of}
 use Rattle.gaspi_types.specs.Replies.{is_idle}
 use Rattle.gaspi_types.specs.declared.call_rows.Posting.{Posting}
@@ -9,6 +9,8 @@ use Rattle.gaspi_types.specs.declared.inboxes.Message.{Message}
 use Rattle.gaspi_types.specs.declared.replies.Refusal.{Refusal}
 use Rattle.gaspi_types.specs.declared.replies.Reply.{Reply}
 use Rattle.gaspi_types.specs.declared.replies.Reply.TheVariants as replies
+use Rattle.gaspi_types.specs.declared.replies.Ready.{Ready}
+use Rattle.gaspi_types.specs.declared.replies.Ready.TheVariants as ready
 use Rattle.gaspi_types.specs.declared.shapes.Limits.{Limits}
 use Rattle.gaspi_model.specs.Calls.{call_asks, answer, ready_of, recorded_reply, plain_done}
 use Rattle.gaspi_model.specs.Posting.{with_post, counted}
@@ -62,6 +64,12 @@ found_done posts thread call kinds = done_by (row_of call).posting
 abbrev pub found_after : Posts → ℕ → Call → Finding → Posts
 found_after posts thread call look =
     counted (if is_idle (recorded_reply look.ready) then posts else found_done posts thread call (kinds_of look.kinds))
+
+-- whether a look found that a collective may join
+abbrev pub is_join : Ready → Bool
+is_join (ready.Reply reply) = false
+is_join (ready.Join args) = true
+is_join ready.NotReady = false
 
 -- whether a step that gives something was made, or why not
 abbrev pub made_of : {A : Type 0} → Result A StepFault → Result (Unit {0}) StepFault

@@ -4,12 +4,12 @@ use Rattle.std.specs.Borrow.{Bor}
 use Rattle.gaspi_types.specs.CallRows.{is_post}
 use Rattle.gaspi_types.specs.Posts.{is_list_post}
 use Rattle.gaspi_types.specs.declared.calls.Call.{Call}
-use Rattle.gaspi_types.specs.declared.calls.Call.TheVariants.{Alloc, Load, PassiveSend}
+use Rattle.gaspi_types.specs.declared.calls.Call.TheVariants.{Alloc, Load, PassiveSend, Allreduce}
 use Rattle.gaspi_types.specs.declared.replies.Refusal.{Refusal}
 use Rattle.gaspi_types.specs.declared.replies.Reply.{Reply}
 use Rattle.gaspi_types.specs.declared.replies.Reply.TheVariants as replies
 use Rattle.gaspi_types.specs.declared.events.Event.{Event}
-use Rattle.gaspi_types.specs.declared.events.Event.TheVariants.{Called, Take, Put}
+use Rattle.gaspi_types.specs.declared.events.Event.TheVariants.{Called, Joined, Take, Put}
 
 -- an answer of this copies bytes
 abbrev pub is_load : Call → Bool
@@ -21,9 +21,15 @@ abbrev pub is_send : Call → Bool
 is_send (PassiveSend send) = true
 is_send call = false
 
--- a look at these may want memory: for the bytes that a load answers, for the entries of a list, and for a message
+-- this reduces the numbers of all members
+abbrev pub is_allreduce : Call → Bool
+is_allreduce (Allreduce call) = true
+is_allreduce call = false
+
+-- a look at these may want memory: for the bytes that a load answers, for the entries of a list, for a message, and for the
+-- numbers of an allreduce
 abbrev pub looks_with_memory : Call → Bool
-looks_with_memory call = is_load call || is_list_post call || is_send call
+looks_with_memory call = is_load call || is_list_post call || is_send call || is_allreduce call
 
 -- this makes a segment
 abbrev pub is_alloc : Call → Bool
@@ -41,6 +47,7 @@ keeps_memory call = is_post call || fills_memory call
 -- a step of these may want memory
 abbrev pub takes_memory : Event → Bool
 takes_memory (Called caller call reply) = looks_with_memory call || keeps_memory call
+takes_memory (Joined caller id args) = true
 takes_memory (Take origin queue target number outcome) = true
 takes_memory (Put origin queue target number outcome) = false
 

@@ -8,7 +8,10 @@ use Rattle.gaspi_types.specs.SegmentTables.{next_generation}
 use Rattle.gaspi_types.specs.declared.call_rows.Posting.{Posting}
 use Rattle.gaspi_types.specs.declared.calls.Call.{Call}
 use Rattle.gaspi_types.specs.declared.calls.Call.TheVariants.{Alloc, Purge, GroupCreate, GroupAdd}
+use Rattle.gaspi_types.specs.declared.calls.Call.TheVariants as calls
 use Rattle.gaspi_types.specs.declared.calls.segments.Alloc as alloc
+use Rattle.gaspi_types.specs.declared.collectives.Coll.{Coll}
+use Rattle.gaspi_types.specs.declared.collectives.Coll.TheVariants.{Create}
 use Rattle.gaspi_types.specs.declared.entries.Queue.{Queue}
 use Rattle.gaspi_types.specs.declared.replies.Reply.{Reply}
 use Rattle.gaspi_model.specs.declared.states.Posts.{Posts}
@@ -25,6 +28,16 @@ HasPostingRoom posts (Some posting) entries = IsRoom posts entries posting.queue
 
 abbrev pub HasAllocRoom : Posts → alloc.Alloc → Type 0
 HasAllocRoom posts call = (next_generation posts.segments.next_generations call.seg + 1 < 2 ^ 32) × (call.size < 2 ^ 32)
+
+-- a collective, for the segment that it makes as it joins
+abbrev pub HasMakingRoom : Posts → Coll → Type 0
+HasMakingRoom posts (Create seg size) = HasAllocRoom posts (record { seg = seg; size = size })
+HasMakingRoom posts coll = Unit {0}
+
+-- and for the size that it makes known as it completes
+abbrev pub HasTellingRoom : Call → Type 0
+HasTellingRoom (calls.Create call) = call.size < 2 ^ 32
+HasTellingRoom call = Unit {0}
 
 -- a call that posts nothing
 abbrev pub HasPlainRoom : Posts → Call → Type 0

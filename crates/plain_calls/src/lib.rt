@@ -4,6 +4,9 @@
 
 mod atomic_calls;
 mod calls;
+mod collective_calls;
+mod collective_steps;
+mod contributions;
 mod group_calls;
 mod lanes;
 mod looks;
@@ -20,6 +23,8 @@ mod segment_calls;
 mod threads;
 
 pub use calls::{look, news, tell};
+pub use collective_calls::{collective_look, may_join};
+pub use collective_steps::{complete, join};
 pub use lanes::{is_carried, is_posted, is_read, is_write, may_put, may_take, place_of};
 pub use looks::Finding;
 pub use memories::{bytes_of, new_slots, segment_at, set_slot};

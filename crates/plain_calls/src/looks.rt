@@ -2,8 +2,10 @@
 
 ghost use Rattle.std.specs.Prelude.{◌≡◌, None};
 ghost use Rattle.segment_tables.specs.declared.kinds.Kinds.TheVariants as kinds;
-ghost use Rattle.gaspi_types.specs.Replies.{same_reply, is_idle};
+ghost use Rattle.gaspi_types.specs.Replies.{is_idle};
 ghost use Rattle.gaspi_model.specs.Calls.{recorded_reply};
+ghost use Rattle.gaspi_model.specs.CollectiveCalls.{is_reply_of};
+ghost use Rattle.plain_calls.specs.Looks.{is_join};
 
 use crate::replies::is_idle_ready;
 use gaspi_types::{Message, Ready, Reply};
@@ -38,12 +40,21 @@ impl Finding {
         is_idle_ready(&self.ready)
     }
 
-    /// Whether a reply is the one with which the call may be recorded. (GASPI: timeouts)
+    /// Whether the call is a collective that may join its group. (GASPI: collectives)
+    pub fn is_join(&self) -> bool
+        ensures { result ≡ is_join self.now.ready }
+    {
+        matches!(&self.ready, Ready::Join(_))
+    }
+
+    /// Whether a reply is the one with which the call may be recorded: a collective that has not joined has none.
+    /// (GASPI: timeouts, collectives)
     pub fn is_recorded_with(&self, reply: &Reply) -> bool
-        ensures { result ≡ same_reply reply.now (recorded_reply self.now.ready) }
+        ensures { result ≡ is_reply_of self.now.ready reply.now }
     {
         match &self.ready {
             Ready::Reply(ready) => same_reply(reply, ready),
+            Ready::Join(_) => false,
             Ready::NotReady => matches!(reply, Reply::Timeout),
         }
     }

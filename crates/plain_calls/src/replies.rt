@@ -23,7 +23,7 @@ pub fn recorded_reply(ready: Ready) -> Reply
 {
     match ready {
         Ready::Reply(reply) => reply,
-        Ready::NotReady => Reply::Timeout,
+        Ready::Join(_) | Ready::NotReady => Reply::Timeout,
     }
 }
 
@@ -40,6 +40,6 @@ pub fn is_idle_ready(ready: &Ready) -> bool
 {
     match ready {
         Ready::Reply(reply) => is_idle(reply),
-        Ready::NotReady => true,
+        Ready::Join(_) | Ready::NotReady => true,
     }
 }

@@ -1,18 +1,20 @@
 //! The calls of segments: what they find, and what they leave. (GASPI: segments)
 
-ghost use Rattle.std.specs.Prelude.{◌≡◌, ◌+◌, ◌<◌, ◌≤◌, ◌^◌, length, OnOk, OnErr, IfSome};
+ghost use Rattle.std.specs.Prelude.{◌≡◌, ◌+◌, ◌<◌, ◌≤◌, ◌^◌, length, OnOk, OnErr, IfOk, IfSome};
 ghost use Rattle.std.specs.List.{list_any};
 ghost use Rattle.gaspi_types.specs.Lanes.{has_user};
 ghost use Rattle.gaspi_types.specs.SegmentTables.{extent_in};
 ghost use Rattle.gaspi_model.specs.SegmentCalls.{alloc_finds, with_own, alloc_leaves, register_finds, with_known, delete_finds, without_own, delete_leaves};
 ghost use Rattle.gaspi_types.specs.Queues.{user_of};
+ghost use Rattle.gaspi_types.specs.declared.shapes.Limits.{Limits};
 ghost use Rattle.plain_calls.specs.Room.{HasAllocRoom};
+ghost use Rattle.plain_calls.specs.Segments.{new_made};
 
 use crate::lanes::has_user;
 use crate::memories::{new_slots, set_segment};
 use gaspi_model::{Memory, Posts};
 use gaspi_types::{
-    Alloc, Delete, Extent, Limits, NoMemory, Queue, RankId, Refusal, Register, Reply, Rows,
+    Alloc, Delete, Extent, Limits, NoMemory, Queue, RankId, Refusal, Register, Reply, Rows, Segment,
 };
 use segment_tables::{
     add_own, check_alloc, extent_in, new_segment, next_generation, remove_own, set_known,
@@ -25,6 +27,41 @@ pub fn alloc_finds(posts: &Posts, call: &Alloc) -> Result<Option<Reply>, Refusal
 {
     check_alloc(&posts.segments.own, call.seg, call.size)?;
     Ok(Some(Reply::Done))
+}
+
+/// A segment as it is made, with its slots, that stands in no table yet.
+#[derive(Debug, Drop)]
+pub struct NewSegment {
+    segment: Segment,
+    slots: Rows<u32>,
+}
+
+/// Takes the memory of an own segment of the next generation of its number. (GASPI: segment_alloc)
+pub fn make_segment(
+    alloc: Global,
+    limits: &Limits,
+    posts: &Posts,
+    call: &Alloc,
+) -> Result<NewSegment, NoMemory>
+    requires { call.now.size < 2 ^ 32 }
+    ensures { IfOk result (λ made. made ≡ new_made limits.now posts.now call.now) }
+{
+    let generation = next_generation(&posts.segments.next_generations, call.seg);
+    Ok(NewSegment {
+        segment: new_segment(alloc, generation, call.size as u32)?,
+        slots: new_slots(alloc, limits.notes)?,
+    })
+}
+
+/// Puts an own segment that was made into its tables. (GASPI: segment_alloc)
+pub fn place_segment(posts: &mut Posts, memory: &mut Memory, call: &Alloc, made: NewSegment)
+    requires { HasAllocRoom posts.old call.now }
+    ensures posts { posts.new ≡ with_own posts.old call.now.seg call.now.size }
+    ensures memory { (limits : Limits) → made ≡ new_made limits posts.old call.now → memory.new ≡ alloc_leaves limits posts.old memory.old call.now }
+{
+    let NewSegment { segment, slots } = made;
+    set_segment(memory, call.seg, Some(segment), Some(slots));
+    add_own(&mut posts.segments, call.seg, call.size as u32);
 }
 
 /// Makes an own segment of the next generation of its number. Without memory nothing changes. (GASPI: segment_alloc)
@@ -41,12 +78,8 @@ pub fn alloc_leaves(
     ensures posts_kept { OnErr result (posts.new ≡ posts.old) }
     ensures memory_kept { OnErr result (memory.new ≡ memory.old) }
 {
-    let size = call.size as u32;
-    let generation = next_generation(&posts.segments.next_generations, call.seg);
-    let segment = new_segment(alloc, generation, size)?;
-    let slots = new_slots(alloc, limits.notes)?;
-    set_segment(memory, call.seg, Some(segment), Some(slots));
-    add_own(&mut posts.segments, call.seg, size);
+    let made = make_segment(alloc, limits, posts, call)?;
+    place_segment(posts, memory, call, made);
     Ok(())
 }
 

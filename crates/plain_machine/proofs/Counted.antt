@@ -6,7 +6,8 @@ use Rattle.gaspi_types.specs.Replies.{is_idle}
 use Rattle.gaspi_types.specs.declared.calls.Call.{Call}
 use Rattle.gaspi_types.specs.declared.entries.Queue.{Queue}
 use Rattle.gaspi_types.specs.declared.events.Event.{Event}
-use Rattle.gaspi_types.specs.declared.events.Event.TheVariants.{Called}
+use Rattle.gaspi_types.specs.declared.events.Event.TheVariants.{Called, Joined}
+use Rattle.gaspi_types.specs.declared.groups.Args.{Args}
 use Rattle.gaspi_types.specs.declared.replies.Reply.{Reply}
 use Rattle.gaspi_types.specs.declared.shapes.CallerId.{CallerId}
 use Rattle.gaspi_types.specs.declared.shapes.Limits.{Limits}
@@ -19,6 +20,7 @@ use Rattle.gaspi_model.specs.declared.states.State.{State}
 use Rattle.gaspi_model.specs.declared.states.StepFault.{StepFault}
 use Rattle.gaspi_model.specs.declared.states.StepFault.TheVariants as faults
 use Rattle.gaspi_model.proofs.Made.{called-ok}
+use Rattle.gaspi_model.proofs.MetPosts.{IsMet, met-called, met-joined}
 use Rattle.plain_calls.specs.Room.{purged_queue}
 use Rattle.plain_calls.proofs.Queues.{plain_queues}
 use Rattle.plain_machine.specs.Machine.{IsCounted, is_still}
@@ -45,10 +47,10 @@ still_after l limits me posts thread call reply j is kept = by_idle (is_idle rep
     by_idle true idle = rw idle refl
     by_idle false busy = rw busy (still_done l limits me posts thread call j is kept)
 
-still_transfers : (l : Limits) (s t : State) (c : CallerId) (call : Call) (reply : Reply) → (row_of call).posting ≡ None → purged_queue call ≡ None → step s (Called c call reply) ≡ Ok t
+plain_transfers : (l : Limits) (s t : State) (c : CallerId) (call : Call) (reply : Reply) → (row_of call).group ≡ None → (row_of call).posting ≡ None → purged_queue call ≡ None → step s (Called c call reply) ≡ Ok t
     → transfers l t.posts ≡ transfers l s.posts
-still_transfers l s t c call reply none kept is =
-    let b = called_back s t c call reply is in
+plain_transfers l s t c call reply plain none kept is =
+    let b = called_back s t c call reply plain is in
     let made = called-ok s.limits c.rank b.p (call_brought s c.rank call) b.memory c.thread call reply b.after b.steps in
     let after : posts_after s.limits c.rank b.p c.thread call reply ≡ b.after.posts = sym (ap (λ (w : Worked). w.posts) made.leaves) in
     ap (transfers l) (sym b.posts)
@@ -57,6 +59,20 @@ still_transfers l s t c call reply none kept is =
     (λ rank change same. same_changed (rank_transfers l) 0 rank (slice_set s.posts c.rank b.after.posts) change (λ j peer. ap (λ (qs : List Queue). flat_map (queue_transfers j l) (enumerate_from 0 qs)) (same peer)))
     ∙ same_in (rank_transfers l) 0 c.rank s.posts b.p b.after.posts b.there
     (λ j. ap (λ (p : Posts). rank_transfers l (j, p)) (sym after) ∙ still_after l s.limits c.rank b.p c.thread call reply j none kept)
+
+-- an event on a group
+met_transfers : (l : Limits) (s t : State) (rank : ℕ) (p p' : Posts) → IsMet s t rank p p' → transfers l t.posts ≡ transfers l s.posts
+met_transfers l s t rank p p' met =
+    ap (transfers l) met.leaves
+    ∙ same_in (rank_transfers l) 0 rank s.posts p p' met.there (λ j. ap (λ (qs : List Queue). flat_map (queue_transfers j l) (enumerate_from 0 qs)) met.keeps.queues)
+
+still_transfers : (l : Limits) (s t : State) (c : CallerId) (call : Call) (reply : Reply) → (row_of call).posting ≡ None → purged_queue call ≡ None → step s (Called c call reply) ≡ Ok t
+    → transfers l t.posts ≡ transfers l s.posts
+still_transfers l s t c call reply none kept is = by_group (row_of call).group refl
+  where
+    by_group : (o : Option ℕ) → (row_of call).group ≡ o → transfers l t.posts ≡ transfers l s.posts
+    by_group None plain = plain_transfers l s t c call reply plain none kept is
+    by_group (Some id) named = let met = met-called s t c id call reply named is in met_transfers l s t c.rank met.0 met.1 met.2
 
 -- a count of transfers that are the same
 carried_on : (s t : State) (count : Option ℕ) → transfers t.limits t.posts ≡ transfers s.limits s.posts → IsCounted s count → IsCounted t count
@@ -85,3 +101,12 @@ count_kept count s t c call reply result limits is steps = by_still (is_still ca
     by_still : (b : Bool) → is_still call ≡ b → IsCounted t (if is_still call then count else None)
     by_still true still = rw still (of_still result still steps)
     by_still false moves = rw moves tt
+
+-- and where a collective joins, all of it
+pub count_joined : (count : Option ℕ) (s t : State) (c : CallerId) (id : ℕ) (args : Args) (result : Result (Unit {0}) StepFault)
+    → ((s t : State) (e : Event) → step s e ≡ Ok t → t.limits ≡ s.limits) → IsCounted s count → Steps result s t (step s (Joined c id args)) → IsCounted t count
+count_joined count s t c id args (Ok done) limits is steps =
+    let met = met-joined s t c id args steps in
+    carried_on s t count (ap (λ (l : Limits). transfers l t.posts) (limits s t (Joined c id args) steps) ∙ met_transfers s.limits s t c.rank met.0 met.1 met.2) is
+count_joined count s t c id args (Err (faults.Illegal why)) limits is steps = carried_on s t count (ap (λ (x : State). transfers x.limits x.posts) steps.1) is
+count_joined count s t c id args (Err faults.NoMemory) limits is steps = carried_on s t count (ap (λ (x : State). transfers x.limits x.posts) steps) is

@@ -3,6 +3,7 @@ use Rattle.std.proofs.Common.{◌≡◌, ℕ, zero, suc, ◌+◌, Bool, true, fa
 use Rattle.std.specs.List.{filter, flat_map, enumerate_from}
 use Rattle.std.proofs.lemmas.Bool.{eq-eqb, ne_eqb}
 use Rattle.std.proofs.lemmas.List.Elements.{filter-append}
+use Rattle.gaspi_types.specs.CallRows.{row_of}
 use Rattle.gaspi_types.specs.Replies.{is_idle}
 use Rattle.gaspi_types.specs.declared.calls.Call.{Call}
 use Rattle.gaspi_types.specs.declared.calls.Call.TheVariants.{Purge}
@@ -28,6 +29,7 @@ use Rattle.plain_calls.proofs.CallRoom.{found_by}
 use Rattle.plain_calls.proofs.Queues.{purge_queues}
 use Rattle.plain_machine.specs.Standing.{lane_id, lane_named, queue_named, rank_named, standing_lanes, event_purge, is_elsewhere}
 use Rattle.plain_machine.specs.declared.standing.LaneId.{LaneId}
+use Rattle.plain_machine.proofs.OnGroups.{purges_plain}
 use Rattle.plain_machine.proofs.Renamed.{call_posts}
 
 -- Lists made from the items of a list, of which a test keeps all, none, or those of all items but one.
@@ -136,15 +138,15 @@ purge_there limits me posts memory (Purge call) queue reply is finds =
     (q, subst (λ (n : ℕ). slice_get posts.queues n ≡ Some q) same there))
 purge_there limits me posts memory call queue reply is finds = absurd (let no : ⊥ = cc in no)
 
-pub purging : (s t : State) (c : CallerId) (call : Call) (reply : Reply) (queue : ℕ) → event_purge (Called c call reply) ≡ Some queue → step s (Called c call reply) ≡ Ok t
+-- a purge that is done
+purging_done : (s t : State) (c : CallerId) (call : Call) (reply : Reply) (queue : ℕ) → is_idle reply ≡ false → purged_queue call ≡ Some queue → (row_of call).group ≡ None → step s (Called c call reply) ≡ Ok t
     → standing_lanes t.posts ≡ filter (is_elsewhere c.rank queue) (standing_lanes s.posts)
-purging s t c call reply queue purge is =
-    let awake = some_purge (is_idle reply) (purged_queue call) queue purge in
-    let done = call_posts s t c call reply is in
-    let after : counted (posts_done s.limits c.rank done.p c.thread call) ≡ done.p' = rw awake.0 at done.by.1.after_is in
-    let made = purge_queues s.limits c.rank done.p c.thread call queue awake.1 in
-    let f = found_by s.limits c.rank done.p done.by.0 c.thread call reply done.by.1.replied awake.0 in
-    let at = purge_there s.limits c.rank done.p done.by.0 call queue f.reply_found awake.1 f.finds in
+purging_done s t c call reply queue busy purges plain is =
+    let done = call_posts s t c call reply plain is in
+    let after : counted (posts_done s.limits c.rank done.p c.thread call) ≡ done.p' = rw busy at done.by.1.after_is in
+    let made = purge_queues s.limits c.rank done.p c.thread call queue purges in
+    let f = found_by s.limits c.rank done.p done.by.0 c.thread call reply done.by.1.replied busy in
+    let at = purge_there s.limits c.rank done.p done.by.0 call queue f.reply_found purges f.finds in
     let same : counted (purged done.p queue) ≡ done.p' = ap counted (sym made) ∙ after in
     done.is
     ∙ ap (λ (x : Posts). standing_lanes (slice_set s.posts c.rank x)) (sym same)
@@ -159,3 +161,9 @@ purging s t c call reply queue purge is =
         let same : c.rank ≡ j = omega (arith, at) in
         subst (λ (n : ℕ). filter (is_elsewhere c.rank queue) (rank_named (n, p)) ≡ rank_named (n, counted (purged p queue))) same
         (rank_dropped c.rank queue p (counted (purged p queue)) q there refl)
+
+pub purging : (s t : State) (c : CallerId) (call : Call) (reply : Reply) (queue : ℕ) → event_purge (Called c call reply) ≡ Some queue → step s (Called c call reply) ≡ Ok t
+    → standing_lanes t.posts ≡ filter (is_elsewhere c.rank queue) (standing_lanes s.posts)
+purging s t c call reply queue purge is =
+    let awake = some_purge (is_idle reply) (purged_queue call) queue purge in
+    purging_done s t c call reply queue awake.0 awake.1 (purges_plain call queue awake.1) is

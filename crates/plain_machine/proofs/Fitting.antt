@@ -12,7 +12,7 @@ use Rattle.gaspi_types.specs.declared.calls.Call.{Call}
 use Rattle.gaspi_types.specs.declared.replies.Refusal.{Refusal}
 use Rattle.gaspi_types.specs.declared.replies.Reply.{Reply}
 use Rattle.gaspi_types.specs.declared.events.Event.{Event}
-use Rattle.gaspi_types.specs.declared.events.Event.TheVariants.{Called, Take, Put}
+use Rattle.gaspi_types.specs.declared.events.Event.TheVariants.{Called, Joined, Take, Put}
 use Rattle.gaspi_model.specs.State.{owed, thread_at}
 use Rattle.gaspi_model.specs.Calls.{call_asks, answer, recorded_reply, charge, posts_done, posts_after, memory_after}
 use Rattle.gaspi_model.specs.Posting.{with_post}
@@ -31,10 +31,13 @@ use Rattle.gaspi_types.proofs.Chains.{bind_then}
 use Rattle.gaspi_types.proofs.Items.{changed_at-found}
 use Rattle.plain_calls.proofs.Postings.{posting_of}
 use Rattle.plain_calls.proofs.Queues.{one_queue}
+use Rattle.gaspi_model.proofs.MetPosts.{IsMet, met-called, met-joined}
+use Rattle.gaspi_types.specs.declared.shapes.CallerId.{CallerId}
+use Rattle.plain_machine.proofs.OnGroups.{completed_memories, joined_memories}
 use Rattle.plain_machine.proofs.Reached.{called_back, taken_back, put_back, told_by}
 use Rattle.plain_machine.proofs.Kept.{take_keeps, put_keeps}
 use Rattle.gaspi_types.specs.declared.touches.Reach.{Reach}
-use Rattle.gaspi_types.specs.declared.touches.Reach.TheVariants.{Alone, OwnMemory, PeerMemory, BothMemories, PeerPosts}
+use Rattle.gaspi_types.specs.declared.touches.Reach.TheVariants.{Alone, OwnMemory, PeerMemory, BothMemories, PeerPosts, Group, GroupAndMemory}
 use Rattle.gaspi_model.specs.Parts.{memory_or_none}
 use Rattle.plain_calls.specs.Looks.{AreShort}
 use Rattle.plain_machine.specs.Reaching.{memory_at}
@@ -139,6 +142,8 @@ short_at s me reach sound = by_reach reach
     by_reach (PeerMemory rank) place m at = short rank (slice_get s.memories rank) refl place m at
     by_reach (BothMemories rank) place m at = short rank (slice_get s.memories rank) refl place m at
     by_reach (PeerPosts rank) place m at = absurd (let no : ⊥ = cc in no)
+    by_reach (Group id) place m at = absurd (let no : ⊥ = cc in no)
+    by_reach (GroupAndMemory id) place m at = short me (slice_get s.memories me) refl place m at
 
 -- the same posts
 fitting_at : (s t : State) (posts : List Posts) → posts ≡ t.posts → IsFitting (record s { posts = posts; memories = t.memories }) → IsFitting t
@@ -148,16 +153,33 @@ fitting_at s t posts same fits =
     let queues = fits.queues in
     record { ranks = rw (← same) ranks; memories = rw (← same) memories; queues = rw (← same) queues }
 
--- every step
-pub fitting_by : (s t : State) (e : Event) → IsFitting s → step s e ≡ Ok t → IsFitting t
-fitting_by s t (Called c call reply) fits is =
-    let b = called_back s t c call reply is in
+-- a call that is no collective
+fitting_called : (s t : State) (c : CallerId) (call : Call) (reply : Reply) → (row_of call).group ≡ None → IsFitting s → step s (Called c call reply) ≡ Ok t → IsFitting t
+fitting_called s t c call reply plain fits is =
+    let b = called_back s t c call reply plain is in
     let same = queues-called s.limits c.rank b.p (call_brought s c.rank call) b.memory c.thread call reply b.after b.steps in
     let recorded = fitting_with s c.rank b.p b.after.posts t.memories fits b.memories b.there same in
     let told =
     told_by (λ (ps : List Posts). IsFitting (record s { posts = ps; memories = t.memories })) (call_reach s.limits c.rank call) c.rank b.p call reply (slice_set s.posts c.rank b.after.posts) recorded
     (λ rank change kept. fitting_changed s rank change (slice_set s.posts c.rank b.after.posts) t.memories kept recorded) in
     fitting_at s t _ b.posts told
+
+-- an event on a group
+fitting_met : (s t : State) (rank : ℕ) (p p' : Posts) → IsMet s t rank p p' → length t.memories ≡ length s.memories → IsFitting s → IsFitting t
+fitting_met s t rank p p' met memories fits = fitting_at s t _ (sym met.leaves) (fitting_with s rank p p' t.memories fits memories met.there (ap length met.keeps.queues))
+
+-- every step
+pub fitting_by : (s t : State) (e : Event) → IsFitting s → step s e ≡ Ok t → IsFitting t
+fitting_by s t (Called c call reply) fits is = by_group (row_of call).group refl
+  where
+    by_group : (o : Option ℕ) → (row_of call).group ≡ o → IsFitting t
+    by_group None plain = fitting_called s t c call reply plain fits is
+    by_group (Some id) named =
+        let met = met-called s t c id call reply named is in
+        fitting_met s t c.rank met.0 met.1 met.2 (completed_memories s t c id call reply named is) fits
+fitting_by s t (Joined c id args) fits is =
+    let met = met-joined s t c id args is in
+    fitting_met s t c.rank met.0 met.1 met.2 (joined_memories s t c id args is) fits
 fitting_by s t (Take origin queue target number outcome) fits is =
     let b = taken_back s t origin queue target number outcome is in
     rw (← b.is) (fitting_with s origin b.p b.after s.memories fits refl b.there (take_keeps s.limits b.p b.memory queue target number outcome b.after b.steps).queues)

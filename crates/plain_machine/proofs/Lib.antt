@@ -1,9 +1,11 @@
 pub mod Counted
 pub mod Dropped
 pub mod Fitting
+pub mod Joining
 pub mod Kept
 pub mod Lifted
 pub mod Lists
+pub mod OnGroups
 pub mod Moved
 pub mod Opened
 pub mod Parted

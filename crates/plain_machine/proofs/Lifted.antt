@@ -1,6 +1,7 @@
 -- The step of the whole state from that of a rank's posts and the memory that is lent.
 use Rattle.std.proofs.Common.{◌≡◌, ℕ, ◌+◌, ◌^◌, ◌<◌, true, Option, None, Some, Result, Ok, Err, length, slice_get, slice_set, refl, sym, ap, subst, ◌∙◌, arith, List}
 use Rattle.std.proofs.lemmas.Bool.Decides.{nat_tests}
+use Rattle.gaspi_types.specs.CallRows.{row_of}
 use Rattle.gaspi_types.specs.Checks.{◌>>=◌, found}
 use Rattle.gaspi_types.specs.World.{are_limits}
 use Rattle.gaspi_types.specs.declared.calls.Call.{Call}
@@ -59,14 +60,14 @@ lent_steps (Err faults.NoMemory) all me p p' m m' why local there steps =
 
 -- a call on the memory that it works on, where it tells no peer
 pub called_steps : (s : State) (c : CallerId) (call : Call) (reply : Reply) (reach : Reach) (result : Result (Unit {0}) StepFault) (m : Memory) (posts' : List Posts) (m' : Memory)
-    → c.rank < length s.posts → call_reach s.limits c.rank call ≡ reach → memory_at s.memories c.rank reach ≡ m → with_memory_at s.memories c.rank reach m ≡ s.memories
+    → (row_of call).group ≡ None → c.rank < length s.posts → call_reach s.limits c.rank call ≡ reach → memory_at s.memories c.rank reach ≡ m → with_memory_at s.memories c.rank reach m ≡ s.memories
     → ((change : Posts → Posts) (all : List Posts) → with_peer_at reach change all ≡ all)
     → Steps {S = Lent} result (record { posts = s.posts; memory = m }) (record { posts = posts'; memory = m' }) (call_lent s.limits s.posts (call_brought s c.rank call) m c call reply)
     → Steps result s (record s { posts = posts'; memories = with_memory_at s.memories c.rank reach m' }) (step s (Called c call reply))
-called_steps s c call reply reach result m posts' m' within is memory kept silent steps =
+called_steps s c call reply reach result m posts' m' plain within is memory kept silent steps =
     let item = there-within s.posts c.rank within in
     let whole : Lent → State = λ w. record s { posts = with_peer_at reach (peer_after c.rank item.0 call reply) w.posts; memories = with_memory_at s.memories c.rank reach w.memory } in
-    let is_step : step s (Called c call reply) ≡ (call_lent s.limits s.posts (call_brought s c.rank call) m c call reply >>= (λ w. Ok (whole w))) = rw memory at (called_as s c call reply item.0 reach item.1 is) in
+    let is_step : step s (Called c call reply) ≡ (call_lent s.limits s.posts (call_brought s c.rank call) m c call reply >>= (λ w. Ok (whole w))) = rw memory at (called_as s c call reply item.0 reach plain item.1 is) in
     let old : whole (record { posts = s.posts; memory = m }) ≡ s =
     ap (λ (ps : List Posts). record s { posts = ps; memories = with_memory_at s.memories c.rank reach m }) (silent (peer_after c.rank item.0 call reply) s.posts)
     ∙ ap (λ (ms : List Memory). record s { memories = ms }) kept in
@@ -78,23 +79,23 @@ called_steps s c call reply reach result m posts' m' within is memory kept silen
 
 -- a call that tells a peer, and one that would have
 pub called_telling : (s : State) (c : CallerId) (call : Call) (reply : Reply) (rank : ℕ) (p q q' : Posts) (m m' : Memory) (posts' : List Posts)
-    → slice_get s.posts c.rank ≡ Some p → call_reach s.limits c.rank call ≡ PeerPosts rank → m ≡ no_memory → slice_get posts' rank ≡ Some q → q' ≡ peer_after c.rank p call reply q
+    → (row_of call).group ≡ None → slice_get s.posts c.rank ≡ Some p → call_reach s.limits c.rank call ≡ PeerPosts rank → m ≡ no_memory → slice_get posts' rank ≡ Some q → q' ≡ peer_after c.rank p call reply q
     → call_lent s.limits s.posts (call_brought s c.rank call) m c call reply ≡ Ok (record { posts = posts'; memory = m' })
     → step s (Called c call reply) ≡ Ok (record s { posts = slice_set posts' rank q' })
-called_telling s c call reply rank p q q' m m' posts' there is none peer_there told steps =
+called_telling s c call reply rank p q q' m m' posts' plain there is none peer_there told steps =
     let lent : call_lent s.limits s.posts (call_brought s c.rank call) no_memory c call reply ≡ Ok (record { posts = posts'; memory = m' }) = rw none at steps in
-    called_as s c call reply p (PeerPosts rank) there is
+    called_as s c call reply p (PeerPosts rank) plain there is
     ∙ (ap (λ (r : Result Lent Why). r >>= (λ w. Ok (record s { posts = changed_at w.posts rank (peer_after c.rank p call reply) }))) lent
     ∙ (ap (λ (ps : List Posts). Ok (record s { posts = ps })) (changed_at-found posts' rank q (peer_after c.rank p call reply) peer_there)
     ∙ ap (λ (x : Posts). Ok (record s { posts = slice_set posts' rank x })) (sym told)))
 
 pub called_untold : (s : State) (c : CallerId) (call : Call) (reply : Reply) (rank : ℕ) (p : Posts) (m m' : Memory) (posts' : List Posts) (fault : StepFault)
-    → slice_get s.posts c.rank ≡ Some p → call_reach s.limits c.rank call ≡ PeerPosts rank → m ≡ no_memory
+    → (row_of call).group ≡ None → slice_get s.posts c.rank ≡ Some p → call_reach s.limits c.rank call ≡ PeerPosts rank → m ≡ no_memory
     → Steps {S = Lent} (Err fault) (record { posts = s.posts; memory = m }) (record { posts = posts'; memory = m' }) (call_lent s.limits s.posts (call_brought s c.rank call) m c call reply)
     → Steps (Err fault) s (record s { posts = posts' }) (step s (Called c call reply))
-called_untold s c call reply rank p m m' posts' fault there is none steps =
+called_untold s c call reply rank p m m' posts' fault plain there is none steps =
     let is_step : step s (Called c call reply) ≡ (call_lent s.limits s.posts (call_brought s c.rank call) m c call reply >>= (λ w. Ok (record s { posts = changed_at w.posts rank (peer_after c.rank p call reply) }))) =
-    rw none (called_as s c call reply p (PeerPosts rank) there is) in
+    rw none (called_as s c call reply p (PeerPosts rank) plain there is) in
     subst (λ (o : Result State Why). Steps (Err fault) s (record s { posts = posts' }) o) (sym is_step)
     (lift_fault fault (record { posts = s.posts; memory = m }) (record { posts = posts'; memory = m' }) (call_lent s.limits s.posts (call_brought s c.rank call) m c call reply) s
     (λ w. record s { posts = w.posts }) (λ w. record s { posts = changed_at w.posts rank (peer_after c.rank p call reply) }) refl steps)

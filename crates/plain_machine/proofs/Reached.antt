@@ -3,23 +3,25 @@ use Rattle.std.proofs.Common.{◌≡◌, ℕ, ◌<◌, Bool, true, false, ◌==�
 use Rattle.std.proofs.lemmas.Bool.{eq-eqb, ltb-true}
 use Rattle.std.proofs.lemmas.List.{length-set}
 use Rattle.std.specs.Option.{option_map}
+use Rattle.gaspi_types.specs.CallRows.{row_of}
 use Rattle.gaspi_types.specs.Checks.{◌>>=◌, found}
 use Rattle.gaspi_types.specs.Touches.{reach_of, take_touch, put_touch}
 use Rattle.gaspi_types.specs.declared.calls.Call.{Call}
 use Rattle.gaspi_types.specs.declared.events.Event.TheVariants.{Called, Take, Put}
 use Rattle.gaspi_types.specs.declared.events.Outcome.{Outcome}
+use Rattle.gaspi_types.specs.declared.groups.Group as groups
 use Rattle.gaspi_types.specs.declared.replies.Reply.{Reply}
 use Rattle.gaspi_types.specs.declared.shapes.CallerId.{CallerId}
 use Rattle.gaspi_types.specs.declared.touches.Touch.{Touch}
 use Rattle.gaspi_types.specs.declared.touches.Touch.TheVariants as touches
 use Rattle.gaspi_types.specs.declared.touches.Reach.{Reach}
-use Rattle.gaspi_types.specs.declared.touches.Reach.TheVariants.{Alone, OwnMemory, PeerMemory, BothMemories, PeerPosts}
+use Rattle.gaspi_types.specs.declared.touches.Reach.TheVariants.{Alone, OwnMemory, PeerMemory, BothMemories, PeerPosts, Group, GroupAndMemory}
 use Rattle.gaspi_model.specs.Calls.{peer_after}
 use Rattle.gaspi_model.specs.Parts.{touched_of, parts_of, part_at, with_part, worked_memory}
 use Rattle.gaspi_types.specs.Tables.{changed_at}
-use Rattle.gaspi_model.specs.Step.{step, called, call_brought}
+use Rattle.gaspi_model.specs.Step.{step, called, call_brought, entry_touch}
 use Rattle.gaspi_model.proofs.Sound.Told.{both-touched}
-use Rattle.gaspi_model.specs.Transfers.{take, put, Worked}
+use Rattle.gaspi_model.specs.Transfers.{entry_in, take, put, Worked}
 use Rattle.gaspi_model.specs.declared.states.Posts.{Posts}
 use Rattle.gaspi_model.specs.declared.states.Memory.{Memory}
 use Rattle.gaspi_model.specs.declared.states.State.{State}
@@ -56,6 +58,16 @@ memory_peer ranks me rank (touches.PostsOf named) is = by_tests (named == me) (n
     by_tests true less is = absurd (let no : ⊥ = cc in no)
     by_tests false false is = absurd (let no : ⊥ = cc in no)
     by_tests false true is = absurd (let no : ⊥ = cc in no)
+memory_peer ranks me rank (touches.GroupOf id) is = by_test (nat_lt id 8) is
+  where
+    by_test : (less : Bool) → (if less then Group id else Alone) ≡ PeerMemory rank → IsPeer ranks me rank
+    by_test true is = absurd (let no : ⊥ = cc in no)
+    by_test false is = absurd (let no : ⊥ = cc in no)
+memory_peer ranks me rank (touches.GroupAndMemory id) is = by_test (nat_lt id 8) is
+  where
+    by_test : (less : Bool) → (if less then GroupAndMemory id else Alone) ≡ PeerMemory rank → IsPeer ranks me rank
+    by_test true is = absurd (let no : ⊥ = cc in no)
+    by_test false is = absurd (let no : ⊥ = cc in no)
 
 -- a peer whose memory is reached beside the own one
 pub both_peer : (ranks me rank : ℕ) (touch : Touch) → reach_of ranks me touch ≡ BothMemories rank → IsPeer ranks me rank
@@ -83,6 +95,16 @@ posts_peer ranks me rank (touches.PostsOf named) is = by_tests (named == me) (na
     by_tests true less a b is = absurd (let no : ⊥ = cc in no)
     by_tests false false a b is = absurd (let no : ⊥ = cc in no)
     by_tests false true a b is = let same : named ≡ rank = cc in rw (← same) (record { apart = a; within = ltb-true named ranks b })
+posts_peer ranks me rank (touches.GroupOf id) is = by_test (nat_lt id 8) is
+  where
+    by_test : (less : Bool) → (if less then Group id else Alone) ≡ PeerPosts rank → IsPeer ranks me rank
+    by_test true is = absurd (let no : ⊥ = cc in no)
+    by_test false is = absurd (let no : ⊥ = cc in no)
+posts_peer ranks me rank (touches.GroupAndMemory id) is = by_test (nat_lt id 8) is
+  where
+    by_test : (less : Bool) → (if less then GroupAndMemory id else Alone) ≡ PeerPosts rank → IsPeer ranks me rank
+    by_test true is = absurd (let no : ⊥ = cc in no)
+    by_test false is = absurd (let no : ⊥ = cc in no)
 
 -- the memory that is worked on, among all
 pub memory_as : (s : State) (me : ℕ) (posts : Posts) (reach : Reach) → worked_memory reach (parts_of s posts (touched_of me reach)) ≡ memory_at s.memories me reach
@@ -91,6 +113,8 @@ memory_as s me posts OwnMemory = refl
 memory_as s me posts (PeerMemory rank) = refl
 memory_as s me posts (BothMemories rank) = refl
 memory_as s me posts (PeerPosts rank) = refl
+memory_as s me posts (Group id) = refl
+memory_as s me posts (GroupAndMemory id) = refl
 
 -- a part that is written back as it was
 written_back : {X : Type 0} (table : List X) (place : Option ℕ) → with_part table place (part_at table place) ≡ table
@@ -118,32 +142,39 @@ peer_kept : (all : List Posts) (me rank : ℕ) (posts : Posts) → (rank == me) 
 peer_kept all me rank posts apart =
     ap (with_part (slice_set all me posts) (Some rank)) (sym (peer_there all me rank posts apart)) ∙ written_back (slice_set all me posts) (Some rank)
 
--- A call in the whole state: on its rank's posts and the memory that it works on, and then its peer is told.
-pub called_as : (s : State) (c : CallerId) (call : Call) (reply : Reply) (p : Posts) (reach : Reach) → slice_get s.posts c.rank ≡ Some p → call_reach s.limits c.rank call ≡ reach
+-- A call that is no collective in the whole state: on its rank's posts and the memory that it works on, and then its peer is told.
+pub called_as : (s : State) (c : CallerId) (call : Call) (reply : Reply) (p : Posts) (reach : Reach) → (row_of call).group ≡ None → slice_get s.posts c.rank ≡ Some p → call_reach s.limits c.rank call ≡ reach
     → step s (Called c call reply)
     ≡ (call_lent s.limits s.posts (call_brought s c.rank call) (memory_at s.memories c.rank reach) c call reply
     >>= (λ w. Ok (record s { posts = with_peer_at reach (peer_after c.rank p call reply) w.posts; memories = with_memory_at s.memories c.rank reach w.memory })))
-called_as s c call reply p reach there is = by_reach reach is (called s.limits c.rank p (call_brought s c.rank call) (memory_at s.memories c.rank reach) c.thread call reply) refl
+called_as s c call reply p reach plain there is = by_reach reach is (called s.limits c.rank p (call_brought s c.rank call) (memory_at s.memories c.rank reach) c.thread call reply) refl
   where
     by_reach : (reach : Reach) → call_reach s.limits c.rank call ≡ reach → (r : Result Worked Why) → called s.limits c.rank p (call_brought s c.rank call) (memory_at s.memories c.rank reach) c.thread call reply ≡ r
         → step s (Called c call reply)
         ≡ (call_lent s.limits s.posts (call_brought s c.rank call) (memory_at s.memories c.rank reach) c call reply
         >>= (λ w. Ok (record s { posts = with_peer_at reach (peer_after c.rank p call reply) w.posts; memories = with_memory_at s.memories c.rank reach w.memory })))
-    by_reach Alone is (Ok w) steps = rw (there, is) rw (rw is at steps) refl
-    by_reach Alone is (Err why) steps = rw (there, is) rw (rw is at steps) refl
-    by_reach OwnMemory is (Ok w) steps = rw (there, is) rw (rw is at steps) refl
-    by_reach OwnMemory is (Err why) steps = rw (there, is) rw (rw is at steps) refl
-    by_reach (PeerMemory rank) is (Ok w) steps = rw (there, is) rw (rw is at steps) refl
-    by_reach (PeerMemory rank) is (Err why) steps = rw (there, is) rw (rw is at steps) refl
+    by_reach Alone is (Ok w) steps = rw (there, is, plain) rw (rw is at steps) refl
+    by_reach Alone is (Err why) steps = rw (there, is, plain) rw (rw is at steps) refl
+    by_reach OwnMemory is (Ok w) steps = rw (there, is, plain) rw (rw is at steps) refl
+    by_reach OwnMemory is (Err why) steps = rw (there, is, plain) rw (rw is at steps) refl
+    by_reach (PeerMemory rank) is (Ok w) steps = rw (there, is, plain) rw (rw is at steps) refl
+    by_reach (PeerMemory rank) is (Err why) steps = rw (there, is, plain) rw (rw is at steps) refl
     by_reach (BothMemories rank) is (Ok w) steps =
-        rw (there, is) rw (rw is at steps)
+        rw (there, is, plain) rw (rw is at steps)
         (ap (λ (ms : List Memory). Ok (record s { posts = slice_set s.posts c.rank w.posts; memories = slice_set ms rank w.memory })) (written_back s.memories (Some c.rank)))
-    by_reach (BothMemories rank) is (Err why) steps = rw (there, is) rw (rw is at steps) refl
+    by_reach (BothMemories rank) is (Err why) steps = rw (there, is, plain) rw (rw is at steps) refl
     by_reach (PeerPosts rank) is (Ok w) steps =
-        let peer = posts_peer s.limits.ranks c.rank rank _ is in
-        rw (there, is) rw (rw is at steps)
+        let peer = posts_peer s.limits.ranks c.rank rank (row_of call).touch is in
+        rw (there, is, plain) rw (rw is at steps)
         (ap (λ (ps : List Posts). Ok (record s { posts = ps })) (peer_changed s.posts c.rank rank w.posts (peer_after c.rank p call reply) peer.apart))
-    by_reach (PeerPosts rank) is (Err why) steps = rw (there, is) rw (rw is at steps) refl
+    by_reach (PeerPosts rank) is (Err why) steps = rw (there, is, plain) rw (rw is at steps) refl
+    by_reach (Group id) is (Ok w) steps =
+        rw (there, is, plain) rw (rw is at steps) (ap (λ (gs : List groups.Group). Ok (record s { posts = slice_set s.posts c.rank w.posts; groups = gs })) (written_back s.groups (Some id)))
+    by_reach (Group id) is (Err why) steps = rw (there, is, plain) rw (rw is at steps) refl
+    by_reach (GroupAndMemory id) is (Ok w) steps =
+        rw (there, is, plain) rw (rw is at steps)
+        (ap (λ (gs : List groups.Group). Ok (record s { posts = slice_set s.posts c.rank w.posts; memories = slice_set s.memories c.rank w.memory; groups = gs })) (written_back s.groups (Some id)))
+    by_reach (GroupAndMemory id) is (Err why) steps = rw (there, is, plain) rw (rw is at steps) refl
 
 -- A take in the whole state: it reads the memory that it works on.
 pub take_as : (s : State) (origin queue target number : ℕ) (outcome : Outcome) (p : Posts) (reach : Reach) → slice_get s.posts origin ≡ Some p
@@ -172,9 +203,17 @@ take_as s origin queue target number outcome p reach there is = by_reach reach i
         ∙ ap (λ (ms : List Memory). Ok (record s { posts = slice_set s.posts origin after; memories = ms })) (written_back s.memories (Some rank)))
     by_reach (BothMemories rank) is (Err why) steps = rw (there, is) rw steps refl
     by_reach (PeerPosts rank) is (Ok after) steps =
-        let peer = posts_peer s.limits.ranks origin rank _ is in
+        let peer = posts_peer s.limits.ranks origin rank (entry_touch (take_touch target) (entry_in p queue target number)) is in
         rw (there, is) rw steps (ap (λ (ps : List Posts). Ok (record s { posts = ps })) (peer_kept s.posts origin rank after peer.apart))
     by_reach (PeerPosts rank) is (Err why) steps = rw (there, is) rw steps refl
+    by_reach (Group id) is (Ok after) steps =
+        rw (there, is) rw steps (ap (λ (gs : List groups.Group). Ok (record s { posts = slice_set s.posts origin after; groups = gs })) (written_back s.groups (Some id)))
+    by_reach (Group id) is (Err why) steps = rw (there, is) rw steps refl
+    by_reach (GroupAndMemory id) is (Ok after) steps =
+        rw (there, is) rw steps
+        (ap (λ (ms : List Memory). Ok (record s { posts = slice_set s.posts origin after; memories = ms; groups = with_part s.groups (Some id) (slice_get s.groups id) })) (written_back s.memories (Some origin))
+        ∙ ap (λ (gs : List groups.Group). Ok (record s { posts = slice_set s.posts origin after; groups = gs })) (written_back s.groups (Some id)))
+    by_reach (GroupAndMemory id) is (Err why) steps = rw (there, is) rw steps refl
 
 -- A put in the whole state: it changes the memory that it works on.
 pub put_as : (s : State) (origin queue target number : ℕ) (outcome : Outcome) (p : Posts) (reach : Reach) → slice_get s.posts origin ≡ Some p
@@ -200,9 +239,16 @@ put_as s origin queue target number outcome p reach there is = by_reach reach is
         (ap (λ (ms : List Memory). Ok (record s { posts = slice_set s.posts origin w.posts; memories = slice_set ms rank w.memory })) (written_back s.memories (Some origin)))
     by_reach (BothMemories rank) is (Err why) steps = rw (there, is) rw steps refl
     by_reach (PeerPosts rank) is (Ok w) steps =
-        let peer = posts_peer s.limits.ranks origin rank _ is in
+        let peer = posts_peer s.limits.ranks origin rank (entry_touch (put_touch target) (entry_in p queue target number)) is in
         rw (there, is) rw steps (ap (λ (ps : List Posts). Ok (record s { posts = ps })) (peer_kept s.posts origin rank w.posts peer.apart))
     by_reach (PeerPosts rank) is (Err why) steps = rw (there, is) rw steps refl
+    by_reach (Group id) is (Ok w) steps =
+        rw (there, is) rw steps (ap (λ (gs : List groups.Group). Ok (record s { posts = slice_set s.posts origin w.posts; groups = gs })) (written_back s.groups (Some id)))
+    by_reach (Group id) is (Err why) steps = rw (there, is) rw steps refl
+    by_reach (GroupAndMemory id) is (Ok w) steps =
+        rw (there, is) rw steps
+        (ap (λ (gs : List groups.Group). Ok (record s { posts = slice_set s.posts origin w.posts; memories = slice_set s.memories origin w.memory; groups = gs })) (written_back s.groups (Some id)))
+    by_reach (GroupAndMemory id) is (Err why) steps = rw (there, is) rw steps refl
 
 length-with : (memories : List Memory) (me : ℕ) (reach : Reach) (memory : Memory) → length (with_memory_at memories me reach memory) ≡ length memories
 length-with memories me Alone memory = refl
@@ -210,6 +256,8 @@ length-with memories me OwnMemory memory = length-set memories me memory
 length-with memories me (PeerMemory rank) memory = length-set memories rank memory
 length-with memories me (BothMemories rank) memory = length-set memories rank memory
 length-with memories me (PeerPosts rank) memory = refl
+length-with memories me (Group id) memory = refl
+length-with memories me (GroupAndMemory id) memory = length-set memories me memory
 
 -- A step that was made, read backwards.
 
@@ -222,8 +270,8 @@ pub record IsCalled (s t : State) (c : CallerId) (call : Call) (reply : Reply) :
   pub posts : with_peer_at (call_reach s.limits c.rank call) (peer_after c.rank p call reply) (slice_set s.posts c.rank after.posts) ≡ t.posts
   pub memories : length t.memories ≡ length s.memories
 
-pub called_back : (s t : State) (c : CallerId) (call : Call) (reply : Reply) → step s (Called c call reply) ≡ Ok t → IsCalled s t c call reply
-called_back s t c call reply is =
+pub called_back : (s t : State) (c : CallerId) (call : Call) (reply : Reply) → (row_of call).group ≡ None → step s (Called c call reply) ≡ Ok t → IsCalled s t c call reply
+called_back s t c call reply plain is =
     bind_then (found (slice_get s.posts c.rank) whys.Caller) _ _ is (λ p p_there more. by_posts p (found_there _ _ _ p_there))
   where
     reach : Reach
@@ -248,7 +296,7 @@ called_back s t c call reply is =
     by_posts : (p : Posts) → slice_get s.posts c.rank ≡ Some p → IsCalled s t c call reply
     by_posts p there =
         bind_then (called s.limits c.rank p (call_brought s c.rank call) (memory_at s.memories c.rank reach) c.thread call reply >>= (λ after. Ok (record { posts = slice_set s.posts c.rank after.posts; memory = after.memory }))) _ _
-        (rw there at (sym (called_as s c call reply p reach there refl) ∙ is)) (λ w lent more.
+        (rw there at (sym (called_as s c call reply p reach plain there refl) ∙ is)) (λ w lent more.
         bind_then (called s.limits c.rank p (call_brought s c.rank call) (memory_at s.memories c.rank reach) c.thread call reply) _ _ lent (λ after steps done.
         same p after w done more there steps))
 
@@ -321,3 +369,5 @@ told_by P OwnMemory me p call reply all kept changed = kept
 told_by P (PeerMemory rank) me p call reply all kept changed = kept
 told_by P (BothMemories rank) me p call reply all kept changed = kept
 told_by P (PeerPosts rank) me p call reply all kept changed = changed rank (peer_after me p call reply) (peer_queues me p call reply)
+told_by P (Group id) me p call reply all kept changed = kept
+told_by P (GroupAndMemory id) me p call reply all kept changed = kept

@@ -1,22 +1,27 @@
 -- A look that is recorded in the whole state.
 use Rattle.std.proofs.Common.{◌≡◌, ℕ, ◌<◌, true, false, List, Option, None, Some, Result, Ok, Err, length, slice_get, slice_set, refl, sym, ap, subst, ◌∙◌}
 use Rattle.std.proofs.lemmas.Option.{slice_get_within}
+use Rattle.gaspi_types.specs.CallRows.{row_of}
 use Rattle.gaspi_types.specs.Replies.{same_reply}
 use Rattle.gaspi_types.specs.declared.calls.Call.{Call}
 use Rattle.gaspi_types.specs.declared.events.Event.TheVariants.{Called}
 use Rattle.gaspi_types.specs.declared.replies.Reply.{Reply}
+use Rattle.gaspi_types.specs.declared.replies.Reply.TheVariants as replies
 use Rattle.gaspi_types.specs.declared.replies.Ready.{Ready}
+use Rattle.gaspi_types.specs.declared.replies.Ready.TheVariants as ready
 use Rattle.gaspi_types.specs.declared.shapes.CallerId.{CallerId}
 use Rattle.gaspi_types.specs.declared.shapes.Limits.{Limits}
 use Rattle.gaspi_types.specs.declared.touches.Reach.{Reach}
 use Rattle.gaspi_model.specs.Calls.{answer, recorded_reply}
+use Rattle.gaspi_model.specs.CollectiveCalls.{collective_answer, is_reply_of}
 use Rattle.gaspi_model.specs.State.{thread_at}
-use Rattle.gaspi_model.specs.Step.{answer_in, step, Steps, called, call_brought, is_declared, is_there}
+use Rattle.gaspi_model.specs.Step.{answer_in, group_in, step, Steps, called, call_brought, is_declared, is_there}
 use Rattle.gaspi_model.specs.Transfers.{Worked}
 use Rattle.gaspi_types.specs.Checks.{◌>>=◌}
 use Rattle.gaspi_types.specs.declared.groups.Group.{Group}
 use Rattle.gaspi_types.specs.declared.inboxes.Message.{Message}
-use Rattle.plain_calls.specs.Looks.{BringsMessage}
+use Rattle.gaspi_model.proofs.Same.{same_reply-same}
+use Rattle.plain_calls.specs.Looks.{BringsMessage, is_join}
 use Rattle.plain_calls.proofs.Looked.{brought_same}
 use Rattle.gaspi_model.specs.declared.states.Posts.{Posts}
 use Rattle.gaspi_model.specs.declared.states.Memory.{Memory}
@@ -30,6 +35,7 @@ use Rattle.plain_machine.specs.Machine.{state_of, state_in}
 use Rattle.plain_machine.specs.Reaching.{call_reach, memory_at, with_memory_at, with_peer_at, Lent, call_lent}
 use Rattle.plain_machine.specs.declared.ranks.Ranks.{Ranks}
 use Rattle.plain_machine.proofs.Lifted.{called_steps}
+use Rattle.plain_machine.proofs.OnGroups.{completed_err, plain_reply}
 use Rattle.plain_machine.proofs.Reached.{called_as, memory_as}
 
 -- a caller that has a section is of a rank that is there
@@ -49,14 +55,19 @@ declared_there s rank thread declared = by_item (slice_get s.posts rank) refl
 -- what a look finds is what the call answers
 pub finding_answers : (s : State) (c : CallerId) (call : Call) (look : Finding) → is_declared s c.rank c.thread ≡ true → IsFindingIn look s c call
     → answer_in s c.rank c.thread call ≡ Some look.ready
-finding_answers s c call look declared finds =
-    let d = declared_there s c.rank c.thread declared in
-    rw d.item (ap (λ (r : Ready). Some r) (sym (finds.finds d.posts d.item).ready))
+finding_answers s c call look declared finds = by_group (row_of call).group refl
+  where
+    d : IsThere s c.rank c.thread
+    d = declared_there s c.rank c.thread declared
 
--- a call that is no step on its rank's posts is none
-refused : (s : State) (c : CallerId) (call : Call) (reply : Reply) (p : Posts) (why : Why) → slice_get s.posts c.rank ≡ Some p
+    by_group : (o : Option ℕ) → (row_of call).group ≡ o → answer_in s c.rank c.thread call ≡ Some look.ready
+    by_group None plain = rw (d.item, plain) (ap (λ (r : Ready). Some r) (sym (finds.finds d.posts d.item plain).ready))
+    by_group (Some id) named = rw (d.item, named) (ap (λ (r : Ready). Some r) (sym (finds.meets d.posts id d.item named)))
+
+-- a call that is no step on its rank's posts is none, where it is no collective
+refused : (s : State) (c : CallerId) (call : Call) (reply : Reply) (p : Posts) (why : Why) → (row_of call).group ≡ None → slice_get s.posts c.rank ≡ Some p
     → called s.limits c.rank p (call_brought s c.rank call) (memory_at s.memories c.rank (call_reach s.limits c.rank call)) c.thread call reply ≡ Err why → step s (Called c call reply) ≡ Err why
-refused s c call reply p why there is = called_as s c call reply p (call_reach s.limits c.rank call) there refl ∙ (rw there rw is refl)
+refused s c call reply p why plain there is = called_as s c call reply p (call_reach s.limits c.rank call) plain there refl ∙ (rw there rw is refl)
 
 pub undeclared : (s : State) (c : CallerId) (call : Call) (reply : Reply) → is_declared s c.rank c.thread ≡ false → step s (Called c call reply) ≡ Err whys.Caller
 undeclared s c call reply declared = by_item (slice_get s.posts c.rank) refl
@@ -65,18 +76,36 @@ undeclared s c call reply declared = by_item (slice_get s.posts c.rank) refl
     by_item None is = rw is refl
     by_item (Some p) is =
         let gone : is_there (thread_at p c.thread) ≡ false = rw is at declared in
-        refused s c call reply p whys.Caller is (rw gone refl)
+        by_group p is gone (row_of call).group refl
+      where
+        by_group : (p : Posts) → slice_get s.posts c.rank ≡ Some p → is_there (thread_at p c.thread) ≡ false → (o : Option ℕ) → (row_of call).group ≡ o → step s (Called c call reply) ≡ Err whys.Caller
+        by_group p is gone None plain = refused s c call reply p whys.Caller plain is (rw gone refl)
+        by_group p is gone (Some id) named = completed_err s c call reply id p whys.Caller is named (rw gone refl)
+
+-- one with another reply than what the look found, of a call that is no collective
+unanswered_plain : (s : State) (c : CallerId) (call : Call) (reply : Reply) (look : Finding) → is_declared s c.rank c.thread ≡ true → (row_of call).group ≡ None → IsFindingIn look s c call
+    → is_reply_of look.ready reply ≡ false → step s (Called c call reply) ≡ Err whys.Reply
+unanswered_plain s c call reply look declared plain finds other =
+    let d = declared_there s c.rank c.thread declared in
+    let memory = memory_at s.memories c.rank (call_reach s.limits c.rank call) in
+    let ready : look.ready ≡ answer s.limits c.rank d.posts memory c.thread call =
+    (finds.finds d.posts d.item plain).ready ∙ ap (λ (m : Memory). answer s.limits c.rank d.posts m c.thread call) (memory_as s c.rank d.posts (call_reach s.limits c.rank call)) in
+    let differs : same_reply reply (recorded_reply (answer s.limits c.rank d.posts memory c.thread call)) ≡ false =
+    sym (plain_reply s.limits c.rank d.posts memory c.thread call reply) ∙ subst (λ (r : Ready). is_reply_of r reply ≡ false) ready other in
+    refused s c call reply d.posts whys.Reply plain d.item (rw (d.there, differs) refl)
 
 -- one with another reply than what the look found
 pub unanswered : (s : State) (c : CallerId) (call : Call) (reply : Reply) (look : Finding) → is_declared s c.rank c.thread ≡ true → IsFindingIn look s c call
-    → same_reply reply (recorded_reply look.ready) ≡ false → step s (Called c call reply) ≡ Err whys.Reply
-unanswered s c call reply look declared finds other =
-    let d = declared_there s c.rank c.thread declared in
-    let ready : look.ready ≡ answer s.limits c.rank d.posts (memory_at s.memories c.rank (call_reach s.limits c.rank call)) c.thread call =
-    (finds.finds d.posts d.item).ready ∙ ap (λ (m : Memory). answer s.limits c.rank d.posts m c.thread call) (memory_as s c.rank d.posts (call_reach s.limits c.rank call)) in
-    let differs : same_reply reply (recorded_reply (answer s.limits c.rank d.posts (memory_at s.memories c.rank (call_reach s.limits c.rank call)) c.thread call)) ≡ false =
-    subst (λ (r : Ready). same_reply reply (recorded_reply r) ≡ false) ready other in
-    refused s c call reply d.posts whys.Reply d.item (rw (d.there, differs) refl)
+    → is_reply_of look.ready reply ≡ false → step s (Called c call reply) ≡ Err whys.Reply
+unanswered s c call reply look declared finds other = by_group (row_of call).group refl
+  where
+    by_group : (o : Option ℕ) → (row_of call).group ≡ o → step s (Called c call reply) ≡ Err whys.Reply
+    by_group None plain = unanswered_plain s c call reply look declared plain finds other
+    by_group (Some id) named =
+        let d = declared_there s c.rank c.thread declared in
+        let differs : is_reply_of (collective_answer d.posts (group_in s id) c.rank c.thread id call) reply ≡ false =
+        subst (λ (r : Ready). is_reply_of r reply ≡ false) (finds.meets d.posts id d.item named) other in
+        completed_err s c call reply id d.posts whys.Reply d.item named (rw (d.there, differs) refl)
 
 -- what a look brought is as good as what the call brings
 pub lent_same : (look : Finding) (limits : Limits) (all : List Posts) (brought : Option Message) (memory : Memory) (c : CallerId) (call : Call) → BringsMessage look brought
@@ -98,12 +127,18 @@ limits_as r r' posts memories result s outcome limits groups steps =
 
 -- a call on the memory that it works on, among the ranks
 pub called_ranks : (ranks ranks' : Ranks) (memories : List Memory) (c : CallerId) (call : Call) (look : Finding) (reach : Reach) (result : Result (Unit {0}) StepFault) (m m' : Memory)
-    → is_declared (state_in ranks memories) c.rank c.thread ≡ true → call_reach ranks.limits c.rank call ≡ reach → memory_at memories c.rank reach ≡ m → with_memory_at memories c.rank reach m ≡ memories
+    → (row_of call).group ≡ None → is_declared (state_in ranks memories) c.rank c.thread ≡ true → call_reach ranks.limits c.rank call ≡ reach → memory_at memories c.rank reach ≡ m → with_memory_at memories c.rank reach m ≡ memories
     → ((change : Posts → Posts) (all : List Posts) → with_peer_at reach change all ≡ all) → ranks'.limits ≡ ranks.limits → ranks'.groups ≡ ranks.groups → IsFindingIn look (state_in ranks memories) c call
     → Steps {S = Lent} result (record { posts = ranks.posts; memory = m }) (record { posts = ranks'.posts; memory = m' }) (call_lent ranks.limits ranks.posts look.message m c call (recorded_reply look.ready))
     → Steps result (state_in ranks memories) (state_in ranks' (with_memory_at memories c.rank reach m')) (step (state_in ranks memories) (Called c call (recorded_reply look.ready)))
-called_ranks ranks ranks' memories c call look reach result m m' declared is memory kept silent limits groups finds steps =
+called_ranks ranks ranks' memories c call look reach result m m' plain declared is memory kept silent limits groups finds steps =
     limits_as ranks ranks' ranks'.posts (with_memory_at memories c.rank reach m') result (state_in ranks memories) _ limits groups
-    (called_steps (state_in ranks memories) c call (recorded_reply look.ready) reach result m ranks'.posts m' (declared_there (state_in ranks memories) c.rank c.thread declared).within is memory kept silent
+    (called_steps (state_in ranks memories) c call (recorded_reply look.ready) reach result m ranks'.posts m' plain (declared_there (state_in ranks memories) c.rank c.thread declared).within is memory kept silent
     (subst (λ (o : Result Lent Why). Steps {S = Lent} result (record { posts = ranks.posts; memory = m }) (record { posts = ranks'.posts; memory = m' }) o)
     (lent_same look ranks.limits ranks.posts (call_brought (state_in ranks memories) c.rank call) m c call finds.message) steps))
+
+-- a reply with which a look may be recorded is the one that it has, and it found no join
+pub recorded_by : (found : Ready) (reply : Reply) → is_reply_of found reply ≡ true → (is_join found ≡ false) × (reply ≡ recorded_reply found)
+recorded_by (ready.Reply x) reply same = (refl, same_reply-same reply x same)
+recorded_by (ready.Join args) reply same = absurd (let no : ⊥ = cc in no)
+recorded_by ready.NotReady reply same = (refl, same_reply-same reply replies.Timeout same)

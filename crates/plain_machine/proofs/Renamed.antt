@@ -16,7 +16,7 @@ use Rattle.gaspi_types.specs.declared.entries.Kind.{Kind}
 use Rattle.gaspi_types.specs.declared.entries.Phase.{Phase}
 use Rattle.gaspi_types.specs.declared.entries.Phase.TheVariants as phases
 use Rattle.gaspi_types.specs.declared.events.Event.{Event}
-use Rattle.gaspi_types.specs.declared.events.Event.TheVariants.{Called, Take, Put}
+use Rattle.gaspi_types.specs.declared.events.Event.TheVariants.{Called, Joined, Take, Put}
 use Rattle.gaspi_types.specs.declared.events.Outcome.{Outcome}
 use Rattle.gaspi_types.specs.declared.events.Outcome.TheVariants.{Applied, Failed}
 use Rattle.gaspi_types.specs.declared.replies.Refusal.{Refusal}
@@ -53,6 +53,8 @@ use Rattle.plain_calls.proofs.Queues.{plain_queues}
 use Rattle.plain_calls.specs.Room.{purged_queue}
 use Rattle.plain_calls.proofs.PostedEntries.{length-posted_entries}
 use Rattle.plain_machine.proofs.Lists.{same_in, same_changed}
+use Rattle.gaspi_model.proofs.MetPosts.{IsMet, met-called, met-joined}
+use Rattle.plain_machine.proofs.OnGroups.{posts_plain}
 use Rattle.plain_machine.proofs.Reached.{called_back, taken_back, put_back, told_by}
 use Rattle.plain_machine.proofs.Parted.{IsParted, parted_by, kept_by, named_by, unnamed_by}
 
@@ -263,10 +265,10 @@ pub record IsPosted (s t : State) (o : ℕ) (P : Posts → Posts → Type 0) : T
   pub is : standing_lanes t.posts ≡ standing_lanes (slice_set s.posts o p')
   pub by : P p p'
 
-pub call_posts : (s t : State) (c : CallerId) (call : Call) (reply : Reply) → step s (Called c call reply) ≡ Ok t
+pub call_posts : (s t : State) (c : CallerId) (call : Call) (reply : Reply) → (row_of call).group ≡ None → step s (Called c call reply) ≡ Ok t
     → IsPosted s t c.rank (λ p p'. (memory : Memory) × IsAnswered s.limits c.rank p memory c.thread call reply p')
-call_posts s t c call reply is =
-    let b = called_back s t c call reply is in
+call_posts s t c call reply plain is =
+    let b = called_back s t c call reply plain is in
     record {
       p = b.p;
       p' = b.after.posts;
@@ -288,13 +290,13 @@ lane_of_post false x id is = absurd (let no : ⊥ = cc in no)
 pub posting : (s t : State) (e : Event) (id : LaneId) → IsSound s → event_lane e ≡ Some id → is_put e ≡ false → step s e ≡ Ok t
     → IsParted id (standing_lanes s.posts) (standing_lanes t.posts) (lane_named id.origin id.queue (id.target, lane_entries s.posts id)) (id ∷ [])
 posting s t (Called c call reply) id sound lane puts is =
-    let l = some_lane (is_idle reply) (call_lane c.rank call) id lane in of_posting (row_of call).posting refl l.0 l.1 (call_posts s t c call reply is)
+    let l = some_lane (is_idle reply) (call_lane c.rank call) id lane in of_posting (row_of call).posting refl l.0 l.1
   where
     of_posting : (posting : Option Posting) → (row_of call).posting ≡ posting → is_idle reply ≡ false → posting_lane c.rank posting ≡ Some id
-        → IsPosted s t c.rank (λ p p'. (memory : Memory) × IsAnswered s.limits c.rank p memory c.thread call reply p')
         → IsParted id (standing_lanes s.posts) (standing_lanes t.posts) (lane_named id.origin id.queue (id.target, lane_entries s.posts id)) (id ∷ [])
-    of_posting None row busy lane done = absurd (let no : ⊥ = cc in no)
-    of_posting (Some posting) row busy lane done =
+    of_posting None row busy lane = absurd (let no : ⊥ = cc in no)
+    of_posting (Some posting) row busy lane =
+        let done = call_posts s t c call reply (posts_plain call posting row) is in
         let p = posting_of s.limits c.rank done.p call posting row in
         let f = found_by s.limits c.rank done.p done.by.0 c.thread call reply done.by.1.replied busy in
         let post = posted s.limits c.rank done.p done.by.0 c.thread call reply posting p f in
@@ -312,23 +314,30 @@ leaving s t (Put origin queue target number outcome) id lane puts is =
     rw (← at, ← b.posts) (put_names s.posts origin b.p b.memory queue target number outcome b.after b.there b.steps)
 leaving s t other id lane puts is = absurd (let no : ⊥ = cc in no)
 
+-- an event on a group keeps the names
+met_names : (s t : State) (rank : ℕ) (p p' : Posts) → IsMet s t rank p p' → standing_lanes t.posts ≡ standing_lanes s.posts
+met_names s t rank p p' met =
+    rw met.leaves (same_in rank_named 0 rank s.posts p p' met.there (λ j. ap (λ (qs : List Queue). flat_map (queue_named j) (enumerate_from 0 qs)) met.keeps.queues))
+
 -- any other event keeps the names
 pub quiet : (s t : State) (e : Event) → IsSound s → IsFitting s → event_lane e ≡ None → event_purge e ≡ None → step s e ≡ Ok t → standing_lanes t.posts ≡ standing_lanes s.posts
-quiet s t (Called c call reply) sound fits lane purge is = by_idle (is_idle reply) refl
+quiet s t (Called c call reply) sound fits lane purge is = by_group (row_of call).group refl
   where
-    done : IsPosted s t c.rank (λ p p'. (memory : Memory) × IsAnswered s.limits c.rank p memory c.thread call reply p')
-    done = call_posts s t c call reply is
-
-    by_idle : (idle : Bool) → is_idle reply ≡ idle → standing_lanes t.posts ≡ standing_lanes s.posts
-    by_idle true idle =
+    by_idle : IsPosted s t c.rank (λ p p'. (memory : Memory) × IsAnswered s.limits c.rank p memory c.thread call reply p') → (idle : Bool) → is_idle reply ≡ idle → standing_lanes t.posts ≡ standing_lanes s.posts
+    by_idle done true idle =
         let after : counted done.p ≡ done.p' = rw idle at done.by.1.after_is in
         rw (done.is, ← after) (same_in rank_named 0 c.rank s.posts done.p (counted done.p) done.there (λ j. refl))
-    by_idle false busy =
+    by_idle done false busy =
         let after : counted (posts_done s.limits c.rank done.p c.thread call) ≡ done.p' = rw busy at done.by.1.after_is in
         let none : call_lane c.rank call ≡ None = rw busy at lane in
         let kept : purged_queue call ≡ None = rw busy at purge in
         rw (done.is, ← after) (same_in rank_named 0 c.rank s.posts done.p (counted (posts_done s.limits c.rank done.p c.thread call)) done.there
         (λ j. quiet_call s.limits c.rank done.p done.by.0 c.thread call reply j sound.limits (fits.queues c.rank done.p done.there) done.by.1.replied busy none kept))
+
+    by_group : (o : Option ℕ) → (row_of call).group ≡ o → standing_lanes t.posts ≡ standing_lanes s.posts
+    by_group None plain = by_idle (call_posts s t c call reply plain is) (is_idle reply) refl
+    by_group (Some id) named = let met = met-called s t c id call reply named is in met_names s t c.rank met.0 met.1 met.2
+quiet s t (Joined c id args) sound fits lane purge is = let met = met-joined s t c id args is in met_names s t c.rank met.0 met.1 met.2
 quiet s t (Take origin queue target number outcome) sound fits lane purge is =
     let b = taken_back s t origin queue target number outcome is in
     rw (← b.is) (take_names s.posts origin s.limits b.p b.memory queue target number outcome b.after b.there b.steps)

@@ -1,12 +1,18 @@
 -- A look at a call in the whole state.
 use Rattle.std.specs.Prelude.{◌≡◌, ℕ, true, Option, Some, slice_get, None, if◌then◌else◌}
+use Rattle.std.specs.Option.{unwrap_or}
+use Rattle.gaspi_types.specs.CallRows.{row_of}
 use Rattle.gaspi_types.specs.declared.calls.Call.{Call}
+use Rattle.gaspi_types.specs.declared.events.Event.{Event}
+use Rattle.gaspi_types.specs.declared.events.Event.TheVariants.{Joined}
+use Rattle.gaspi_types.specs.declared.groups.Args.{Args}
 use Rattle.gaspi_types.specs.declared.shapes.CallerId.{CallerId}
 use Rattle.gaspi_types.specs.declared.shapes.Limits.{Limits}
 use Rattle.gaspi_types.specs.Replies.{is_idle}
 use Rattle.gaspi_model.specs.Calls.{recorded_reply}
+use Rattle.gaspi_model.specs.CollectiveCalls.{collective_answer, is_join_of, joining_call}
 use Rattle.gaspi_model.specs.State.{thread_at}
-use Rattle.gaspi_model.specs.Step.{call_memory, call_brought, is_there}
+use Rattle.gaspi_model.specs.Step.{call_memory, call_brought, group_in, is_there}
 use Rattle.gaspi_model.specs.declared.states.Posts.{Posts}
 use Rattle.gaspi_model.specs.declared.states.Memory.{Memory}
 use Rattle.gaspi_model.specs.declared.states.State.{State}
@@ -16,9 +22,11 @@ use Rattle.plain_calls.specs.declared.looks.Finding.{Finding}
 use Rattle.plain_machine.specs.Standing.{call_lane}
 use Rattle.plain_machine.specs.declared.standing.LaneId.{LaneId}
 
--- this is what a look at this call of this caller finds in this state
+-- This is what a look at this call of this caller finds in this state: a collective meets its group, and any other call works on a
+-- memory.
 pub record IsFindingIn (look : Finding) (s : State) (c : CallerId) (call : Call) : Type 0 where
-  pub finds : (posts : Posts) → slice_get s.posts c.rank ≡ Some posts → IsFinding look s.limits c.rank posts (call_memory s c.rank posts call) c.thread call
+  pub finds : (posts : Posts) → slice_get s.posts c.rank ≡ Some posts → (row_of call).group ≡ None → IsFinding look s.limits c.rank posts (call_memory s c.rank posts call) c.thread call
+  pub meets : (posts : Posts) (id : ℕ) → slice_get s.posts c.rank ≡ Some posts → (row_of call).group ≡ Some id → look.ready ≡ collective_answer posts (group_in s id) c.rank c.thread id call
   pub message : BringsMessage look (call_brought s c.rank call)
 
 -- the same on the posts of its rank and the memory that it works on; and its caller has a section
@@ -33,3 +41,16 @@ look_lane rank call look = if is_idle (recorded_reply look.ready) then None else
 -- the queue that a call purges whose look is recorded
 abbrev pub look_purge : Call → Finding → Option ℕ
 look_purge call look = if is_idle (recorded_reply look.ready) then None else purged_queue call
+
+-- whether a collective of a caller may join a group with these arguments in a state
+abbrev pub MayJoin : State → CallerId → ℕ → Args → Type 0
+MayJoin s c id args =
+    (posts : Posts) → slice_get s.posts c.rank ≡ Some posts → is_join_of (collective_answer posts (group_in s id) c.rank c.thread id (joining_call id args)) args ≡ true
+
+-- the group of a collective
+abbrev pub group_of : Call → ℕ
+group_of call = unwrap_or (row_of call).group 0
+
+-- the join of a call with its arguments
+abbrev pub join_event : CallerId → Call → Args → Event
+join_event c call args = Joined c (group_of call) args

@@ -1,5 +1,5 @@
 -- What an event that reaches some parts works on, with the posts of all ranks and one memory lent. (own choice)
-use Rattle.std.specs.Prelude.{◌≡◌, ℕ, ◌≤◌, true, List, length, Option, Some, Result, Ok, slice_get, slice_set}
+use Rattle.std.specs.Prelude.{◌≡◌, ℕ, ◌≤◌, nat_lt, true, if◌then◌else◌, List, length, Option, None, Some, Result, Ok, slice_get, slice_set}
 use Rattle.gaspi_types.specs.declared.inboxes.Message.{Message}
 use Rattle.gaspi_types.specs.CallRows.{row_of}
 use Rattle.gaspi_types.specs.Checks.{◌>>=◌, found}
@@ -7,13 +7,14 @@ use Rattle.gaspi_types.specs.Touches.{reach_of}
 use Rattle.gaspi_types.specs.World.{are_limits}
 use Rattle.gaspi_types.specs.declared.calls.Call.{Call}
 use Rattle.gaspi_types.specs.declared.entries.Kind.{Kind}
+use Rattle.gaspi_types.specs.declared.groups.Group as groups
 use Rattle.gaspi_types.specs.declared.replies.Reply.{Reply}
 use Rattle.gaspi_types.specs.declared.shapes.CallerId.{CallerId}
 use Rattle.gaspi_types.specs.declared.shapes.Limits.{Limits}
 use Rattle.gaspi_types.specs.declared.touches.Touch.{Touch}
 use Rattle.gaspi_types.specs.declared.touches.Reach.{Reach}
-use Rattle.gaspi_types.specs.declared.touches.Reach.TheVariants.{Alone, OwnMemory, PeerMemory, BothMemories, PeerPosts}
-use Rattle.gaspi_model.specs.Parts.{no_memory, memory_or_none, part_at, touched_of}
+use Rattle.gaspi_types.specs.declared.touches.Reach.TheVariants.{Alone, OwnMemory, PeerMemory, BothMemories, PeerPosts, Group, GroupAndMemory}
+use Rattle.gaspi_model.specs.Parts.{no_memory, memory_or_none, group_or_none, part_at, touched_of}
 use Rattle.gaspi_types.specs.Tables.{changed_at}
 use Rattle.gaspi_model.specs.Sound.{IsSoundPosts}
 use Rattle.gaspi_model.specs.Step.{called, entry_touch}
@@ -38,6 +39,8 @@ memory_at memories me OwnMemory = memory_or_none (slice_get memories me)
 memory_at memories me (PeerMemory rank) = memory_or_none (slice_get memories rank)
 memory_at memories me (BothMemories rank) = memory_or_none (slice_get memories rank)
 memory_at memories me (PeerPosts rank) = no_memory
+memory_at memories me (Group id) = no_memory
+memory_at memories me (GroupAndMemory id) = memory_or_none (slice_get memories me)
 
 -- the own memory of a rank, where it is reached; else one with no segment
 abbrev pub own_at : List Memory → ℕ → Reach → Memory
@@ -50,6 +53,8 @@ with_memory_at memories me OwnMemory memory = slice_set memories me memory
 with_memory_at memories me (PeerMemory rank) memory = slice_set memories rank memory
 with_memory_at memories me (BothMemories rank) memory = slice_set memories rank memory
 with_memory_at memories me (PeerPosts rank) memory = memories
+with_memory_at memories me (Group id) memory = memories
+with_memory_at memories me (GroupAndMemory id) memory = slice_set memories me memory
 
 -- the posts of all ranks, with those of the peer that is reached changed
 abbrev pub with_peer_at : Reach → (Posts → Posts) → List Posts → List Posts
@@ -58,6 +63,16 @@ with_peer_at OwnMemory change all = all
 with_peer_at (PeerMemory rank) change all = all
 with_peer_at (BothMemories rank) change all = all
 with_peer_at (PeerPosts rank) change all = changed_at all rank change
+with_peer_at (Group id) change all = all
+with_peer_at (GroupAndMemory id) change all = all
+
+-- the group with a number; where there is none, one without members
+abbrev pub group_at : List groups.Group → ℕ → groups.Group
+group_at table id = group_or_none (if nat_lt id 8 then slice_get table id else None)
+
+-- the groups with the one of a number replaced, where there is one
+abbrev pub with_group_at : List groups.Group → ℕ → groups.Group → List groups.Group
+with_group_at table id group = if nat_lt id 8 then slice_set table id group else table
 
 -- the posts of all ranks, and one memory
 pub record Lent : Type 0 where

@@ -8,7 +8,7 @@ use Rattle.gaspi_types.specs.declared.call_rows.Posting.{Posting}
 use Rattle.gaspi_types.specs.declared.calls.Call.{Call}
 use Rattle.gaspi_types.specs.declared.entries.Entry.{Entry}
 use Rattle.gaspi_types.specs.declared.events.Event.{Event}
-use Rattle.gaspi_types.specs.declared.events.Event.TheVariants.{Called, Take, Put}
+use Rattle.gaspi_types.specs.declared.events.Event.TheVariants.{Called, Joined, Take, Put}
 use Rattle.gaspi_types.specs.declared.events.Transfer.{Transfer}
 use Rattle.gaspi_types.specs.declared.shapes.Limits.{Limits}
 use Rattle.gaspi_model.specs.Transfers.{lane_transfers}
@@ -101,6 +101,7 @@ call_lane rank call = posting_lane rank (row_of call).posting
 -- purge has none: it takes all entries of its queue's lanes.
 abbrev pub event_lane : Event → Option LaneId
 event_lane (Called c call reply) = if is_idle reply then None else call_lane c.rank call
+event_lane (Joined c id args) = None
 event_lane (Take origin queue target number outcome) = None
 event_lane (Put origin queue target number outcome) = Some (lane_id origin queue target)
 

@@ -3,25 +3,28 @@
 ghost use Rattle.std.specs.Prelude.{◌≡◌, ◌≢◌, ◌+◌, ◌<◌, ◌↔◌, IfOk, IsOk, IsTrue, Some, None, Err, if◌then◌else◌, true, false, not, length, slice_get};
 ghost use Rattle.gaspi_types.specs.CallRows.{need_of};
 ghost use Rattle.gaspi_model.specs.State.{opening};
-ghost use Rattle.gaspi_model.specs.Step.{step, Steps, answer_in, is_declared, is_active, room_taken, transfer_event};
+ghost use Rattle.gaspi_model.specs.Step.{step, Steps, answer_in, is_declared, is_active, is_pending, room_taken, transfer_event};
 ghost use Rattle.gaspi_model.specs.Transfers.{transfers};
 ghost use Rattle.gaspi_types.specs.Replies.{is_idle};
 ghost use Rattle.gaspi_types.specs.declared.events.Event.TheVariants.{Called};
 ghost use Rattle.gaspi_types.specs.declared.replies.Ready.{Ready};
+ghost use Rattle.gaspi_types.specs.declared.replies.Ready.TheVariants.{Join};
 ghost use Rattle.gaspi_model.specs.Calls.{recorded_reply};
-ghost use Rattle.plain_calls.specs.Looks.{made_of};
+ghost use Rattle.plain_calls.specs.Looks.{is_join, made_of};
 ghost use Rattle.plain_calls.specs.Memory.{is_send, looks_with_memory, keeps_memory, takes_memory};
-ghost use Rattle.plain_machine.specs.Looking.{IsFindingIn};
+ghost use Rattle.plain_machine.specs.Looking.{IsFindingIn, join_event};
 ghost use Rattle.plain_machine.specs.Machine.{is_still};
 
 use crate::listing::{transfer_at, transfer_count, transfers};
-use crate::looking::{has_section, look_in, record_named};
+use crate::looking::{has_section, is_pending_in, join_found, look_in, record_named};
 use crate::opening::{all_groups, all_memories, all_posts, all_taken};
 use crate::ranks::Ranks;
 use crate::standing::LaneId;
 use crate::steps::{make, step};
 use gaspi_model::{Memory, StepFault, soundness};
-use gaspi_types::{Call, CallerId, Event, NoMemory, RankId, Ready, Reply, Rows, Shape, Transfer};
+use gaspi_types::{
+    Args, Call, CallerId, Event, NoMemory, RankId, Ready, Reply, Rows, Shape, Transfer,
+};
 use plain_calls::{Finding, is_running, thread_at};
 use std::alloc::Global;
 use std::marker::Model;
@@ -92,7 +95,8 @@ impl Machine {
     }
 
     /// Steps by an event. At Ok the step's state stands; an illegal event is no step, for that cause, and changed
-    /// nothing; without memory nothing changed. Loads, posts, sends, takes and segments that are made alone may want memory.
+    /// nothing; without memory nothing changed. Loads, posts, sends, allreduces, joins, takes and segments that are made alone may
+    /// want memory.
     pub fn step(&mut self, alloc: Global, event: &Event) -> Result<(), StepFault>
         ensures step { Steps result self.old self.new (step self.old event.now) }
         ensures ample { takes_memory event.now ≡ false → result ≢ Err StepFault.NoMemory }
@@ -108,9 +112,10 @@ impl Machine {
         )
     }
 
-    /// Looks at a call of a caller: its refusal or its reply, or that it is not ready, and what it asks to be appended. Only
-    /// a load takes memory, for the bytes that it reads, the post of a list, for its entries, and a send that is done, for its
-    /// message: a look at one that is refused or not ready takes none.
+    /// Looks at a call of a caller: its refusal or its reply, or that it is a collective which may join its group, or that it is not
+    /// ready; and what it asks to be appended. Only a load takes memory, for the bytes that it reads, the post of a list, for its
+    /// entries, an allreduce, for its numbers, and a send that is done, for its message: a look at one that is refused or not ready
+    /// takes none.
     pub fn look(&self, alloc: Global, caller: CallerId, call: &Call) -> Result<Finding, NoMemory>
         requires { is_declared self.now caller.rank caller.thread ≡ true }
         ensures look { IfOk result (λ look. IsFindingIn look self.now caller call.now) }
@@ -123,8 +128,8 @@ impl Machine {
     }
 
     /// Records a look at a call: the step by the call with what the look found. It gives the reply with which the call was
-    /// recorded. The look is one of this very call in this very state, so that nothing is looked for again, and an event
-    /// that is no step is one for which the rank has no room. Posts, messages and segments that are made alone may want
+    /// recorded. The look is one of this very call in this very state, and found no join, so that nothing is looked for again, and
+    /// an event that is no step is one for which the rank has no room. Posts, messages and segments that are made alone may want
     /// memory.
     pub fn record(
         &mut self,
@@ -135,6 +140,7 @@ impl Machine {
     ) -> Result<Reply, StepFault>
         requires declared { is_declared self.old caller.rank caller.thread ≡ true }
         requires look { IsFindingIn look self.old caller call.now }
+        requires unjoined { is_join look.ready ≡ false }
         ensures reply { IfOk result (λ reply. reply ≡ recorded_reply look.ready) }
         ensures step { Steps (made_of result) self.old self.new (step self.old (Called caller call.now (recorded_reply look.ready))) }
         ensures ample { keeps_memory call.now ≡ false → result ≢ Err StepFault.NoMemory }
@@ -152,8 +158,34 @@ impl Machine {
         )
     }
 
-    /// What a look at a call answers: its refusal or its reply, or that it is not ready. Only a load, the post of a list
-    /// and a send that is done take memory.
+    /// Joins: the step by the join of a collective of a caller to its group, where a look at it in this very state found that it may,
+    /// with these arguments. It gives the event. The collective is then pending for its caller. An event that is no step is one for
+    /// which the rank has no room; without memory nothing changed. (GASPI: collectives)
+    pub fn join(
+        &mut self,
+        alloc: Global,
+        caller: CallerId,
+        call: &Call,
+        args: Args,
+    ) -> Result<Event, StepFault>
+        requires declared { is_declared self.old caller.rank caller.thread ≡ true }
+        requires joins { answer_in self.old caller.rank caller.thread call.now ≡ Some (Join args) }
+        ensures event { IfOk result (λ event. event ≡ join_event caller call.now args) }
+        ensures step { Steps (made_of result) self.old self.new (step self.old (join_event caller call.now args)) }
+    {
+        soundness();
+        join_found(
+            &mut self.ranks,
+            &mut self.memories,
+            alloc,
+            caller,
+            call,
+            args,
+        )
+    }
+
+    /// What a look at a call answers: its refusal or its reply, or that it is a collective which may join its group, with its
+    /// arguments, or that it is not ready. Only a load, the post of a list, an allreduce and a send that is done take memory.
     pub fn answer(&self, alloc: Global, caller: CallerId, call: &Call) -> Result<Ready, NoMemory>
         requires { is_declared self.now caller.rank caller.thread ≡ true }
         ensures answer { IfOk result (λ ready. answer_in self.now caller.rank caller.thread call.now ≡ Some ready) }
@@ -233,12 +265,20 @@ impl Machine {
         rank.index() < self.ranks.posts.len()
     }
 
-    /// How much room a call of a caller needs in its rank's count of events.
+    /// How much room a call of a caller needs in its rank's count of events: a collective that has not joined needs its join besides.
     pub fn need(&self, caller: CallerId, call: &Call) -> u64
         requires { is_declared self.now caller.rank caller.thread ≡ true }
-        ensures { result ≡ need_of call.now false (not (is_active self.now caller.rank caller.thread)) }
+        ensures { result ≡ need_of call.now (is_pending self.now caller.rank caller.thread call.now) (not (is_active self.now caller.rank caller.thread)) }
     {
-        gaspi_types::need(call, false, !self.is_active(caller))
+        let pending = is_pending_in(&self.ranks, &caller, call);
+        gaspi_types::need(call, pending, !self.is_active(caller))
+    }
+
+    /// Whether a collective is pending for a caller on the group that a call names. (GASPI: collectives, timeouts)
+    pub fn is_pending(&self, caller: CallerId, call: &Call) -> bool
+        ensures { result ≡ is_pending self.now caller.rank caller.thread call.now }
+    {
+        is_pending_in(&self.ranks, &caller, call)
     }
 
     /// Whether a caller has a section.

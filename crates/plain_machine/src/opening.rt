@@ -6,12 +6,11 @@ ghost use Rattle.std.specs.List.{list_any, range_with_len};
 ghost use Rattle.gaspi_types.specs.Segments.{new_segment};
 ghost use Rattle.gaspi_types.specs.World.{is_caller};
 ghost use Rattle.gaspi_model.specs.State.{declared_size, opening_extents, opening_generations, opening_thread, opening_queue, opening_table, opening_posts, opening_segments, opening_slots, opening_memory, opening_part, opening_group, new_slots, is_running};
-ghost use Rattle.gaspi_types.specs.Groups.{opening_handles};
 
 use gaspi_model::{Memory, Posts, ThreadState};
 use gaspi_types::{
-    Entry, Extent, Extents, Group, Handle, Handles, NoMemory, OwnSegments, Part, Pending, Queue,
-    Rows, Segment, SegmentTable, Shape, Stage, all_below,
+    Entry, Extent, Extents, Group, Handles, NoMemory, OwnSegments, Part, Pending, Queue, Rows,
+    Segment, SegmentTable, Shape, all_below,
 };
 use plain_calls::{is_running, new_slots};
 use segment_tables::new_segment;
@@ -160,19 +159,6 @@ fn opening_table(alloc: Global, shape: &Shape, rank: u32) -> Result<SegmentTable
     })
 }
 
-/// The groups of a rank: group 0 alone, which has every rank.
-fn opening_handles(alloc: Global, ranks: u32) -> Result<Handles, NoMemory>
-    requires { ranks ≤ 16 }
-    ensures { IfOk result (λ groups. groups ≡ opening_handles ranks) }
-{
-    let mut table = Rows::from_vec(vec![in alloc; None; 8]?);
-    *table.at_mut(0) = Some(Handle {
-        stage: Stage::Committed,
-        members: all_below(ranks),
-    });
-    Ok(Handles { table, made: 0 })
-}
-
 /// No collective is pending on any group.
 fn opening_pending(alloc: Global) -> Result<Rows<Option<Pending>>, NoMemory>
     ensures { IfOk result (λ pending. pending ≡ replicate 8 None) }
@@ -193,7 +179,7 @@ fn opening_posts(alloc: Global, shape: &Shape, rank: u32) -> Result<Posts, NoMem
         queues: opening_queues(alloc, shape.queues(), ranks)?,
         corrupt: opening_corrupt(alloc, ranks)?,
         segments: opening_table(alloc, shape, rank)?,
-        groups: opening_handles(alloc, ranks)?,
+        groups: Handles::opening(alloc, ranks)?,
         pending: opening_pending(alloc)?,
         threads: opening_threads(alloc, shape, rank)?,
         events: 0,

@@ -1,11 +1,11 @@
 //! What an event reaches beside its owner's posts, and the memory that it works on. (own choice)
 
 ghost use Rattle.std.specs.Prelude.{◌≡◌, ◌≤◌, slice_get};
-ghost use Rattle.gaspi_model.specs.Parts.{no_memory, memory_or_none};
-ghost use Rattle.plain_machine.specs.Reaching.{call_reach, memory_at, own_at};
+ghost use Rattle.gaspi_model.specs.Parts.{no_memory, memory_or_none, no_group};
+ghost use Rattle.plain_machine.specs.Reaching.{call_reach, memory_at, own_at, group_at};
 
 use gaspi_model::Memory;
-use gaspi_types::{Call, Limits, RankId, Reach, Rows};
+use gaspi_types::{Call, Group, Limits, RankId, Reach, Rows};
 use std::alloc::Global;
 
 /// What a call of a rank reaches.
@@ -24,6 +24,30 @@ pub fn no_memory(alloc: Global) -> Memory
         segments: Rows::new(alloc),
         slots: Rows::new(alloc),
         inbox: Rows::new(alloc),
+    }
+}
+
+/// A group without members and parts, for a number that no group has. It takes no memory.
+pub fn no_group(alloc: Global) -> Group
+    ensures { result ≡ no_group }
+{
+    Group {
+        members: None,
+        parts: Rows::new(alloc),
+    }
+}
+
+/// The group with a number, to be read; where there is none, one without members.
+pub fn group_in<'a>(groups: &'a Rows<Group>, none: &'a Group, id: u64) -> &'a Group
+    requires { none.now ≡ no_group }
+    ensures { result.now ≡ group_at groups.now id }
+{
+    if id >= 8 {
+        return none;
+    }
+    match groups.get(id as usize) {
+        Some(group) => group,
+        None => none,
     }
 }
 
@@ -49,9 +73,9 @@ pub fn worked_memory<'a>(
     ensures { result.now ≡ memory_at memories.now me reach }
 {
     match reach {
-        Reach::OwnMemory => memory_of(memories, none, me),
+        Reach::OwnMemory | Reach::GroupAndMemory(_) => memory_of(memories, none, me),
         Reach::PeerMemory(rank) | Reach::BothMemories(rank) => memory_of(memories, none, rank),
-        Reach::Alone | Reach::PeerPosts(_) => none,
+        Reach::Alone | Reach::PeerPosts(_) | Reach::Group(_) => none,
     }
 }
 
@@ -66,7 +90,9 @@ pub fn own_memory<'a>(
     ensures { result.now ≡ own_at memories.now me reach }
 {
     match reach {
-        Reach::OwnMemory | Reach::BothMemories(_) => memory_of(memories, none, me),
-        Reach::Alone | Reach::PeerMemory(_) | Reach::PeerPosts(_) => none,
+        Reach::OwnMemory | Reach::BothMemories(_) | Reach::GroupAndMemory(_) => {
+            memory_of(memories, none, me)
+        }
+        Reach::Alone | Reach::PeerMemory(_) | Reach::PeerPosts(_) | Reach::Group(_) => none,
     }
 }

@@ -11,7 +11,7 @@ ghost use Rattle.plain_machine.specs.Machine.{AreWhole, IsMachine, state_in, tak
 ghost use Rattle.plain_machine.specs.Entries.{found_at, reached_outcome, memories_after_put, spared};
 ghost use Rattle.plain_machine.specs.Standing.{standing_lanes};
 
-use crate::looking::step_called;
+use crate::looking::{step_called, step_joined};
 use crate::ranks::Ranks;
 use crate::reaching::{no_memory, worked_memory};
 use crate::standing::{LaneId, has_entry, unname_lane};
@@ -93,7 +93,8 @@ fn put_reached(
         Reach::OwnMemory => put_bytes(memories.at_mut(me.index()), at, given),
         Reach::PeerMemory(peer) => put_bytes(memories.at_mut(peer.index()), at, given),
         Reach::BothMemories(peer) => put_bytes(memories.at_mut(peer.index()), at, given),
-        Reach::Alone | Reach::PeerPosts(_) => {
+        Reach::GroupAndMemory(_) => put_bytes(memories.at_mut(me.index()), at, given),
+        Reach::Alone | Reach::PeerPosts(_) | Reach::Group(_) => {
             let mut none = no_memory(alloc);
             put_bytes(&mut none, at, given)
         }
@@ -182,6 +183,9 @@ pub fn step(
     match event {
         Event::Called(caller, call, reply) => {
             step_called(ranks, memories, standing, alloc, *caller, call, reply)
+        }
+        Event::Joined(caller, id, args) => {
+            step_joined(ranks, memories, alloc, *caller, *id, args)
         }
         Event::Take(origin, queue, target, number, outcome) => {
             let id = LaneId {

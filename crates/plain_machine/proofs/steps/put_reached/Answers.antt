@@ -1,5 +1,5 @@
 use Rattle.std.proofs.Common.{sym, refl, inl, inr}
-use Rattle.gaspi_types.specs.declared.touches.Reach.TheVariants.{Alone, OwnMemory, PeerMemory, BothMemories, PeerPosts}
+use Rattle.gaspi_types.specs.declared.touches.Reach.TheVariants.{Alone, OwnMemory, PeerMemory, BothMemories, PeerPosts, Group, GroupAndMemory}
 use Rattle.gaspi_types.proofs.Items.{set-there}
 use Rattle.plain_calls.specs.Looks.{made_of}
 use Rattle.plain_machine.specs.Entries.{found_at}
@@ -24,10 +24,20 @@ returns-in-BothMemories-clause-step c =
     rw (c.index-in-BothMemories.ensures.value, c.in-BothMemories.is)
     (put_reaches c.args.memories.now c.args.me (BothMemories c.in-BothMemories.peer) (found_at c.args.at.now) c.args.given (made_of c.put_bytes-in-BothMemories.result) _ c.put_bytes-in-BothMemories.new.memory (rw there refl) (set-there c.args.memories.now c.in-BothMemories.peer _ there) c.put_bytes-in-BothMemories.ensures.step)
 
+pub returns-in-GroupAndMemory-clause-step : goal.returns-in-GroupAndMemory-clause-step
+returns-in-GroupAndMemory-clause-step c =
+    let there = rw c.index-in-GroupAndMemory.ensures.value at c.at_mut-in-GroupAndMemory.ensures.value in
+    rw (c.index-in-GroupAndMemory.ensures.value, c.in-GroupAndMemory.is)
+    (put_reaches c.args.memories.now c.args.me (GroupAndMemory c.in-GroupAndMemory.field-0) (found_at c.args.at.now) c.args.given (made_of c.put_bytes-in-GroupAndMemory.result) _ c.put_bytes-in-GroupAndMemory.new.memory (rw there refl) (set-there c.args.memories.now c.args.me _ there) c.put_bytes-in-GroupAndMemory.ensures.step)
+
 pub returns-in-Alone-clause-step : goal.returns-in-Alone-clause-step
 returns-in-Alone-clause-step c =
     let none = sym c.no_memory-none.ensures in
     elim c.in-Alone.is [
       | inl is ↦ rw is (put_reaches c.args.memories.now c.args.me Alone (found_at c.args.at.now) c.args.given (made_of c.put_bytes-in-Alone.result) _ c.put_bytes-in-Alone.new.memory none refl c.put_bytes-in-Alone.ensures.step)
-      | inr is ↦ rw is.1 (put_reaches c.args.memories.now c.args.me (PeerPosts is.0) (found_at c.args.at.now) c.args.given (made_of c.put_bytes-in-Alone.result) _ c.put_bytes-in-Alone.new.memory none refl c.put_bytes-in-Alone.ensures.step)
+      | inr other ↦
+          elim other [
+            | inl is ↦ rw is.1 (put_reaches c.args.memories.now c.args.me (PeerPosts is.0) (found_at c.args.at.now) c.args.given (made_of c.put_bytes-in-Alone.result) _ c.put_bytes-in-Alone.new.memory none refl c.put_bytes-in-Alone.ensures.step)
+            | inr is ↦ rw is.1 (put_reaches c.args.memories.now c.args.me (Group is.0) (found_at c.args.at.now) c.args.given (made_of c.put_bytes-in-Alone.result) _ c.put_bytes-in-Alone.new.memory none refl c.put_bytes-in-Alone.ensures.step)
+          ]
     ]

@@ -1,0 +1,12 @@
+-- A segment that is made, before it stands in a table.
+use Rattle.gaspi_types.specs.Segments.{new_segment}
+use Rattle.gaspi_types.specs.SegmentTables.{next_generation}
+use Rattle.gaspi_types.specs.declared.calls.segments.Alloc.{Alloc}
+use Rattle.gaspi_types.specs.declared.shapes.Limits.{Limits}
+use Rattle.gaspi_model.specs.State.{new_slots}
+use Rattle.gaspi_model.specs.declared.states.Posts.{Posts}
+use Rattle.plain_calls.specs.declared.segment_calls.NewSegment.{NewSegment}
+
+-- of the next generation of its number, with all its bytes and slots zero
+abbrev pub new_made : Limits → Posts → Alloc → NewSegment
+new_made limits posts call = record { segment = new_segment (next_generation posts.segments.next_generations call.seg) call.size; slots = new_slots limits.notes }

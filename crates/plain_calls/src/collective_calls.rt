@@ -1,0 +1,299 @@
+//! The collective calls: what a look at one finds. (GASPI: collectives, groups, segments, timeouts)
+
+ghost use Rattle.std.specs.Prelude.{◌≡◌, ℕ, length, true, false, Ok, OnOk, IfOk, IsOk};
+ghost use Rattle.std.specs.Option.{option_copied, option_map};
+ghost use Rattle.gaspi_types.specs.Collectives.{part_of, is_turn_full};
+ghost use Rattle.gaspi_types.specs.Groups.{fix_checks};
+ghost use Rattle.gaspi_types.specs.Tables.{entry_at};
+ghost use Rattle.gaspi_types.specs.declared.calls.Call.TheVariants as calls;
+ghost use Rattle.gaspi_model.specs.CollectiveCalls.{element_checks, committed_at, building_with, staged_at, no_values, plain_args, args_of, segment_checks, meeting_checks, fresh_finds, full_reply, resumed_finds, collective_ready, collective_answer, is_join_of, joining_call};
+ghost use Rattle.gaspi_model.specs.Contributions.{IsSoundGroup, IsSoundPart};
+ghost use Rattle.plain_calls.specs.Memory.{is_allreduce};
+ghost use Rattle.plain_calls.specs.Turns.{called_on, IsReducible};
+
+use crate::contributions::{check_turn, is_turn_full, turn_fold};
+use crate::threads::{is_running, thread_at};
+use collective_rules::{check_count, check_type, resume};
+use gaspi_model::Posts;
+use gaspi_types::{
+    Allreduce, Args, Barrier, Call, Coll, Commit, Create, Group, Handle, Handles, NoMemory,
+    NumType, Numbers, Pending, RankId, Ready, Refusal, Reply, Resume, Rows, Stage, ThreadId,
+    is_member,
+};
+use reply_comparison::same_args;
+use segment_tables::check_alloc;
+use std::alloc::Global;
+
+/// Checks the elements of an allreduce: their count, and then their type. (GASPI: allreduce)
+fn check_elements(call: &Call) -> Result<(), Refusal>
+    ensures { result ≡ element_checks call.now }
+{
+    match call {
+        Call::Allreduce(call) => {
+            check_count(call.values.items().len() as u64)?;
+            check_type(call.values.num_type())
+        }
+        _ => Ok(()),
+    }
+}
+
+/// The group with a number, if it is committed: else `NoGroup`, or `GroupStage`.
+fn committed_at(groups: &Handles, id: u64) -> Result<Handle, Refusal>
+    ensures { result ≡ committed_at groups.now id }
+{
+    let handle = groups.handle(id).ok_or(Refusal::NoGroup)?;
+    match handle.stage {
+        Stage::Committed => Ok(handle),
+        Stage::Building => Err(Refusal::GroupStage {
+            stage: handle.stage,
+        }),
+    }
+}
+
+/// The group with a number, if it is built yet and has the rank: else `NoGroup`, `GroupStage` or `NotMember`.
+fn building_with(groups: &Handles, me: RankId, id: u64) -> Result<Handle, Refusal>
+    ensures { result ≡ building_with groups.now me id }
+{
+    let handle = groups.building(id)?;
+    if !is_member(handle.members, me) {
+        return Err(Refusal::NotMember);
+    }
+    Ok(handle)
+}
+
+/// The group on which a collective may be called: a commit on one that is built yet, each other on one that is committed.
+fn staged_at(groups: &Handles, me: RankId, id: u64, call: &Call) -> Result<Handle, Refusal>
+    ensures { result ≡ staged_at groups.now me id call.now }
+{
+    match call {
+        Call::Commit(_) => building_with(groups, me, id),
+        _ => committed_at(groups, id),
+    }
+}
+
+/// The group of a collective that is not refused whatever is pending on it.
+fn called_on(posts: &Posts, me: RankId, id: u64, call: &Call) -> Result<Handle, Refusal>
+    ensures group { result ≡ called_on posts.now.groups me id call.now }
+    ensures elements { OnOk result (element_checks call.now ≡ Ok tt) }
+{
+    check_elements(call)?;
+    staged_at(&posts.groups, me, id, call)
+}
+
+/// No values, as all collectives but an allreduce have.
+fn no_values(alloc: Global) -> Numbers
+    ensures { result ≡ no_values }
+{
+    Numbers::new(NumType::Int, Rows::new(alloc))
+}
+
+/// What a segment_create is asked for: its numbers have to fit 32 bits.
+fn create_coll(call: &Create) -> Option<Coll>
+    ensures { (members : ℕ) → option_map plain_args result ≡ args_of members (calls.Create call.now) }
+{
+    if call.seg > u64::from(u32::MAX) || call.size > u64::from(u32::MAX) {
+        return None;
+    }
+    Some(Coll::Create(call.seg as u32, call.size as u32))
+}
+
+/// What a collective without values is asked for, where its group has those members.
+fn plain_coll(members: u32, call: &Call) -> Option<Coll>
+    ensures { is_allreduce call.now ≡ false → option_map plain_args result ≡ args_of members call.now }
+{
+    match call {
+        Call::Commit(_) => Some(Coll::Commit(members)),
+        Call::Barrier(_) => Some(Coll::Barrier),
+        Call::Create(call) => create_coll(call),
+        _ => None,
+    }
+}
+
+/// The arguments of a collective, where its group has those members; one whose numbers are over 32 bits has none. Only an
+/// allreduce takes memory, for its values.
+fn args_of(alloc: Global, members: u32, call: &Call) -> Result<Option<Args>, NoMemory>
+    requires { element_checks call.now ≡ Ok tt }
+    ensures args { IfOk result (λ args. args ≡ args_of members call.now) }
+    ensures ample { is_allreduce call.now ≡ false → IsOk result }
+{
+    if let Call::Allreduce(call) = call {
+        let values = call.values.copy(alloc)?;
+        let count = call.values.items().len() as u32;
+        let coll = Coll::Allreduce(call.op, call.values.num_type(), count);
+        return Ok(Some(Args { coll, values }));
+    }
+    match plain_coll(members, call) {
+        Some(coll) => Ok(Some(Args {
+            coll,
+            values: no_values(alloc),
+        })),
+        None => Ok(None),
+    }
+}
+
+/// The collective of a rank that is pending on a group.
+fn pending_at(posts: &Posts, id: u64) -> Option<&Pending>
+    ensures { option_copied result ≡ entry_at posts.now.pending id }
+{
+    match posts.pending.get(id as usize) {
+        Some(Some(pending)) => Some(pending),
+        Some(None) | None => None,
+    }
+}
+
+/// Checks the segment that a collective makes, if it does. (GASPI: segment_create)
+fn check_segment(posts: &Posts, call: &Call) -> Result<(), Refusal>
+    ensures { result ≡ segment_checks posts.now call.now }
+{
+    match call {
+        Call::Create(call) => check_alloc(&posts.segments.own, call.seg, call.size),
+        _ => Ok(()),
+    }
+}
+
+/// Checks a list of ranks that is to be committed: it is the one that is fixed for its group, if one is. (own choice)
+fn check_fixed(fixed: Option<u32>, mask: u32) -> Result<(), Refusal>
+    ensures { result ≡ fix_checks fixed mask }
+{
+    match fixed {
+        Some(kept) if kept != mask => Err(Refusal::GroupMismatch { kept }),
+        _ => Ok(()),
+    }
+}
+
+/// Checks a collective by what other ranks have brought to its group: a commit by the list that is fixed, each other by the turn.
+fn check_meeting(group: &Group, me: RankId, coll: Coll) -> Result<(), Refusal>
+    ensures { result ≡ meeting_checks group.now me coll }
+{
+    match coll {
+        Coll::Commit(mask) => check_fixed(group.members, mask),
+        _ => check_turn(group, me, coll),
+    }
+}
+
+/// Looks at a collective of which none is pending: whether it may join, with its arguments.
+fn fresh_finds(
+    posts: &Posts,
+    group: &Group,
+    me: RankId,
+    args: Option<Args>,
+    call: &Call,
+) -> Result<Ready, Refusal>
+    ensures { (members : ℕ) → args ≡ args_of members call.now → result ≡ fresh_finds posts.now group.now me members call.now }
+{
+    check_segment(posts, call)?;
+    let args = args.ok_or(Refusal::BadSize)?;
+    check_meeting(group, me, args.coll)?;
+    Ok(Ready::Join(args))
+}
+
+/// What a collective answers whose turn is full. Only an allreduce takes memory, for its numbers. (GASPI: allreduce)
+fn full_reply(alloc: Global, group: &Group, me: RankId, call: &Call) -> Result<Reply, NoMemory>
+    requires full { is_turn_full group.now me ≡ true }
+    requires reducible { IsReducible group.now me call.now }
+    ensures reply { IfOk result (λ reply. reply ≡ full_reply group.now me call.now) }
+    ensures ample { is_allreduce call.now ≡ false → IsOk result }
+{
+    match call {
+        Call::Allreduce(call) => {
+            let total = turn_fold(alloc, group, me, call.op, call.values.num_type())?;
+            Ok(Reply::List(total))
+        }
+        _ => Ok(Reply::Done),
+    }
+}
+
+/// Looks at a collective that is pending for its caller: ready where its turn is full.
+fn resumed_finds(alloc: Global, group: &Group, me: RankId, call: &Call) -> Result<Ready, NoMemory>
+    requires reducible { IsReducible group.now me call.now }
+    ensures finds { IfOk result (λ ready. ready ≡ resumed_finds group.now me call.now) }
+    ensures ample { is_allreduce call.now ≡ false → IsOk result }
+{
+    if !is_turn_full(group, me) {
+        return Ok(Ready::NotReady);
+    }
+    Ok(Ready::Reply(full_reply(alloc, group, me, call)?))
+}
+
+/// What a look found, or its refusal, in one value.
+fn collective_ready(finds: Result<Ready, Refusal>) -> Ready
+    ensures { result ≡ collective_ready finds }
+{
+    match finds {
+        Ok(ready) => ready,
+        Err(refusal) => Ready::Reply(Reply::Refused(refusal)),
+    }
+}
+
+/// Looks at a collective of a rank on a group: it may join, with these arguments, or it is not ready, or it is refused or ready, with
+/// its reply. Only an allreduce takes memory, for its values and for the numbers of a full turn. The cost goes by members and
+/// elements, never by turns. (GASPI: collectives, timeouts)
+pub fn collective_look(
+    alloc: Global,
+    posts: &Posts,
+    group: &Group,
+    me: RankId,
+    thread: ThreadId,
+    id: u64,
+    call: &Call,
+) -> Result<Ready, NoMemory>
+    requires group { IsSoundGroup (length group.now.parts) group.now }
+    requires part { IsSoundPart posts.now.events (entry_at posts.now.pending id) (part_of group.now me) }
+    ensures look { IfOk result (λ ready. ready ≡ collective_answer posts.now group.now me thread id call.now) }
+    ensures ample { is_allreduce call.now ≡ false → IsOk result }
+{
+    if !is_running(thread_at(posts, thread)) {
+        return Ok(collective_ready(Err(Refusal::CallerEnded)));
+    }
+    let handle = match called_on(posts, me, id, call) {
+        Ok(handle) => handle,
+        Err(refusal) => return Ok(collective_ready(Err(refusal))),
+    };
+    let args = args_of(alloc, handle.members, call)?;
+    match resume(pending_at(posts, id), thread, args.as_ref()) {
+        Ok(Resume::Fresh) => Ok(collective_ready(fresh_finds(posts, group, me, args, call))),
+        Ok(Resume::Same) => resumed_finds(alloc, group, me, call),
+        Err(refusal) => Ok(collective_ready(Err(refusal))),
+    }
+}
+
+/// The collective that joins with those arguments.
+fn joining_call(alloc: Global, id: u64, args: &Args) -> Result<Call, NoMemory>
+    ensures { IfOk result (λ call. call ≡ joining_call id args.now) }
+{
+    Ok(match args.coll {
+        Coll::Barrier => Call::Barrier(Barrier { group: id }),
+        Coll::Allreduce(op, _, _) => Call::Allreduce(Allreduce {
+            group: id,
+            op,
+            values: args.values.copy(alloc)?,
+        }),
+        Coll::Create(seg, size) => Call::Create(Create {
+            seg: u64::from(seg),
+            size: u64::from(size),
+            group: id,
+        }),
+        Coll::Commit(_) => Call::Commit(Commit { group: id }),
+    })
+}
+
+/// Whether a collective of a rank may join a group with these arguments. (GASPI: collectives)
+pub fn may_join(
+    alloc: Global,
+    posts: &Posts,
+    group: &Group,
+    me: RankId,
+    thread: ThreadId,
+    id: u64,
+    args: &Args,
+) -> Result<bool, NoMemory>
+    requires group { IsSoundGroup (length group.now.parts) group.now }
+    requires part { IsSoundPart posts.now.events (entry_at posts.now.pending id) (part_of group.now me) }
+    ensures { IfOk result (λ may. may ≡ is_join_of (collective_answer posts.now group.now me thread id (joining_call id args.now)) args.now) }
+{
+    let call = joining_call(alloc, id, args)?;
+    match collective_look(alloc, posts, group, me, thread, id, &call)? {
+        Ready::Join(may) => Ok(same_args(&may, args)),
+        Ready::Reply(_) | Ready::NotReady => Ok(false),
+    }
+}

@@ -1,0 +1,259 @@
+//! What ranks have given to the turns of a group, and what a turn comes to. The members of a group alone are walked, never its
+//! turns. (GASPI: collectives)
+
+ghost use Rattle.std.specs.Prelude.{◌≡◌, ℕ, ◌+◌, ◌<◌, ◌^◌, ◌++◌, ◌∷◌, [], length, true, is_some, IfOk, OnOk, OnErr};
+ghost use Rattle.std.specs.Option.{option_copied};
+ghost use Rattle.gaspi_types.specs.Collectives.{part_of, given_in, members_in, turn_of, is_full, is_turn_full, first_given, turn_checks, values_in, generation_in, folded_onto, fold_of, combined, turn_fold, made_by, turn_made, with_joined, with_completed, fixed_by};
+ghost use Rattle.gaspi_types.specs.NumberTypes.{AreInType};
+ghost use Rattle.gaspi_types.specs.declared.collectives.NumType.{NumType};
+ghost use Rattle.gaspi_model.specs.CollectiveCalls.{with_made_known};
+ghost use Rattle.collective_rules.specs.Turns.{coll_in};
+ghost use Rattle.plain_calls.specs.Turns.{AreAlike};
+
+use collective_rules::{Members, check_fits, members_of, reduce};
+use gaspi_model::Posts;
+use gaspi_types::{
+    Coll, Contribution, Extent, Group, NoMemory, NumType, Numbers, Op, Part, RankId, Refusal, Rows,
+};
+use segment_tables::set_known;
+use std::alloc::Global;
+
+/// What a rank has given to a turn of a group, if it has.
+fn given_in(group: &Group, turn: u32, rank: RankId) -> Option<&Contribution>
+    ensures { option_copied result ≡ given_in group.now turn rank }
+{
+    match group.parts.get(rank.index()) {
+        Some(part) => part.contributions.get(turn as usize),
+        None => None,
+    }
+}
+
+/// The turn of a rank: the first that it has not completed.
+fn turn_of(group: &Group, rank: RankId) -> u32
+    ensures { result ≡ turn_of group.now rank }
+{
+    match group.parts.get(rank.index()) {
+        Some(part) => part.completed,
+        None => 0,
+    }
+}
+
+/// The members of a group: of one whose members are not fixed, none.
+fn members_in(group: &Group) -> Members
+    ensures { result ≡ members_in group.now }
+{
+    members_of(group.members.unwrap_or(0))
+}
+
+/// Whether every one of these ranks has given to a turn.
+fn is_full(group: &Group, turn: u32, members: &[RankId]) -> bool
+    ensures { result ≡ is_full (given_in group.now turn) members.now }
+{
+    members
+        .iter()
+        .all(|member| given_in(group, turn, *member).is_some())
+}
+
+/// Whether every member has given to the turn of a rank. (GASPI: collectives)
+pub fn is_turn_full(group: &Group, me: RankId) -> bool
+    ensures { result ≡ is_turn_full group.now me }
+{
+    is_full(group, turn_of(group, me), members_in(group).ranks())
+}
+
+/// The collective with which the first of these ranks has joined a turn that has joined it.
+fn first_coll(group: &Group, turn: u32, members: &[RankId]) -> Option<Coll>
+    ensures { result ≡ coll_in (first_given (given_in group.now turn) members.now) }
+{
+    match members {
+        [] => None,
+        [member, others @ ..] => match given_in(group, turn, *member) {
+            Some(given) => Some(given.args.coll),
+            None => first_coll(group, turn, others),
+        },
+    }
+}
+
+/// Checks that a collective is the one with which members have joined the turn of a rank, values aside. (GASPI: collectives)
+pub fn check_turn(group: &Group, me: RankId, coll: Coll) -> Result<(), Refusal>
+    ensures { result ≡ turn_checks group.now me coll }
+{
+    let first = first_coll(group, turn_of(group, me), members_in(group).ranks());
+    check_fits(first, coll)
+}
+
+/// The values that a rank has given to a turn: of one that has not, none.
+fn values_in(group: &Group, turn: u32, rank: RankId) -> &[i128]
+    ensures values { result.now ≡ values_in (given_in group.now turn rank) }
+    ensures range { (num_type : NumType) (count : ℕ) → AreAlike (given_in group.now turn) num_type count → AreInType num_type result.now }
+{
+    match given_in(group, turn, rank) {
+        Some(given) => given.args.values.items(),
+        None => &[],
+    }
+}
+
+/// Reduces what a rank has given to a turn onto a total.
+fn reduce_given(
+    total: &mut [i128],
+    op: Op,
+    num_type: NumType,
+    group: &Group,
+    turn: u32,
+    rank: RankId,
+)
+    requires given { is_some (given_in group.now turn rank) ≡ true }
+    requires alike { AreAlike (given_in group.now turn) num_type (length total.old) }
+    requires range { AreInType num_type total.old }
+    ensures reduced { total.new ≡ combined op num_type total.old (values_in (given_in group.now turn rank)) }
+    ensures range { AreInType num_type total.new }
+{
+    reduce(op, num_type, total, values_in(group, turn, rank));
+}
+
+/// Reduces what ranks have given to a turn onto a total, one rank after another.
+fn fold_onto(
+    total: &mut [i128],
+    op: Op,
+    num_type: NumType,
+    group: &Group,
+    turn: u32,
+    members: &[RankId],
+)
+    requires full { is_full (given_in group.now turn) members.now ≡ true }
+    requires alike { AreAlike (given_in group.now turn) num_type (length total.old) }
+    requires range { AreInType num_type total.old }
+    ensures folded { total.new ≡ folded_onto (given_in group.now turn) op num_type total.old members.now }
+    ensures range { AreInType num_type total.new }
+{
+    match members {
+        [] => {}
+        [member, others @ ..] => {
+            reduce_given(total, op, num_type, group, turn, *member);
+            fold_onto(total, op, num_type, group, turn, others);
+        }
+    }
+}
+
+/// What the values come to that ranks have given to a turn, one rank after another.
+fn fold(
+    alloc: Global,
+    op: Op,
+    num_type: NumType,
+    group: &Group,
+    turn: u32,
+    members: &[RankId],
+) -> Result<Numbers, NoMemory>
+    requires full { is_full (given_in group.now turn) members.now ≡ true }
+    requires alike { (count : ℕ) × AreAlike (given_in group.now turn) num_type count }
+    ensures { IfOk result (λ numbers. numbers ≡ fold_of (given_in group.now turn) op num_type members.now) }
+{
+    match members {
+        [] => Ok(Numbers::new(num_type, Rows::new(alloc))),
+        [first, others @ ..] => {
+            let mut total = Vec::from_slice(alloc, values_in(group, turn, *first))?;
+            let items = total.as_mut_slice();
+            fold_onto(items, op, num_type, group, turn, others);
+            Ok(Numbers::new(num_type, Rows::from_vec(total)))
+        }
+    }
+}
+
+/// What the values of all members come to in the full turn of a rank, in the order of their ranks. (GASPI: allreduce)
+pub fn turn_fold(
+    alloc: Global,
+    group: &Group,
+    me: RankId,
+    op: Op,
+    num_type: NumType,
+) -> Result<Numbers, NoMemory>
+    requires full { is_turn_full group.now me ≡ true }
+    requires alike { (count : ℕ) × AreAlike (given_in group.now (turn_of group.now me)) num_type count }
+    ensures { IfOk result (λ numbers. numbers ≡ turn_fold group.now me op num_type) }
+{
+    let turn = turn_of(group, me);
+    let members = members_in(group);
+    fold(alloc, op, num_type, group, turn, members.ranks())
+}
+
+/// The generation of the segment that a rank has given to a turn: of one that has not, 0.
+fn generation_in(group: &Group, turn: u32, rank: RankId) -> u32
+    ensures { result ≡ generation_in (given_in group.now turn rank) }
+{
+    match given_in(group, turn, rank) {
+        Some(given) => given.generation,
+        None => 0,
+    }
+}
+
+/// Makes a segment of each of these ranks known, in the generation that it has given to a turn.
+fn make_known(posts: &mut Posts, group: &Group, turn: u32, members: &[RankId], seg: u64, size: u32)
+    ensures { posts.new ≡ with_made_known seg size (made_by (given_in group.now turn) members.now) posts.old }
+{
+    match members {
+        [] => {}
+        [member, others @ ..] => {
+            let generation = generation_in(group, turn, *member);
+            let extent = Some(Extent { generation, size });
+            set_known(&mut posts.segments, *member, seg, extent);
+            make_known(posts, group, turn, others, seg, size);
+        }
+    }
+}
+
+/// Makes the segments of all members known, in the generations that they have given to the turn of a rank.
+/// (GASPI: segment_create)
+pub fn make_turn_known(posts: &mut Posts, group: &Group, me: RankId, seg: u64, size: u32)
+    ensures { posts.new ≡ with_made_known seg size (turn_made group.now me) posts.old }
+{
+    let members = members_in(group);
+    make_known(posts, group, turn_of(group, me), members.ranks(), seg, size);
+}
+
+/// The members of a group that a collective joins: the first commit fixes them.
+fn fixed_by(members: Option<u32>, coll: Coll) -> Option<u32>
+    ensures { result ≡ fixed_by members coll }
+{
+    match members {
+        Some(mask) => Some(mask),
+        None => match coll {
+            Coll::Commit(mask) => Some(mask),
+            _ => None,
+        },
+    }
+}
+
+/// Adds a contribution to the part of a rank. Without memory nothing changes.
+fn give(part: &mut Part, contribution: Contribution) -> Result<(), NoMemory>
+    ensures ok { OnOk result (part.new ≡ record part.old { contributions = part.old.contributions ++ contribution ∷ [] }) }
+    ensures err { OnErr result (part.new ≡ part.old) }
+{
+    part.contributions.push(contribution)
+}
+
+/// A rank joins: it gives to its turn, and the first commit fixes the members. Without memory nothing changes.
+/// (GASPI: collectives)
+#[tactic(auto, using(crate::proofs::PostedEntries::posts_lemmas))]
+pub fn join_turn(group: &mut Group, me: RankId, contribution: Contribution) -> Result<(), NoMemory>
+    ensures ok { OnOk result (group.new ≡ with_joined group.old me contribution) }
+    ensures err { OnErr result (group.new ≡ group.old) }
+{
+    let members = fixed_by(group.members, contribution.args.coll);
+    let place = me.index();
+    if place < group.parts.len() {
+        give(group.parts.at_mut(place), contribution)?;
+    }
+    group.members = members;
+    Ok(())
+}
+
+/// A rank has completed its turn. (GASPI: collectives)
+pub fn complete_turn(group: &mut Group, me: RankId)
+    requires { turn_of group.old me + 1 < 2 ^ 32 }
+    ensures { group.new ≡ with_completed group.old me }
+{
+    let place = me.index();
+    if place < group.parts.len() {
+        group.parts.at_mut(place).completed += 1;
+    }
+}

@@ -1,0 +1,26 @@
+use Rattle.std.proofs.Common.{sym, ◌∙◌}
+use Rattle.std.proofs.lemmas.Bool.{lt-ltb}
+use Rattle.std.proofs.lemmas.List.{map-set}
+use Rattle.plain_machine.specs.Machine.{state_in, taken_of}
+use Rattle.plain_machine.proofs.Lists.{mapped}
+use Rattle.plain_machine.proofs.OnGroups.{joined_steps}
+use Rattle.plain_machine.proofs.looking.join_in.Goals as goal
+
+pub join-requires-clause-sound : goal.join-requires-clause-sound
+join-requires-clause-sound c = c.requires.whole.sound.posts _ _ c.at_mut.ensures.value
+
+pub join-requires-clause-taken : goal.join-requires-clause-taken
+join-requires-clause-taken c = mapped taken_of c.args.ranks.now.posts c.index-rank.result _ _ c.at_mut.ensures.value (rw c.requires.whole.taken at c.at_mut-4.ensures.value)
+
+pub returns-clause-step : goal.returns-clause-step
+returns-clause-step c =
+    let there = rw c.index-rank.ensures.value at c.at_mut.ensures.value in
+    let own = rw c.index-rank.ensures.value at c.at_mut-2.ensures.value in
+    let grouped = rw c.index.ensures.value at c.at_mut-3.ensures.value in
+    let below = rw c.number.ensures.value at c.number.ensures.bound in
+    rw (c.index-rank.ensures.value, c.index.ensures.value)
+    (joined_steps (state_in c.args.ranks.now c.args.memories.now) c.args.caller.now c.args.id c.from.result c.args.args.now c.join.result c.at_mut.result.now c.join.new.posts c.at_mut-2.result.now c.join.new.memory c.at_mut-3.result.now c.join.new.group
+    there own grouped (lt-ltb c.args.id 8 below) (c.from.ensures ∙ c.number.ensures.value) c.join.ensures.step c.join.ensures.memory c.join.ensures.memory_kept)
+
+pub returns-clause-taken : goal.returns-clause-taken
+returns-clause-taken c = rw (c.requires.whole.taken, c.join.ensures.taken) (sym (map-set taken_of c.args.ranks.now.posts c.index-rank.result c.join.new.posts))
