@@ -1,8 +1,7 @@
 -- What every turn of the schedule keeps.
-use Rattle.std.proofs.Common.{◌≡◌, ℕ, zero, suc, ◌+◌, ◌-◌, ◌<◌, Bool, true, false, List, [], ◌∷◌, ◌++◌, length, Option, None, Some, Result, Ok, Err, refl, ◌∙◌, nat_lt, nat_le, ◌==◌, remove, ◌⊎◌, inl, inr}
+use Rattle.std.proofs.Common.{◌≡◌, ℕ, zero, suc, ◌+◌, ◌-◌, ◌<◌, Bool, true, false, List, [], ◌∷◌, ◌++◌, length, Option, None, Some, Result, Ok, Err, refl, sym, subst, ◌∙◌, nat_lt, nat_le, ◌==◌, remove, ◌⊎◌, inl, inr}
 use Rattle.std.specs.List.{slice_get}
 use Rattle.gaspi_types.specs.World.{World}
-use Rattle.gaspi_types.specs.CallRows.{need_of}
 use Rattle.gaspi_types.specs.declared.calls.Call.{Call}
 use Rattle.gaspi_types.specs.declared.calls.Call.TheVariants.{End}
 use Rattle.gaspi_types.specs.declared.replies.Reply.{Reply}
@@ -12,6 +11,8 @@ use Rattle.gaspi_types.specs.declared.replies.Ready.TheVariants as ready
 use Rattle.gaspi_types.specs.declared.events.Event.{Event}
 use Rattle.gaspi_types.specs.declared.events.Event.TheVariants.{Called}
 use Rattle.gaspi_types.specs.declared.events.Transfer.{Transfer}
+use Rattle.gaspi_types.specs.declared.groups.Args.{Args}
+use Rattle.call_journal.specs.JournalText.{HaveOwnValues}
 use Rattle.gaspi_model.specs.State.{opening}
 use Rattle.gaspi_model.specs.Sound.{IsSound}
 use Rattle.gaspi_model.specs.Step.{step, after, reached, transfer_event, answer_in, room_taken}
@@ -19,14 +20,16 @@ use Rattle.gaspi_model.specs.Transfers.{transfers}
 use Rattle.gaspi_model.specs.declared.states.State.{State}
 use Rattle.gaspi_model.specs.declared.states.Why.{Why}
 use Rattle.gaspi_types.proofs.Items.{slice_get-set, remove-part}
+use Rattle.plain_machine.specs.Looking.{join_event}
 use Rattle.rank_script.specs.Runs.{Progress, Going, Over, advanced, stopped}
 use Rattle.rank_script.specs.declared.scripts.Halted.TheVariants as halts
 use Rattle.rank_script.specs.declared.scripts.ScriptLine.{ScriptLine}
 use Rattle.rank_script.specs.declared.scripts.RunOutcome.{RunOutcome}
 use Rattle.gaspi_run.specs.Generator.{drawn, picked}
-use Rattle.gaspi_run.specs.Schedule.{made, looks_of, with_waiting, recorded, looked, answered, going_turn, ending_turn, progress_turn, candidate_turn, candidates, with_draw, turn, turns}
+use Rattle.gaspi_run.specs.Schedule.{made, looks_of, with_waiting, recorded, looked, joined, joined_answered, joined_turn, answered, present_need, going_turn, ending_turn, progress_turn, candidate_turn, candidates, with_draw, turn, turns}
 use Rattle.gaspi_run.specs.declared.turns.Waiting.{Waiting}
 use Rattle.gaspi_run.specs.declared.turns.Turns.{Turns}
+use Rattle.gaspi_run.proofs.OwnValues.{own-more}
 
 -- a history goes on by a step
 pub after-more : (s t u : State) (history : List Event) (e : Event) → after s history ≡ Ok t → step t e ≡ Ok u → after s (history ++ e ∷ []) ≡ Ok u
@@ -43,6 +46,7 @@ pub record IsGood (w : World) (t : Turns) : Type 0 where
   pub sound : IsSound t.state
   pub limits : t.state.limits ≡ w.limits
   pub ranked : (place : ℕ) (x : Waiting) → slice_get t.waiting place ≡ Some x → x.caller.rank < w.limits.ranks
+  pub own : HaveOwnValues t.journal
 
 -- what the machine's laws say
 abbrev pub Steps : Type 0
@@ -61,7 +65,16 @@ good-made steps stay w t e good = go (step t.state e) refl
       sound = steps t.state s e good.sound is;
       limits = stay t.state s e is ∙ good.limits;
       ranked = good.ranked;
+      own = own-more t.state s t.journal e good.own is;
     })
+
+-- an event that is made leaves those that wait
+pub made-waiting : (t : Turns) (e : Event) → (made t e).waiting ≡ t.waiting
+made-waiting t e = go (step t.state e) refl
+  where
+    go : (r : Result State Why) → step t.state e ≡ r → (made t e).waiting ≡ t.waiting
+    go (Err why) is = rw is refl
+    go (Ok s) is = rw is refl
 
 pub good-waiting : (w : World) (t : Turns) (place : ℕ) (x x' : Waiting) → IsGood w t → slice_get t.waiting place ≡ Some x → x'.caller ≡ x.caller → IsGood w (with_waiting t place x')
 good-waiting w t place x x' good at same = record {
@@ -69,6 +82,7 @@ good-waiting w t place x x' good at same = record {
   sound = good.sound;
   limits = good.limits;
   ranked = λ p y here. parts p y (slice_get-set t.waiting place p x' y here);
+  own = good.own;
 }
   where
     parts : (p : ℕ) (y : Waiting) → ((p ≡ place) × (y ≡ x')) ⊎ (slice_get t.waiting p ≡ Some y) → y.caller.rank < w.limits.ranks
@@ -89,15 +103,29 @@ good-looked steps stay limit w t place x line good at = go (nat_le (looks_of lim
         let x' : Waiting = record { caller = x.caller; cursor = x.cursor; looks = x.looks + 1 } in
         rw more (good-waiting w t place x x' good at refl)
 
+good-joined-answered : Steps → LimitsStay → (limit : ℕ) (w : World) (t : Turns) (place : ℕ) (x : Waiting) (line : ScriptLine) (found : Option Ready) → IsGood w t → slice_get t.waiting place ≡ Some x → IsGood w (joined_answered limit t place x line found)
+good-joined-answered steps stay limit w t place x line None good at = good
+good-joined-answered steps stay limit w t place x line (Some (ready.Reply reply)) good at = good-recorded steps stay w t place x line.call reply good at
+good-joined-answered steps stay limit w t place x line (Some (ready.Join args)) good at = good
+good-joined-answered steps stay limit w t place x line (Some ready.NotReady) good at = good-looked steps stay limit w t place x line good at
+
+good-joined-turn : Steps → LimitsStay → (limit : ℕ) (w : World) (t : Turns) (place : ℕ) (x : Waiting) (line : ScriptLine) (args : Args) → IsGood w t → slice_get t.waiting place ≡ Some x → IsGood w (joined_turn limit (joined t x line args) place x line)
+good-joined-turn steps stay limit w t place x line args good at =
+    let e = join_event x.caller line.call args in
+    let t' = made t e in
+    good-joined-answered steps stay limit w t' place x line (answer_in t'.state x.caller.rank x.caller.thread line.call) (good-made steps stay w t e good)
+    (subst (λ (ws : List Waiting). slice_get ws place ≡ Some x) (sym (made-waiting t e)) at)
+
 good-answered : Steps → LimitsStay → (limit : ℕ) (w : World) (t : Turns) (place : ℕ) (x : Waiting) (line : ScriptLine) (found : Option Ready) → IsGood w t → slice_get t.waiting place ≡ Some x → IsGood w (answered limit t place x line found)
 good-answered steps stay limit w t place x line None good at = good
 good-answered steps stay limit w t place x line (Some (ready.Reply reply)) good at = good-recorded steps stay w t place x line.call reply good at
+good-answered steps stay limit w t place x line (Some (ready.Join args)) good at = good-joined-turn steps stay limit w t place x line args good at
 good-answered steps stay limit w t place x line (Some ready.NotReady) good at = good-looked steps stay limit w t place x line good at
 
 good-going : Steps → LimitsStay → (limit : ℕ) (w : World) (t : Turns) (place : ℕ) (x : Waiting) (line : ScriptLine) → IsGood w t → slice_get t.waiting place ≡ Some x → IsGood w (going_turn limit t place x line)
-good-going steps stay limit w t place x line good at = go (nat_lt t.state.limits.events (room_taken t.state x.caller.rank + need_of line.call false false)) refl
+good-going steps stay limit w t place x line good at = go (nat_lt t.state.limits.events (room_taken t.state x.caller.rank + present_need t.state x.caller line)) refl
   where
-    go : (b : Bool) → nat_lt t.state.limits.events (room_taken t.state x.caller.rank + need_of line.call false false) ≡ b → IsGood w (going_turn limit t place x line)
+    go : (b : Bool) → nat_lt t.state.limits.events (room_taken t.state x.caller.rank + present_need t.state x.caller line) ≡ b → IsGood w (going_turn limit t place x line)
     go true full =
         let x' : Waiting = record { caller = x.caller; cursor = stopped x.cursor halts.Limit; looks = 0 } in
         rw full (good-waiting w t place x x' good at refl)
@@ -111,6 +139,7 @@ good-ending steps stay w t place x outcome good =
       sound = good.sound;
       limits = good.limits;
       ranked = λ p y here. (let was = remove-part t.waiting place p y here in good.ranked was.0 y was.1);
+      own = good.own;
     })
 
 good-progress : Steps → LimitsStay → (limit : ℕ) (w : World) (t : Turns) (place : ℕ) (x : Waiting) (p : Progress) → IsGood w t → slice_get t.waiting place ≡ Some x → IsGood w (progress_turn limit t place x p)
@@ -132,7 +161,7 @@ pub good-turn : Steps → LimitsStay → (limit : ℕ) (w : World) (t : Turns) �
 good-turn steps stay limit w t good = go (candidates t == 0) refl
   where
     draw : IsGood w (with_draw t)
-    draw = record { legal = good.legal; sound = good.sound; limits = good.limits; ranked = good.ranked }
+    draw = record { legal = good.legal; sound = good.sound; limits = good.limits; ranked = good.ranked; own = good.own }
 
     go : (b : Bool) → (candidates t == 0) ≡ b → IsGood w (turn limit t)
     go true over = rw over good

@@ -1,10 +1,12 @@
 pub mod Declared
+pub mod OwnValues
 pub mod Work
 pub mod Good
 pub mod Running
 pub mod RunningTurns
 pub mod RunningEnds
 pub mod RunningAll
+pub mod Joins
 pub mod NumberRanges
 pub mod Started
 pub mod ScheduleLoop

@@ -5,7 +5,6 @@ use Rattle.std.proofs.lemmas.Bool.{eqb-true, eqb-false, eq-eqb}
 use Rattle.std.proofs.lemmas.List.Sums.{sum_by-cons, get_or-le-sum_by}
 use Rattle.std.proofs.lemmas.Option.{slice_get_within, get_or_from_slice_get}
 use Rattle.gaspi_types.specs.World.{World, is_caller}
-use Rattle.gaspi_types.specs.CallRows.{need_of}
 use Rattle.gaspi_types.specs.declared.shapes.CallerId.{CallerId}
 use Rattle.gaspi_types.specs.declared.calls.Call.{Call}
 use Rattle.gaspi_types.specs.declared.replies.Reply.{Reply}
@@ -21,7 +20,7 @@ use Rattle.rank_script.specs.declared.scripts.ScriptLine.{ScriptLine}
 use Rattle.rank_script.specs.declared.scripts.RunOutcome.{RunOutcome}
 use Rattle.rank_script.specs.declared.scripts.RunOutcome.TheVariants as outcomes
 use Rattle.gaspi_run.specs.declared.turns.Finished.{Finished}
-use Rattle.gaspi_run.specs.Schedule.{HasLimitCause, HasEnded}
+use Rattle.gaspi_run.specs.Schedule.{present_need, HasLimitCause, HasEnded}
 use Rattle.gaspi_run.specs.declared.turns.Waiting.{Waiting}
 use Rattle.gaspi_run.specs.declared.turns.Turns.{Turns}
 
@@ -170,7 +169,7 @@ pub record WasStopped (w : World) (journal : List Event) (c : CallerId) (lines :
   pub calls : own_calls c.rank c.thread before ≡ own_calls c.rank c.thread journal
   pub state : State
   pub leads : reached w before ≡ Ok state
-  pub full : w.limits.events < room_taken state c.rank + need_of line.call false false
+  pub full : w.limits.events < room_taken state c.rank + present_need state c line
 
 abbrev pub HasCome : World → List Event → CallerId → List ScriptLine → Progress → Type 0
 HasCome w journal c lines p =

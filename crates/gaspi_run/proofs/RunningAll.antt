@@ -1,11 +1,11 @@
 -- Every turn of the schedule keeps that the callers' calls are runs of their scripts.
-use Rattle.std.proofs.Common.{◌≡◌, ◌≢◌, ℕ, zero, suc, ◌+◌, ◌-◌, ◌<◌, ◌≤◌, Bool, true, false, List, [], length, Option, None, Some, Result, Ok, Err, refl, sym, ap, ◌∙◌, subst, arith, nat_lt, nat_le, ◌==◌, IsOk, inl, inr, append-nil, if◌then◌else◌}
+use Rattle.std.proofs.Common.{◌≡◌, ◌≢◌, ℕ, zero, suc, ◌+◌, ◌-◌, ◌<◌, ◌≤◌, Bool, true, false, List, [], ◌∷◌, ◌++◌, length, Option, None, Some, Result, Ok, Err, refl, sym, ap, ◌∙◌, subst, arith, nat_lt, nat_le, ◌==◌, IsOk, inl, inr, append-nil, if◌then◌else◌}
 use Rattle.std.specs.List.{slice_get, All}
 use Rattle.std.proofs.lemmas.Bool.{ltb-true, ltb-false}
 use Rattle.std.proofs.lemmas.List.Elements.{All-get_or}
 use Rattle.std.proofs.lemmas.Option.{slice_get_within, get_or_from_slice_get}
 use Rattle.gaspi_types.specs.World.{World}
-use Rattle.gaspi_types.specs.CallRows.{need_of, is_end}
+use Rattle.gaspi_types.specs.CallRows.{row_of, need_of, is_end}
 use Rattle.gaspi_types.specs.declared.calls.Call.{Call}
 use Rattle.gaspi_types.specs.declared.calls.Call.TheVariants.{End}
 use Rattle.gaspi_types.specs.declared.replies.Reply.TheVariants as replies
@@ -14,15 +14,19 @@ use Rattle.gaspi_types.specs.declared.replies.Ready.TheVariants as ready
 use Rattle.gaspi_types.specs.declared.events.Event.{Event}
 use Rattle.gaspi_types.specs.declared.events.Event.TheVariants.{Called}
 use Rattle.gaspi_types.specs.declared.events.Transfer.{Transfer}
+use Rattle.gaspi_types.specs.declared.groups.Args.{Args}
+use Rattle.gaspi_types.specs.declared.shapes.CallerId.{CallerId}
 use Rattle.gaspi_model.specs.State.{thread_at, is_running}
 use Rattle.gaspi_model.specs.Calls.{recorded_reply}
+use Rattle.gaspi_model.specs.CollectiveCalls.{is_joining}
 use Rattle.gaspi_model.specs.Sound.{IsSound}
-use Rattle.gaspi_model.specs.Step.{step, transfer_event, answer_in, room_taken, own_calls, is_active, ends_caller}
+use Rattle.gaspi_model.specs.Step.{step, transfer_event, answer_in, room_taken, own_calls, is_active, is_pending, ends_caller}
 use Rattle.gaspi_model.specs.Transfers.{transfers}
 use Rattle.gaspi_model.specs.declared.states.Posts.{Posts}
 use Rattle.gaspi_model.specs.declared.states.State.{State}
 use Rattle.gaspi_model.specs.declared.states.Why.{Why}
 use Rattle.gaspi_types.proofs.Items.{past-none}
+use Rattle.plain_machine.specs.Looking.{join_event}
 use Rattle.rank_script.specs.PlainScripts.{IsPlain, HasPlainLines, ArePlain}
 use Rattle.rank_script.specs.Runs.{Progress, Going, Over, going_on, stopped, Follows}
 use Rattle.rank_script.specs.declared.scripts.Halted.TheVariants as halts
@@ -31,10 +35,11 @@ use Rattle.rank_script.specs.declared.scripts.ScriptLine.{ScriptLine}
 use Rattle.rank_script.specs.declared.scripts.RunOutcome.{RunOutcome}
 use Rattle.rank_script.specs.declared.scripts.RunOutcome.TheVariants as outcomes
 use Rattle.gaspi_run.specs.Generator.{drawn, picked}
-use Rattle.gaspi_run.specs.Schedule.{made, looks_of, recorded, looked, answered, going_turn, ending_turn, progress_turn, caller_turn, candidate_turn, candidates, with_draw, turn, turns}
+use Rattle.gaspi_run.specs.Schedule.{made, looks_of, recorded, looked, joined, joined_answered, joined_turn, answered, present_need, going_turn, ending_turn, progress_turn, caller_turn, candidate_turn, candidates, with_draw, turn, turns}
 use Rattle.gaspi_run.specs.declared.turns.Waiting.{Waiting}
 use Rattle.gaspi_run.specs.declared.turns.Turns.{Turns}
-use Rattle.gaspi_run.proofs.Good.{IsGood, Steps, LimitsStay, good-turn}
+use Rattle.gaspi_run.proofs.Good.{IsGood, Steps, LimitsStay, good-made, good-turn}
+use Rattle.gaspi_run.proofs.Work.{JoinsAreSteps}
 use Rattle.gaspi_run.proofs.Running.{IsRunning, Goes, HasCome, own_of, line-there, find-there}
 use Rattle.gaspi_run.proofs.RunningTurns.{ActiveStays, Onward, foreign-step, waiting-changed, called-step}
 use Rattle.gaspi_run.proofs.RunningEnds.{EndsRun, StopsRun, ending-step}
@@ -42,8 +47,14 @@ use Rattle.gaspi_run.proofs.RunningEnds.{EndsRun, StopsRun, ending-step}
 -- a call of an active caller, with the reply that it has, is a step where there is room
 abbrev pub CallsAreSteps : Type 0
 CallsAreSteps = (s : State) (rank thread : ℕ) (call : Call) (ready : Ready) → IsSound s → is_active s rank thread ≡ true
-    → room_taken s rank + need_of call false false ≤ s.limits.events → answer_in s rank thread call ≡ Some ready
+    → room_taken s rank + need_of call (is_pending s rank thread call) false ≤ s.limits.events → answer_in s rank thread call ≡ Some ready → is_joining ready ≡ false
     → IsOk (step s (Called (record { rank = rank; thread = thread }) call (recorded_reply ready)))
+
+-- after the join of the present call its rank has the room that the call needs yet
+abbrev pub JoinsKeepRoom : Type 0
+JoinsKeepRoom = (s t : State) (c : CallerId) (line : ScriptLine) (args : Args) → IsSound s → answer_in s c.rank c.thread line.call ≡ Some (ready.Join args)
+    → room_taken s c.rank + present_need s c line ≤ s.limits.events → step s (join_event c line.call args) ≡ Ok t
+    → room_taken t c.rank + present_need t c line ≤ t.limits.events
 
 -- the laws that the turns rest on
 pub record Laws : Type 0 where
@@ -51,6 +62,8 @@ pub record Laws : Type 0 where
   pub stay : LimitsStay
   pub active : ActiveStays
   pub calls : CallsAreSteps
+  pub joins : JoinsAreSteps
+  pub room : JoinsKeepRoom
   pub onward : Onward
   pub ends : EndsRun
   pub stops : StopsRun
@@ -79,38 +92,69 @@ ok-state (Ok s) h = (s, refl)
 ok-state (Err why) h = absurd (let no : ⊥ = cc in no)
 
 -- a reply recorded
-recorded-running : Laws → (w : World) (scripts : List Script) (t : Turns) (place : ℕ) (x : Waiting) (line : ScriptLine) (tried : ℕ) (lines : List ScriptLine) (found : Ready) → ArePlain scripts → IsGood w t → IsRunning w scripts t
-    → slice_get t.waiting place ≡ Some x → x.cursor ≡ Going line tried lines → room_taken t.state x.caller.rank + need_of line.call false false ≤ t.state.limits.events
+recorded-running : Laws → (w : World) (scripts : List Script) (t : Turns) (place : ℕ) (x : Waiting) (line : ScriptLine) (tried : ℕ) (lines : List ScriptLine) (found : Ready) → is_joining found ≡ false → ArePlain scripts → IsGood w t → IsRunning w scripts t
+    → slice_get t.waiting place ≡ Some x → x.cursor ≡ Going line tried lines → room_taken t.state x.caller.rank + present_need t.state x.caller line ≤ t.state.limits.events
     → answer_in t.state x.caller.rank x.caller.thread line.call ≡ Some found → IsRunning w scripts (recorded t place x line.call (recorded_reply found))
-recorded-running laws w scripts t place x line tried lines found plain good running at going room answers =
-    let ok = ok-state (step t.state (Called x.caller line.call (recorded_reply found))) (laws.calls t.state x.caller.rank x.caller.thread line.call found good.sound (running.active place x at) room answers) in
+recorded-running laws w scripts t place x line tried lines found unjoined plain good running at going room answers =
+    let ok = ok-state (step t.state (Called x.caller line.call (recorded_reply found))) (laws.calls t.state x.caller.rank x.caller.thread line.call found good.sound (running.active place x at) room answers unjoined) in
     let made = called-step laws.active laws.onward w scripts t place x line tried lines (recorded_reply found) ok.0 running at going (plain-line w scripts t.journal x line tried lines plain (running.goes place x at) going) ok.1 in
     rw ok.1 made
 
 looked-running : Laws → (limit : ℕ) (w : World) (scripts : List Script) (t : Turns) (place : ℕ) (x : Waiting) (line : ScriptLine) (tried : ℕ) (lines : List ScriptLine) → ArePlain scripts → IsGood w t → IsRunning w scripts t
-    → slice_get t.waiting place ≡ Some x → x.cursor ≡ Going line tried lines → room_taken t.state x.caller.rank + need_of line.call false false ≤ t.state.limits.events
+    → slice_get t.waiting place ≡ Some x → x.cursor ≡ Going line tried lines → room_taken t.state x.caller.rank + present_need t.state x.caller line ≤ t.state.limits.events
     → answer_in t.state x.caller.rank x.caller.thread line.call ≡ Some ready.NotReady → IsRunning w scripts (looked limit t place x line)
 looked-running laws limit w scripts t place x line tried lines plain good running at going room answers = go (nat_le (looks_of limit line.timeout) (x.looks + 1)) refl
   where
     go : (b : Bool) → nat_le (looks_of limit line.timeout) (x.looks + 1) ≡ b → IsRunning w scripts (looked limit t place x line)
-    go true last = rw last (recorded-running laws w scripts t place x line tried lines ready.NotReady plain good running at going room answers)
+    go true last = rw last (recorded-running laws w scripts t place x line tried lines ready.NotReady refl plain good running at going room answers)
     go false more =
         let x' : Waiting = record { caller = x.caller; cursor = x.cursor; looks = x.looks + 1 } in
         let g = running.goes place x at in
         rw more (waiting-changed w scripts t place x x' running at refl (record { script = g.script; is_script = g.is_script; come = g.come }))
 
+-- what the look goes on to find where the present call has joined
+joined-answered-running : Laws → (limit : ℕ) (w : World) (scripts : List Script) (t : Turns) (place : ℕ) (x : Waiting) (line : ScriptLine) (tried : ℕ) (lines : List ScriptLine) (found : Option Ready) → ArePlain scripts → IsGood w t → IsRunning w scripts t
+    → slice_get t.waiting place ≡ Some x → x.cursor ≡ Going line tried lines → room_taken t.state x.caller.rank + present_need t.state x.caller line ≤ t.state.limits.events
+    → answer_in t.state x.caller.rank x.caller.thread line.call ≡ found → IsRunning w scripts (joined_answered limit t place x line found)
+joined-answered-running laws limit w scripts t place x line tried lines None plain good running at going room answers = running
+joined-answered-running laws limit w scripts t place x line tried lines (Some (ready.Reply reply)) plain good running at going room answers =
+    recorded-running laws w scripts t place x line tried lines (ready.Reply reply) refl plain good running at going room answers
+joined-answered-running laws limit w scripts t place x line tried lines (Some (ready.Join args)) plain good running at going room answers = running
+joined-answered-running laws limit w scripts t place x line tried lines (Some ready.NotReady) plain good running at going room answers =
+    looked-running laws limit w scripts t place x line tried lines plain good running at going room answers
+
+made-is : (t : Turns) (e : Event) (s : State) → step t.state e ≡ Ok s → made t e ≡ record t { state = s; journal = t.journal ++ e ∷ [] }
+made-is t e s is = rw is refl
+
+-- the join of the present call, and what is found after it
+joined-running : Laws → (limit : ℕ) (w : World) (scripts : List Script) (t : Turns) (place : ℕ) (x : Waiting) (line : ScriptLine) (tried : ℕ) (lines : List ScriptLine) (args : Args) → ArePlain scripts → IsGood w t → IsRunning w scripts t
+    → slice_get t.waiting place ≡ Some x → x.cursor ≡ Going line tried lines → room_taken t.state x.caller.rank + present_need t.state x.caller line ≤ t.state.limits.events
+    → answer_in t.state x.caller.rank x.caller.thread line.call ≡ Some (ready.Join args) → IsRunning w scripts (joined_turn limit (joined t x line args) place x line)
+joined-running laws limit w scripts t place x line tried lines args plain good running at going room answers =
+    let e = join_event x.caller line.call args in
+    let ok = ok-state (step t.state e) (laws.joins t.state x.caller line args good.sound (running.active place x at) room answers) in
+    let t' : Turns = record t { state = ok.0; journal = t.journal ++ e ∷ [] } in
+    let is : joined t x line args ≡ t' = made-is t e ok.0 ok.1 in
+    let good' : IsGood w t' = subst (λ (u : Turns). IsGood w u) is (good-made laws.steps laws.stay w t e good) in
+    let running' : IsRunning w scripts t' = foreign-step laws.active w scripts t e ok.0 running ok.1 (λ rank thread. refl) (λ rank thread. refl) in
+    let room' = laws.room t.state ok.0 x.caller line args good.sound answers room ok.1 in
+    subst (λ (u : Turns). IsRunning w scripts (joined_turn limit u place x line)) (sym is)
+    (joined-answered-running laws limit w scripts t' place x line tried lines (answer_in ok.0 x.caller.rank x.caller.thread line.call) plain good' running' at going room' refl)
+
 answered-running : Laws → (limit : ℕ) (w : World) (scripts : List Script) (t : Turns) (place : ℕ) (x : Waiting) (line : ScriptLine) (tried : ℕ) (lines : List ScriptLine) (found : Option Ready) → ArePlain scripts → IsGood w t → IsRunning w scripts t
-    → slice_get t.waiting place ≡ Some x → x.cursor ≡ Going line tried lines → room_taken t.state x.caller.rank + need_of line.call false false ≤ t.state.limits.events
+    → slice_get t.waiting place ≡ Some x → x.cursor ≡ Going line tried lines → room_taken t.state x.caller.rank + present_need t.state x.caller line ≤ t.state.limits.events
     → answer_in t.state x.caller.rank x.caller.thread line.call ≡ found → IsRunning w scripts (answered limit t place x line found)
 answered-running laws limit w scripts t place x line tried lines None plain good running at going room answers = running
 answered-running laws limit w scripts t place x line tried lines (Some (ready.Reply reply)) plain good running at going room answers =
-    recorded-running laws w scripts t place x line tried lines (ready.Reply reply) plain good running at going room answers
+    recorded-running laws w scripts t place x line tried lines (ready.Reply reply) refl plain good running at going room answers
+answered-running laws limit w scripts t place x line tried lines (Some (ready.Join args)) plain good running at going room answers =
+    joined-running laws limit w scripts t place x line tried lines args plain good running at going room answers
 answered-running laws limit w scripts t place x line tried lines (Some ready.NotReady) plain good running at going room answers =
     looked-running laws limit w scripts t place x line tried lines plain good running at going room answers
 
 -- a run that is stopped, since there is no room
 stopped-goes : (w : World) (scripts : List Script) (t : Turns) (x : Waiting) (line : ScriptLine) (tried : ℕ) (lines : List ScriptLine) → IsGood w t → Goes w scripts t.journal x → x.cursor ≡ Going line tried lines
-    → t.state.limits.events < room_taken t.state x.caller.rank + need_of line.call false false
+    → t.state.limits.events < room_taken t.state x.caller.rank + present_need t.state x.caller line
     → Goes w scripts t.journal (record { caller = x.caller; cursor = stopped x.cursor halts.Limit; looks = 0 })
 stopped-goes w scripts t x line tried lines good g going full = record {
   script = g.script;
@@ -130,7 +174,7 @@ stopped-goes w scripts t x line tried lines good g going full = record {
       calls = refl;
       state = t.state;
       leads = good.legal;
-      full = subst (λ (n : ℕ). n < room_taken t.state x.caller.rank + need_of line.call false false) (ap (λ (l : Rattle.gaspi_types.specs.declared.shapes.Limits.Limits). l.events) good.limits) full;
+      full = subst (λ (n : ℕ). n < room_taken t.state x.caller.rank + present_need t.state x.caller line) (ap (λ (l : Rattle.gaspi_types.specs.declared.shapes.Limits.Limits). l.events) good.limits) full;
     },
   );
 }
@@ -141,15 +185,15 @@ stopped-goes w scripts t x line tried lines good g going full = record {
 
 going-running : Laws → (limit : ℕ) (w : World) (scripts : List Script) (t : Turns) (place : ℕ) (x : Waiting) (line : ScriptLine) (tried : ℕ) (lines : List ScriptLine) → ArePlain scripts → IsGood w t → IsRunning w scripts t
     → slice_get t.waiting place ≡ Some x → x.cursor ≡ Going line tried lines → IsRunning w scripts (going_turn limit t place x line)
-going-running laws limit w scripts t place x line tried lines plain good running at going = go (nat_lt t.state.limits.events (room_taken t.state x.caller.rank + need_of line.call false false)) refl
+going-running laws limit w scripts t place x line tried lines plain good running at going = go (nat_lt t.state.limits.events (room_taken t.state x.caller.rank + present_need t.state x.caller line)) refl
   where
-    go : (b : Bool) → nat_lt t.state.limits.events (room_taken t.state x.caller.rank + need_of line.call false false) ≡ b → IsRunning w scripts (going_turn limit t place x line)
+    go : (b : Bool) → nat_lt t.state.limits.events (room_taken t.state x.caller.rank + present_need t.state x.caller line) ≡ b → IsRunning w scripts (going_turn limit t place x line)
     go true full =
         let x' : Waiting = record { caller = x.caller; cursor = stopped x.cursor halts.Limit; looks = 0 } in
         rw full (waiting-changed w scripts t place x x' running at refl
-        (stopped-goes w scripts t x line tried lines good (running.goes place x at) going (ltb-true t.state.limits.events (room_taken t.state x.caller.rank + need_of line.call false false) full)))
+        (stopped-goes w scripts t x line tried lines good (running.goes place x at) going (ltb-true t.state.limits.events (room_taken t.state x.caller.rank + present_need t.state x.caller line) full)))
     go false room =
-        let fits = ltb-false t.state.limits.events (room_taken t.state x.caller.rank + need_of line.call false false) room in
+        let fits = ltb-false t.state.limits.events (room_taken t.state x.caller.rank + present_need t.state x.caller line) room in
         rw room (answered-running laws limit w scripts t place x line tried lines (answer_in t.state x.caller.rank x.caller.thread line.call) plain good running at going fits refl)
 
 -- an active caller's end is answered
@@ -162,10 +206,10 @@ end-answer s rank thread sound within active = go (slice_get s.posts rank) refl
         let running : is_running (thread_at posts thread) ≡ true = rw hp at active in
         rw (hp, running) refl
 
-room-end : (s : State) (rank : ℕ) → IsSound s → room_taken s rank + need_of End false false ≤ s.limits.events
-room-end s rank sound = go (slice_get s.posts rank) refl
+room-end : (s : State) (rank thread : ℕ) → IsSound s → room_taken s rank + need_of End (is_pending s rank thread End) false ≤ s.limits.events
+room-end s rank thread sound = go (slice_get s.posts rank) refl
   where
-    go : (p : Option Posts) → slice_get s.posts rank ≡ p → room_taken s rank + need_of End false false ≤ s.limits.events
+    go : (p : Option Posts) → slice_get s.posts rank ≡ p → room_taken s rank + need_of End (is_pending s rank thread End) false ≤ s.limits.events
     go None hp = rw hp (omega arith)
     go (Some posts) hp = rw hp (let room = (sound.posts rank posts hp).room in omega arith)
 
@@ -175,7 +219,7 @@ ending-running laws w scripts t place x outcome good running at over =
     let within : x.caller.rank < t.state.limits.ranks = subst (λ (l : Rattle.gaspi_types.specs.declared.shapes.Limits.Limits). x.caller.rank < l.ranks) (sym good.limits) (good.ranked place x at) in
     let active = running.active place x at in
     let answers = end-answer t.state x.caller.rank x.caller.thread good.sound within active in
-    let ok = ok-state (step t.state (Called x.caller End replies.Done)) (laws.calls t.state x.caller.rank x.caller.thread End (ready.Reply replies.Done) good.sound active (room-end t.state x.caller.rank good.sound) answers) in
+    let ok = ok-state (step t.state (Called x.caller End replies.Done)) (laws.calls t.state x.caller.rank x.caller.thread End (ready.Reply replies.Done) good.sound active (room-end t.state x.caller.rank x.caller.thread good.sound) answers refl) in
     let made = ending-step laws.active laws.ends laws.stops w scripts t place x outcome ok.0 running at over ok.1 in
     rw ok.1 made
 
@@ -221,7 +265,7 @@ pub running-turn : Laws → (limit : ℕ) (w : World) (scripts : List Script) (t
 running-turn laws limit w scripts t plain good running = go (candidates t == 0) refl
   where
     good-draw : IsGood w (with_draw t)
-    good-draw = record { legal = good.legal; sound = good.sound; limits = good.limits; ranked = good.ranked }
+    good-draw = record { legal = good.legal; sound = good.sound; limits = good.limits; ranked = good.ranked; own = good.own }
 
     draw : IsRunning w scripts (with_draw t)
     draw = record { active = running.active; goes = running.goes; ended = running.ended; counted = running.counted; once = running.once }

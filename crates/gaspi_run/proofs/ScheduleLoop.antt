@@ -11,14 +11,12 @@ use Rattle.gaspi_types.specs.declared.calls.Call.TheVariants.{End}
 use Rattle.gaspi_types.specs.declared.replies.Reply.{Reply}
 use Rattle.gaspi_types.specs.declared.replies.Reply.TheVariants as replies
 use Rattle.gaspi_types.specs.declared.events.Event.{Event}
-use Rattle.gaspi_model.specs.State.{opening, thread_at, is_running}
+use Rattle.call_journal.specs.JournalText.{HaveOwnValues}
+use Rattle.gaspi_model.specs.State.{opening}
 use Rattle.gaspi_model.specs.Sound.{IsSound}
 use Rattle.gaspi_model.specs.Settled.{AreLanesEmpty}
 use Rattle.gaspi_model.specs.Transfers.{transfers}
-use Rattle.gaspi_model.specs.Step.{reached, own_calls, is_active, is_declared, is_there, is_legal}
-use Rattle.gaspi_model.specs.declared.states.Posts.{Posts}
-use Rattle.gaspi_model.specs.declared.states.ThreadState.{ThreadState}
-use Rattle.gaspi_model.specs.declared.states.ThreadState.TheVariants.{Absent, Running, Ended}
+use Rattle.gaspi_model.specs.Step.{reached, own_calls, is_active, is_legal}
 use Rattle.gaspi_model.specs.declared.states.State.{State}
 use Rattle.rank_script.specs.PlainScripts.{ArePlain}
 use Rattle.rank_script.specs.Runs.{is_stuck, is_retried, is_failed, end_pair, IsRunFrom, IsRun}
@@ -26,16 +24,16 @@ use Rattle.rank_script.specs.WorldText.{AreScriptsOf}
 use Rattle.rank_script.specs.declared.scripts.Script.{Script}
 use Rattle.rank_script.specs.declared.scripts.ScriptLine.{ScriptLine}
 use Rattle.rank_script.specs.declared.scripts.RunOutcome.{RunOutcome}
-use Rattle.gaspi_run.specs.Schedule.{started, turn, turns, candidates, AreDeclared, HasSettled, HaveEnded}
+use Rattle.gaspi_run.specs.Schedule.{started, turn, turns, candidates, AreActive, HasSettled, HaveEnded}
 use Rattle.gaspi_run.specs.declared.turns.Finished.{Finished}
 use Rattle.gaspi_run.specs.declared.turns.Waiting.{Waiting}
 use Rattle.gaspi_run.specs.declared.turns.Turns.{Turns}
-use Rattle.gaspi_run.proofs.Work.{work, turn-less, Counts, TransfersAreSteps}
+use Rattle.gaspi_run.proofs.Work.{work, turn-less, Counts, TransfersAreSteps, JoinsAreSteps, WorkLaws}
 use Rattle.gaspi_run.proofs.Good.{IsGood, Steps, LimitsStay, good-turns, turns-more}
 use Rattle.gaspi_run.proofs.Running.{IsRunning}
 use Rattle.gaspi_run.proofs.RunningTurns.{ActiveStays, Onward}
 use Rattle.gaspi_run.proofs.RunningEnds.{EndsRun, StopsRun}
-use Rattle.gaspi_run.proofs.RunningAll.{Laws, CallsAreSteps, running-turns}
+use Rattle.gaspi_run.proofs.RunningAll.{Laws, CallsAreSteps, JoinsKeepRoom, running-turns}
 use Rattle.gaspi_run.proofs.Started.{good-started, running-started, count-map}
 
 -- the schedule has come to where some number of turns leads
@@ -53,12 +51,14 @@ pub record Known (w : World) (scripts : List Script) : Type 0 where
   pub are : AreScriptsOf w scripts
   pub plain : ArePlain scripts
 
-pub laws : Steps → LimitsStay → ActiveStays → CallsAreSteps → Onward → EndsRun → StopsRun → Laws
-laws steps stay active calls onward ends stops = record {
+pub laws : Steps → LimitsStay → ActiveStays → CallsAreSteps → JoinsAreSteps → JoinsKeepRoom → Onward → EndsRun → StopsRun → Laws
+laws steps stay active calls joins room onward ends stops = record {
   steps = steps;
   stay = stay;
   active = active;
   calls = calls;
+  joins = joins;
+  room = room;
   onward = onward;
   ends = ends;
   stops = stops;
@@ -84,27 +84,18 @@ turned-running w scripts seed limit t k h =
     subst (λ (u : Turns). IsRunning w scripts u) (sym h.is)
     (running-turns k.laws limit h.count w scripts (started w scripts seed) k.plain (good-started k.opens w scripts seed k.world k.are) (running-started w scripts seed k.world k.are))
 
-running-there : (t : ThreadState) → is_running t ≡ true → is_there t ≡ true
-running-there Absent h = absurd (let no : ⊥ = cc in no)
-running-there Running h = refl
-running-there Ended h = absurd (let no : ⊥ = cc in no)
+pub turned-active : (w : World) (scripts : List Script) (seed limit : ℕ) (t : Turns) → Known w scripts → HasTurned w scripts seed limit t → AreActive t
+turned-active w scripts seed limit t k h place x at = (turned-running w scripts seed limit t k h).active place x at
 
-active-declared : (s : State) (rank thread : ℕ) → is_active s rank thread ≡ true → is_declared s rank thread ≡ true
-active-declared s rank thread active = go (slice_get s.posts rank) refl
-  where
-    go : (o : Option Posts) → slice_get s.posts rank ≡ o → is_declared s rank thread ≡ true
-    go None at = absurd (let none = rw at at active in let no : ⊥ = cc in no)
-    go (Some posts) at = rw at (running-there (thread_at posts thread) (rw at at active))
-
-pub turned-declared : (w : World) (scripts : List Script) (seed limit : ℕ) (t : Turns) → Known w scripts → HasTurned w scripts seed limit t → AreDeclared t
-turned-declared w scripts seed limit t k h place x at =
-    active-declared t.state x.caller.rank x.caller.thread ((turned-running w scripts seed limit t k h).active place x at)
+pub turned-own : (w : World) (scripts : List Script) (seed limit : ℕ) (t : Turns) → Known w scripts → HasTurned w scripts seed limit t → HaveOwnValues t.journal
+turned-own w scripts seed limit t k h = (turned-good w scripts seed limit t k h).own
 
 pub turned-less : (w : World) (scripts : List Script) (seed limit : ℕ) (t : Turns) → Known w scripts → HasTurned w scripts seed limit t → 0 < candidates t → work limit (turn limit t) < work limit t
 turned-less w scripts seed limit t k h some =
     let good = turned-good w scripts seed limit t k h in
-    turn-less k.counts k.transfers limit t good.sound
-    (λ place x at. subst (λ (l : Rattle.gaspi_types.specs.declared.shapes.Limits.Limits). x.caller.rank < l.ranks) (sym good.limits) (good.ranked place x at)) some
+    let w-laws : WorkLaws = record { counts = k.counts; transfers = k.transfers; joins = k.laws.joins; steps = k.laws.steps } in
+    turn-less w-laws limit t good.sound
+    (λ place x at. subst (λ (l : Rattle.gaspi_types.specs.declared.shapes.Limits.Limits). x.caller.rank < l.ranks) (sym good.limits) (good.ranked place x at)) (turned-active w scripts seed limit t k h) some
 
 pub turned-more : (w : World) (scripts : List Script) (seed limit : ℕ) (t u : Turns) → HasTurned w scripts seed limit t → u ≡ turn limit t → HasTurned w scripts seed limit u
 turned-more w scripts seed limit t u h is = record {

@@ -5,6 +5,8 @@ use Rattle.std.specs.Option.{option_map}
 use Rattle.std.proofs.lemmas.Bool.{eqb-true, eq-eqb, eqb-false}
 use Rattle.std.proofs.lemmas.List.Sums.{sum_by-append, sum_by-cons}
 use Rattle.std.proofs.lemmas.Option.{slice_get-map}
+use Rattle.std.proofs.lemmas.List.Elements.{All-nil}
+use Rattle.gaspi_texts.specs.EventText.{HasOwnValues}
 use Rattle.gaspi_types.specs.World.{World, IsWorld, is_caller}
 use Rattle.gaspi_types.specs.declared.shapes.CallerId.{CallerId}
 use Rattle.gaspi_model.specs.State.{opening, opening_posts, opening_thread}
@@ -238,6 +240,7 @@ good-started opens w scripts seed world are = record {
   sound = opens w world;
   limits = refl;
   ranked = λ place x at. ranked-at x (starts-part w scripts place x at);
+  own = All-nil HasOwnValues;
 }
   where
     ranked-at : (x : Waiting) → ((a : ℕ) × (b : ℕ) × (s : Script) × (a < w.limits.ranks) × (find (is_script_of (record { rank = a; thread = b })) scripts ≡ Some s) × (x ≡ record { caller = s.caller; cursor = going_on s.lines; looks = 0 }))

@@ -1,10 +1,10 @@
 -- The work that is left falls with each turn.
 use Rattle.std.proofs.Common.{◌≡◌, ℕ, zero, suc, ◌+◌, ◌-◌, ◌*◌, ◌<◌, ◌≤◌, Bool, true, false, ◌&&◌, if◌then◌else◌, List, [], ◌∷◌, ◌++◌, length, Option, None, Some, Result, Ok, Err, refl, sym, ap, subst, arith, nat_lt, nat_le, ◌==◌, remove, IsOk}
 use Rattle.std.specs.List.{slice_get, slice_set, sum_by}
-use Rattle.std.proofs.lemmas.Bool.{leb-false, ltb-true, ne_eqb}
+use Rattle.std.proofs.lemmas.Bool.{leb-false, ltb-true, ltb-false, ne_eqb}
 use Rattle.std.proofs.lemmas.List.Sums.{sum_by-cons, sum_by-set, sum_by-remove}
 use Rattle.std.proofs.lemmas.Option.{slice_get_within, get_or_from_slice_get}
-use Rattle.gaspi_types.specs.CallRows.{need_of}
+use Rattle.gaspi_types.specs.declared.shapes.CallerId.{CallerId}
 use Rattle.gaspi_types.specs.declared.calls.Call.{Call}
 use Rattle.gaspi_types.specs.declared.calls.Call.TheVariants.{End}
 use Rattle.gaspi_types.specs.declared.replies.Reply.{Reply}
@@ -14,21 +14,24 @@ use Rattle.gaspi_types.specs.declared.replies.Ready.TheVariants as ready
 use Rattle.gaspi_types.specs.declared.events.Event.{Event}
 use Rattle.gaspi_types.specs.declared.events.Event.TheVariants.{Called}
 use Rattle.gaspi_types.specs.declared.events.Transfer.{Transfer}
+use Rattle.gaspi_types.specs.declared.groups.Args.{Args}
 use Rattle.gaspi_model.specs.Sound.{IsSound, events_left}
-use Rattle.gaspi_model.specs.Step.{step, transfer_event, answer_in, room_taken}
+use Rattle.gaspi_model.specs.Step.{step, transfer_event, answer_in, room_taken, is_active}
 use Rattle.gaspi_model.specs.Transfers.{transfers}
 use Rattle.gaspi_model.specs.declared.states.State.{State}
 use Rattle.gaspi_model.specs.declared.states.Posts.{Posts}
 use Rattle.gaspi_model.specs.declared.states.Why.{Why}
+use Rattle.plain_machine.specs.Looking.{join_event}
 use Rattle.rank_script.specs.Runs.{Progress, Going, Over, going_on, advanced, stopped, is_timeout, is_stuck, is_retried, is_failed}
 use Rattle.rank_script.specs.declared.scripts.Halted.TheVariants as halts
 use Rattle.rank_script.specs.declared.scripts.ScriptLine.{ScriptLine}
 use Rattle.rank_script.specs.declared.scripts.RunOutcome.{RunOutcome}
 use Rattle.rank_script.specs.declared.scripts.RunOutcome.TheVariants as outcomes
 use Rattle.gaspi_run.specs.Generator.{drawn, picked}
-use Rattle.gaspi_run.specs.Schedule.{made, looks_of, with_waiting, recorded, looked, answered, going_turn, ending_turn, progress_turn, caller_turn, candidate_turn, candidates, with_draw, turn}
+use Rattle.gaspi_run.specs.Schedule.{made, looks_of, with_waiting, recorded, looked, joined, joined_answered, joined_turn, answered, present_need, going_turn, ending_turn, progress_turn, caller_turn, candidate_turn, candidates, with_draw, turn, AreActive}
 use Rattle.gaspi_run.specs.declared.turns.Waiting.{Waiting}
 use Rattle.gaspi_run.specs.declared.turns.Turns.{Turns}
+use Rattle.gaspi_run.proofs.Good.{Steps, made-waiting}
 
 -- what a caller may still do: for each call of a line its looks and one more, as much for the line, and one for its end
 abbrev pub line_work : ℕ → ScriptLine → ℕ
@@ -143,11 +146,55 @@ looked-less counts limit t place w line tried lines sound at going = go (nat_le 
         let looks = leb-false (looks_of limit line.timeout) (w.looks + 1) more in
         rw more (waiting-less limit t place w w' at (rw going (omega arith)))
 
-answered-less : Counts → (limit : ℕ) (t : Turns) (place : ℕ) (w : Waiting) (line : ScriptLine) (tried : ℕ) (lines : List ScriptLine) (found : Option Ready) → IsSound t.state
-    → slice_get t.waiting place ≡ Some w → w.cursor ≡ Going line tried lines → (found ≡ None → ⊥) → work limit (answered limit t place w line found) < work limit t
-answered-less counts limit t place w line tried lines None sound at going some = absurd (some refl)
-answered-less counts limit t place w line tried lines (Some (ready.Reply reply)) sound at going some = recorded-less counts limit t place w line tried lines line.call reply sound at going
-answered-less counts limit t place w line tried lines (Some ready.NotReady) sound at going some = looked-less counts limit t place w line tried lines sound at going
+-- each transfer that is listed is a step
+abbrev pub TransfersAreSteps : Type 0
+TransfersAreSteps = (s : State) (t : Transfer) (k : ℕ) → IsSound s → slice_get (transfers s.limits s.posts) k ≡ Some t → IsOk (step s (transfer_event s t))
+
+-- a join of the present call of an active caller is a step where there is room
+abbrev pub JoinsAreSteps : Type 0
+JoinsAreSteps = (s : State) (c : CallerId) (line : ScriptLine) (args : Args) → IsSound s → is_active s c.rank c.thread ≡ true → room_taken s c.rank + present_need s c line ≤ s.limits.events
+    → answer_in s c.rank c.thread line.call ≡ Some (ready.Join args) → IsOk (step s (join_event c line.call args))
+
+-- what the work rests on
+pub record WorkLaws : Type 0 where
+  pub counts : Counts
+  pub transfers : TransfersAreSteps
+  pub joins : JoinsAreSteps
+  pub steps : Steps
+
+made-sound : Steps → (t : Turns) (e : Event) → IsSound t.state → IsSound (made t e).state
+made-sound steps t e sound = go (step t.state e) refl
+  where
+    go : (r : Result State Why) → step t.state e ≡ r → IsSound (made t e).state
+    go (Err why) is = rw is sound
+    go (Ok s) is = rw is (steps t.state s e sound is)
+
+joined-answered-less : Counts → (limit : ℕ) (t : Turns) (place : ℕ) (w : Waiting) (line : ScriptLine) (tried : ℕ) (lines : List ScriptLine) (found : Option Ready) → IsSound t.state
+    → slice_get t.waiting place ≡ Some w → w.cursor ≡ Going line tried lines → work limit (joined_answered limit t place w line found) ≤ work limit t
+joined-answered-less counts limit t place w line tried lines None sound at going = omega arith
+joined-answered-less counts limit t place w line tried lines (Some (ready.Reply reply)) sound at going = let less = recorded-less counts limit t place w line tried lines line.call reply sound at going in omega arith
+joined-answered-less counts limit t place w line tried lines (Some (ready.Join args)) sound at going = omega arith
+joined-answered-less counts limit t place w line tried lines (Some ready.NotReady) sound at going = let less = looked-less counts limit t place w line tried lines sound at going in omega arith
+
+joined-less : WorkLaws → (limit : ℕ) (t : Turns) (place : ℕ) (w : Waiting) (line : ScriptLine) (tried : ℕ) (lines : List ScriptLine) (args : Args) → IsSound t.state
+    → slice_get t.waiting place ≡ Some w → w.cursor ≡ Going line tried lines → IsOk (step t.state (join_event w.caller line.call args)) → work limit (joined_turn limit (joined t w line args) place w line) < work limit t
+joined-less laws limit t place w line tried lines args sound at going ok =
+    let e = join_event w.caller line.call args in
+    let t' = made t e in
+    let there = subst (λ (ws : List Waiting). slice_get ws place ≡ Some w) (sym (made-waiting t e)) at in
+    let first = made-less laws.counts limit t e sound ok in
+    let rest = joined-answered-less laws.counts limit t' place w line tried lines (answer_in t'.state w.caller.rank w.caller.thread line.call) (made-sound laws.steps t e sound) there going in
+    omega arith
+
+answered-less : WorkLaws → (limit : ℕ) (t : Turns) (place : ℕ) (w : Waiting) (line : ScriptLine) (tried : ℕ) (lines : List ScriptLine) (found : Option Ready) → IsSound t.state
+    → slice_get t.waiting place ≡ Some w → w.cursor ≡ Going line tried lines → is_active t.state w.caller.rank w.caller.thread ≡ true
+    → room_taken t.state w.caller.rank + present_need t.state w.caller line ≤ t.state.limits.events → answer_in t.state w.caller.rank w.caller.thread line.call ≡ found → (found ≡ None → ⊥)
+    → work limit (answered limit t place w line found) < work limit t
+answered-less laws limit t place w line tried lines None sound at going active room answers some = absurd (some refl)
+answered-less laws limit t place w line tried lines (Some (ready.Reply reply)) sound at going active room answers some = recorded-less laws.counts limit t place w line tried lines line.call reply sound at going
+answered-less laws limit t place w line tried lines (Some (ready.Join args)) sound at going active room answers some =
+    joined-less laws limit t place w line tried lines args sound at going (laws.joins t.state w.caller line args sound active room answers)
+answered-less laws limit t place w line tried lines (Some ready.NotReady) sound at going active room answers some = looked-less laws.counts limit t place w line tried lines sound at going
 
 -- a look at a call finds something where the caller's rank is there
 pub answer-some : (s : State) (rank thread : ℕ) (call : Call) → IsSound s → rank < s.limits.ranks → answer_in s rank thread call ≡ None → ⊥
@@ -157,15 +204,17 @@ answer-some s rank thread call sound within none = go (slice_get s.posts rank) r
     go None hp = past-none s.posts rank (let same = sound.ranks in omega arith) hp
     go (Some posts) hp = let no = rw hp at none in cc
 
-going-less-turn : Counts → (limit : ℕ) (t : Turns) (place : ℕ) (w : Waiting) (line : ScriptLine) (tried : ℕ) (lines : List ScriptLine) → IsSound t.state → w.caller.rank < t.state.limits.ranks
-    → slice_get t.waiting place ≡ Some w → w.cursor ≡ Going line tried lines → work limit (going_turn limit t place w line) < work limit t
-going-less-turn counts limit t place w line tried lines sound within at going = go (nat_lt t.state.limits.events (room_taken t.state w.caller.rank + need_of line.call false false)) refl
+going-less-turn : WorkLaws → (limit : ℕ) (t : Turns) (place : ℕ) (w : Waiting) (line : ScriptLine) (tried : ℕ) (lines : List ScriptLine) → IsSound t.state → w.caller.rank < t.state.limits.ranks
+    → is_active t.state w.caller.rank w.caller.thread ≡ true → slice_get t.waiting place ≡ Some w → w.cursor ≡ Going line tried lines → work limit (going_turn limit t place w line) < work limit t
+going-less-turn laws limit t place w line tried lines sound within active at going = go (nat_lt t.state.limits.events (room_taken t.state w.caller.rank + present_need t.state w.caller line)) refl
   where
-    go : (b : Bool) → nat_lt t.state.limits.events (room_taken t.state w.caller.rank + need_of line.call false false) ≡ b → work limit (going_turn limit t place w line) < work limit t
+    go : (b : Bool) → nat_lt t.state.limits.events (room_taken t.state w.caller.rank + present_need t.state w.caller line) ≡ b → work limit (going_turn limit t place w line) < work limit t
     go true full =
         let w' : Waiting = record { caller = w.caller; cursor = stopped w.cursor halts.Limit; looks = 0 } in
         rw full (waiting-less limit t place w w' at (rw going (omega arith)))
-    go false room = rw room (answered-less counts limit t place w line tried lines (answer_in t.state w.caller.rank w.caller.thread line.call) sound at going
+    go false room =
+        let fits = ltb-false t.state.limits.events (room_taken t.state w.caller.rank + present_need t.state w.caller line) room in
+        rw room (answered-less laws limit t place w line tried lines (answer_in t.state w.caller.rank w.caller.thread line.call) sound at going active fits refl
         (answer-some t.state w.caller.rank w.caller.thread line.call sound within))
 
 ending-less : Counts → (limit : ℕ) (t : Turns) (place : ℕ) (w : Waiting) (outcome : RunOutcome) → IsSound t.state
@@ -179,41 +228,37 @@ ending-less counts limit t place w outcome sound at over =
     (sum_by-remove (waiting_work limit) t.waiting place w (slice_get_within t.waiting place w at)) in
     omega arith
 
-caller-less : Counts → (limit : ℕ) (t : Turns) (place : ℕ) (w : Waiting) → IsSound t.state → w.caller.rank < t.state.limits.ranks
-    → slice_get t.waiting place ≡ Some w → work limit (caller_turn limit t place w) < work limit t
-caller-less counts limit t place w sound within at = go w.cursor refl
+caller-less : WorkLaws → (limit : ℕ) (t : Turns) (place : ℕ) (w : Waiting) → IsSound t.state → w.caller.rank < t.state.limits.ranks
+    → is_active t.state w.caller.rank w.caller.thread ≡ true → slice_get t.waiting place ≡ Some w → work limit (caller_turn limit t place w) < work limit t
+caller-less laws limit t place w sound within active at = go w.cursor refl
   where
     go : (p : Progress) → w.cursor ≡ p → work limit (caller_turn limit t place w) < work limit t
     go (Going line tried lines) is =
-        subst (λ (x : Turns). work limit x < work limit t) (sym (ap (λ (p : Progress). progress_turn limit t place w p) is)) (going-less-turn counts limit t place w line tried lines sound within at is)
+        subst (λ (x : Turns). work limit x < work limit t) (sym (ap (λ (p : Progress). progress_turn limit t place w p) is)) (going-less-turn laws limit t place w line tried lines sound within active at is)
     go (Over outcome) is =
-        subst (λ (x : Turns). work limit x < work limit t) (sym (ap (λ (p : Progress). progress_turn limit t place w p) is)) (ending-less counts limit t place w outcome sound at is)
-
--- each transfer that is listed is a step
-abbrev pub TransfersAreSteps : Type 0
-TransfersAreSteps = (s : State) (t : Transfer) (k : ℕ) → IsSound s → slice_get (transfers s.limits s.posts) k ≡ Some t → IsOk (step s (transfer_event s t))
+        subst (λ (x : Turns). work limit x < work limit t) (sym (ap (λ (p : Progress). progress_turn limit t place w p) is)) (ending-less laws.counts limit t place w outcome sound at is)
 
 -- the callers that wait are of ranks that are there
 abbrev pub AreRanked : Turns → Type 0
 AreRanked t = (place : ℕ) (w : Waiting) → slice_get t.waiting place ≡ Some w → w.caller.rank < t.state.limits.ranks
 
-candidate-less : Counts → TransfersAreSteps → (limit : ℕ) (t : Turns) (candidate : ℕ) → IsSound t.state → AreRanked t → candidate < candidates t
+candidate-less : WorkLaws → (limit : ℕ) (t : Turns) (candidate : ℕ) → IsSound t.state → AreRanked t → AreActive t → candidate < candidates t
     → work limit (candidate_turn limit t candidate) < work limit t
-candidate-less counts enabled limit t candidate sound ranked less = of-caller (slice_get t.waiting candidate) refl
+candidate-less laws limit t candidate sound ranked active less = of-caller (slice_get t.waiting candidate) refl
   where
     of-transfer : (o : Option Transfer) → slice_get t.waiting candidate ≡ None → slice_get (transfers t.state.limits t.state.posts) (candidate - length t.waiting) ≡ o
         → work limit (candidate_turn limit t candidate) < work limit t
     of-transfer None past none =
         let over = none-past t.waiting candidate past in
         absurd (past-none (transfers t.state.limits t.state.posts) (candidate - length t.waiting) (omega arith) none)
-    of-transfer (Some transfer) past at = rw (past, at) (made-less counts limit t (transfer_event t.state transfer) sound (enabled t.state transfer (candidate - length t.waiting) sound at))
+    of-transfer (Some transfer) past at = rw (past, at) (made-less laws.counts limit t (transfer_event t.state transfer) sound (laws.transfers t.state transfer (candidate - length t.waiting) sound at))
 
     of-caller : (o : Option Waiting) → slice_get t.waiting candidate ≡ o → work limit (candidate_turn limit t candidate) < work limit t
-    of-caller (Some w) at = rw at (caller-less counts limit t candidate w sound (ranked candidate w at) at)
+    of-caller (Some w) at = rw at (caller-less laws limit t candidate w sound (ranked candidate w at) (active candidate w at) at)
     of-caller None past = of-transfer (slice_get (transfers t.state.limits t.state.posts) (candidate - length t.waiting)) past refl
 
 -- each turn with a candidate leaves less work
-pub turn-less : Counts → TransfersAreSteps → (limit : ℕ) (t : Turns) → IsSound t.state → AreRanked t → 0 < candidates t → work limit (turn limit t) < work limit t
-turn-less counts enabled limit t sound ranked some =
+pub turn-less : WorkLaws → (limit : ℕ) (t : Turns) → IsSound t.state → AreRanked t → AreActive t → 0 < candidates t → work limit (turn limit t) < work limit t
+turn-less laws limit t sound ranked active some =
     let apart : (candidates t == 0) ≡ false = ne_eqb (candidates t) 0 (omega arith) in
-    rw apart (candidate-less counts enabled limit (with_draw t) (picked (drawn t.x) (candidates t)) sound ranked (omega arith))
+    rw apart (candidate-less laws limit (with_draw t) (picked (drawn t.x) (candidates t)) sound ranked active (omega arith))

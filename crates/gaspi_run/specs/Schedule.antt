@@ -1,5 +1,5 @@
 -- The schedule on one thread: turns of callers and of transfers, picked by the generator. (own choice)
-use Rattle.std.specs.Prelude.{count_by, ◌<◌, ◌≡◌, ℕ, zero, suc, ◌+◌, ◌-◌, true, false, ◌==◌, nat_lt, nat_le, List, [], ◌∷◌, ◌++◌, length, remove, Option, None, Some, Result, Ok, Err, if◌then◌else◌, slice_get, slice_set, find}
+use Rattle.std.specs.Prelude.{count_by, ◌<◌, ◌≡◌, Bool, ℕ, zero, suc, ◌+◌, ◌-◌, true, false, ◌==◌, nat_lt, nat_le, List, [], ◌∷◌, ◌++◌, length, remove, Option, None, Some, Result, Ok, Err, if◌then◌else◌, slice_get, slice_set, find}
 use Rattle.std.specs.List.{flat_map, range_with_len}
 use Rattle.gaspi_types.specs.CallRows.{need_of}
 use Rattle.gaspi_types.specs.World.{World, is_caller}
@@ -15,12 +15,14 @@ use Rattle.gaspi_types.specs.declared.replies.Ready.TheVariants as ready
 use Rattle.gaspi_types.specs.declared.events.Transfer.{Transfer}
 use Rattle.gaspi_types.specs.declared.events.Event.{Event}
 use Rattle.gaspi_types.specs.declared.events.Event.TheVariants.{Called}
+use Rattle.gaspi_types.specs.declared.groups.Args.{Args}
 use Rattle.gaspi_model.specs.State.{opening}
-use Rattle.gaspi_model.specs.Step.{step, answer_in, room_taken, transfer_event, own_calls, reached, is_declared}
+use Rattle.gaspi_model.specs.Step.{step, answer_in, room_taken, transfer_event, own_calls, reached, is_active, is_pending}
 use Rattle.gaspi_model.specs.Transfers.{transfers}
 use Rattle.gaspi_model.specs.Settled.{IsSettled}
 use Rattle.gaspi_model.specs.declared.states.State.{State}
 use Rattle.gaspi_model.specs.declared.states.Why.{Why}
+use Rattle.plain_machine.specs.Looking.{join_event}
 use Rattle.rank_script.specs.Runs.{Progress, Going, Over, going_on, advanced, stopped, IsRun, end_pair}
 use Rattle.rank_script.specs.WorldText.{is_script_of}
 use Rattle.rank_script.specs.declared.scripts.RunOutcome.TheVariants as outcomes
@@ -83,16 +85,46 @@ looked limit t place w line =
     then recorded t place w line.call replies.Timeout
     else with_waiting t place (record { caller = w.caller; cursor = w.cursor; looks = w.looks + 1 })
 
--- what a look finds
+-- the arguments with which a look found that a call may join
+abbrev pub join_args : Ready → Option Args
+join_args (ready.Reply reply) = None
+join_args (ready.Join args) = Some args
+join_args ready.NotReady = None
+
+-- the join of the present call to its group
+abbrev pub joined : Turns → Waiting → ScriptLine → Args → Turns
+joined t w line args = made t (join_event w.caller line.call args)
+
+-- what a look finds where the present call has joined: it joins once
+abbrev pub joined_answered : ℕ → Turns → ℕ → Waiting → ScriptLine → Option Ready → Turns
+joined_answered limit t place w line None = t
+joined_answered limit t place w line (Some (ready.Reply reply)) = recorded t place w line.call reply
+joined_answered limit t place w line (Some (ready.Join args)) = t
+joined_answered limit t place w line (Some ready.NotReady) = looked limit t place w line
+
+-- the look goes on where the present call has joined
+abbrev pub joined_turn : ℕ → Turns → ℕ → Waiting → ScriptLine → Turns
+joined_turn limit t place w line = joined_answered limit t place w line (answer_in t.state w.caller.rank w.caller.thread line.call)
+
+-- what a look finds: a call that may join its group joins, and is then looked at in the same turn
 abbrev pub answered : ℕ → Turns → ℕ → Waiting → ScriptLine → Option Ready → Turns
 answered limit t place w line None = t
 answered limit t place w line (Some (ready.Reply reply)) = recorded t place w line.call reply
+answered limit t place w line (Some (ready.Join args)) = joined_turn limit (joined t w line args) place w line
 answered limit t place w line (Some ready.NotReady) = looked limit t place w line
+
+-- the room that the present call of a caller needs
+abbrev pub present_need : State → CallerId → ScriptLine → ℕ
+present_need s c line = need_of line.call (is_pending s c.rank c.thread line.call) false
+
+-- whether its rank has no room for that
+abbrev pub is_full : State → CallerId → ScriptLine → Bool
+is_full s c line = nat_lt s.limits.events (room_taken s c.rank + present_need s c line)
 
 -- the turn of a caller whose script goes on: where its rank has no room for what the call needs, its run ends
 abbrev pub going_turn : ℕ → Turns → ℕ → Waiting → ScriptLine → Turns
 going_turn limit t place w line =
-    if nat_lt t.state.limits.events (room_taken t.state w.caller.rank + need_of line.call false false)
+    if is_full t.state w.caller line
     then with_waiting t place (record { caller = w.caller; cursor = stopped w.cursor halts.Limit; looks = 0 })
     else answered limit t place w line (answer_in t.state w.caller.rank w.caller.thread line.call)
 
@@ -151,9 +183,9 @@ pub record HasSettled (w : World) (journal : List Event) : Type 0 where
   pub leads : reached w journal ≡ Ok state
   pub settled : IsSettled state
 
--- the callers that wait are declared
-abbrev pub AreDeclared : Turns → Type 0
-AreDeclared t = (place : ℕ) (x : Waiting) → slice_get t.waiting place ≡ Some x → is_declared t.state x.caller.rank x.caller.thread ≡ true
+-- the callers that wait have sections and have not ended
+abbrev pub AreActive : Turns → Type 0
+AreActive t = (place : ℕ) (x : Waiting) → slice_get t.waiting place ≡ Some x → is_active t.state x.caller.rank x.caller.thread ≡ true
 
 -- How a caller ended: its calls are a run of its script, with that outcome; and where it ended at the event limit, there
 -- is a history that the journal begins with, which has all its calls but the end, and after which its rank had no room
@@ -166,7 +198,7 @@ pub record HadNoRoom (w : World) (journal : List Event) (caller : CallerId) (lin
   pub calls : own_calls caller.rank caller.thread before ++ end_pair ≡ own_calls caller.rank caller.thread journal
   pub state : State
   pub leads : reached w before ≡ Ok state
-  pub full : w.limits.events < room_taken state caller.rank + need_of line.call false false
+  pub full : w.limits.events < room_taken state caller.rank + present_need state caller line
 
 abbrev pub HasLimitCause : World → List Event → CallerId → List ScriptLine → RunOutcome → Type 0
 HasLimitCause w journal caller lines outcomes.Ended = Unit {0}

@@ -1,20 +1,22 @@
 //! What a turn does: the present call of a caller, its end, or a transfer.
 
 ghost use Rattle.std.specs.Prelude.{◌≡◌, ℕ, ◌+◌, ◌<◌, ◌≤◌, ◌++◌, ◌∷◌, [], OnOk, Ok, Some, true, false, length, slice_get};
-ghost use Rattle.gaspi_types.specs.declared.replies.Ready.TheVariants.{NotReady};
+ghost use Rattle.gaspi_types.specs.declared.replies.Ready.{Ready};
+ghost use Rattle.gaspi_types.specs.declared.replies.Ready.TheVariants.{Join, NotReady};
 ghost use Rattle.gaspi_model.specs.Calls.{recorded_reply};
-ghost use Rattle.gaspi_model.specs.Step.{transfer_event};
+ghost use Rattle.gaspi_model.specs.Step.{answer_in, transfer_event};
 ghost use Rattle.gaspi_model.specs.Transfers.{transfers};
 ghost use Rattle.gaspi_run.specs.Generator.{drawn, picked};
-ghost use Rattle.gaspi_run.specs.Schedule.{made, looks_of, recorded, looked, going_turn, ending_turn, caller_turn, candidate_turn, candidates, turn, AreDeclared};
+ghost use Rattle.gaspi_run.specs.Schedule.{made, looks_of, recorded, looked, join_args, joined, joined_turn, is_full, going_turn, ending_turn, caller_turn, candidate_turn, candidates, turn, AreActive};
+ghost use Rattle.plain_calls.specs.Looks.{is_join};
 ghost use Rattle.plain_machine.specs.Looking.{IsFindingIn};
 ghost use Rattle.rank_script.specs.Runs.{advanced};
 ghost use Rattle.rank_script.specs.declared.scripts.ScriptLine.{ScriptLine};
 ghost use Rattle.gaspi_run.specs.declared.turns.Waiting.{Waiting};
 
 use crate::turns::{Finished, Turns, Waiting};
-use gaspi_model::StepFault;
-use gaspi_types::{Call, Event, NoMemory, Ready, Reply, Timeout, Transfer, need};
+use gaspi_model::{StepFault, soundness};
+use gaspi_types::{Args, Call, Event, NoMemory, Ready, Reply, Timeout, Transfer, need};
 use plain_calls::Finding;
 use rank_script::{Halted, RunOutcome};
 use std::alloc::Global;
@@ -69,7 +71,7 @@ fn bring_on(waiting: &mut Waiting<'_>, ready: &Ready)
 {
     match ready {
         Ready::Reply(reply) => waiting.cursor.advance(reply),
-        Ready::NotReady => waiting.cursor.advance(&Reply::Timeout),
+        Ready::Join(_) | Ready::NotReady => waiting.cursor.advance(&Reply::Timeout),
     }
     waiting.looks = 0;
 }
@@ -83,8 +85,9 @@ fn record_call(
     look: Finding,
 ) -> Result<(), NoMemory>
     requires place { place < length turns.old.waiting }
-    requires declared { AreDeclared turns.old }
+    requires active { AreActive turns.old }
     requires look { (w : Waiting) → slice_get turns.old.waiting place ≡ Some w → IsFindingIn look turns.old.state w.caller call.now }
+    requires unjoined { is_join look.ready ≡ false }
     ensures { (w : Waiting) → slice_get turns.old.waiting place ≡ Some w → OnOk result (turns.new ≡ recorded turns.old place w call.now (recorded_reply look.ready)) }
 {
     let call = call.copy(alloc)?;
@@ -129,7 +132,7 @@ fn look_again(
     look: Finding,
 ) -> Result<(), NoMemory>
     requires place { place < length turns.old.waiting }
-    requires declared { AreDeclared turns.old }
+    requires active { AreActive turns.old }
     requires look { (w : Waiting) → slice_get turns.old.waiting place ≡ Some w → IsFindingIn look turns.old.state w.caller call.now }
     requires not_ready { look.ready ≡ NotReady }
     ensures { (w : Waiting) (line : ScriptLine) → slice_get turns.old.waiting place ≡ Some w → line.call ≡ call.now → line.timeout ≡ timeout
@@ -144,6 +147,83 @@ fn look_again(
     Ok(())
 }
 
+/// The arguments with which a look found that a call may join its group.
+fn join_args(look: Finding) -> Option<Args>
+    ensures { result ≡ join_args look.ready }
+{
+    let Finding {
+        ready,
+        kinds: _,
+        message: _,
+    } = look;
+    match ready {
+        Ready::Join(args) => Some(args),
+        Ready::Reply(_) | Ready::NotReady => None,
+    }
+}
+
+/// The join of the present call of a waiting caller to its group, where a look found that it may. (GASPI: collectives)
+fn join_group(
+    turns: &mut Turns,
+    alloc: Global,
+    place: usize,
+    call: &Call,
+    args: Args,
+) -> Result<(), NoMemory>
+    requires place { place < length turns.old.waiting }
+    requires active { AreActive turns.old }
+    requires joins { (w : Waiting) → slice_get turns.old.waiting place ≡ Some w → answer_in turns.old.state w.caller.rank w.caller.thread call.now ≡ Some (Join args) }
+    ensures joined { (w : Waiting) (line : ScriptLine) → slice_get turns.old.waiting place ≡ Some w → line.call ≡ call.now → OnOk result (turns.new ≡ joined turns.old w line args) }
+    ensures active { OnOk result (AreActive turns.new) }
+    ensures waiting { turns.new.waiting ≡ turns.old.waiting }
+{
+    soundness();
+    let caller = turns.waiting.at(place).caller;
+    match turns.state.join(alloc, caller, call, args) {
+        Ok(event) => {
+            turns.journal.push(event)?;
+            Ok(())
+        }
+        Err(StepFault::Illegal(_)) => Ok(()),
+        Err(StepFault::NoMemory) => Err(NoMemory),
+    }
+}
+
+/// The look at the present call of a waiting caller goes on, which has joined its group.
+fn look_joined(
+    turns: &mut Turns,
+    alloc: Global,
+    limit: u32,
+    place: usize,
+    call: &Call,
+    timeout: Timeout,
+) -> Result<(), NoMemory>
+    requires place { place < length turns.old.waiting }
+    requires active { AreActive turns.old }
+    ensures { (w : Waiting) (line : ScriptLine) → slice_get turns.old.waiting place ≡ Some w → line.call ≡ call.now → line.timeout ≡ timeout
+        → OnOk result (turns.new ≡ joined_turn limit turns.old place w line) }
+{
+    let caller = turns.waiting.at(place).caller;
+    let found = turns.state.look(alloc, caller, call)?;
+    match found.ready {
+        Ready::Reply(_) => record_call(turns, alloc, place, call, found),
+        Ready::Join(_) => Ok(()),
+        Ready::NotReady => look_again(turns, alloc, limit, place, call, timeout, found),
+    }
+}
+
+/// Whether the rank of a waiting caller has no room for what its present call needs.
+fn is_full(turns: &Turns, place: usize, call: &Call) -> bool
+    requires place { place < length turns.now.waiting }
+    requires active { AreActive turns.now }
+    ensures { (w : Waiting) (line : ScriptLine) → slice_get turns.now.waiting place ≡ Some w → line.call ≡ call.now → result ≡ is_full turns.now.state w.caller line }
+{
+    let caller = turns.waiting.at(place).caller;
+    let pending = turns.state.is_pending(caller, call);
+    let rank = turns.waiting.at(place).caller.rank;
+    turns.state.room(rank) < need(call, pending, false)
+}
+
 /// The turn of a waiting caller whose script goes on.
 fn go_on(
     turns: &mut Turns,
@@ -154,28 +234,37 @@ fn go_on(
     timeout: Timeout,
 ) -> Result<(), NoMemory>
     requires place { place < length turns.old.waiting }
-    requires declared { AreDeclared turns.old }
+    requires active { AreActive turns.old }
     ensures { (w : Waiting) (line : ScriptLine) → slice_get turns.old.waiting place ≡ Some w → line.call ≡ call.now → line.timeout ≡ timeout
         → OnOk result (turns.new ≡ going_turn limit turns.old place w line) }
 {
-    let caller = turns.waiting.at(place).caller;
-    if turns.state.room(caller.rank) < need(call, false, false) {
+    if is_full(turns, place, call) {
         let waiting = turns.waiting.at_mut(place);
         waiting.cursor.stop(Halted::Limit);
         waiting.looks = 0;
         return Ok(());
     }
+    let caller = turns.waiting.at(place).caller;
     let look = turns.state.look(alloc, caller, call)?;
     if matches!(look.ready, Ready::NotReady) {
         return look_again(turns, alloc, limit, place, call, timeout, look);
     }
-    record_call(turns, alloc, place, call, look)
+    if matches!(look.ready, Ready::Reply(_)) {
+        return record_call(turns, alloc, place, call, look);
+    }
+    match join_args(look) {
+        Some(args) => {
+            join_group(turns, alloc, place, call, args)?;
+            look_joined(turns, alloc, limit, place, call, timeout)
+        }
+        None => Ok(()),
+    }
 }
 
 /// The turn of a waiting caller.
 fn caller_turn(turns: &mut Turns, alloc: Global, limit: u32, place: usize) -> Result<(), NoMemory>
     requires place { place < length turns.old.waiting }
-    requires declared { AreDeclared turns.old }
+    requires active { AreActive turns.old }
     ensures { (w : Waiting) → slice_get turns.old.waiting place ≡ Some w → OnOk result (turns.new ≡ caller_turn limit turns.old place w) }
 {
     let cursor = &turns.waiting.at(place).cursor;
@@ -209,7 +298,7 @@ fn candidate_turn(
     limit: u32,
     candidate: usize,
 ) -> Result<(), NoMemory>
-    requires declared { AreDeclared turns.old }
+    requires active { AreActive turns.old }
     ensures { OnOk result (turns.new ≡ candidate_turn limit turns.old candidate) }
 {
     let waiting = turns.waiting.len();
@@ -224,7 +313,7 @@ fn candidate_turn(
 
 /// One turn: a draw picks the candidate. False where there is none, and then nothing has happened.
 pub fn turn(turns: &mut Turns, alloc: Global, limit: u32) -> Result<bool, NoMemory>
-    requires { AreDeclared turns.old }
+    requires { AreActive turns.old }
     ensures over { result ≡ Ok false → (candidates turns.old ≡ 0) × (turns.new ≡ turns.old) }
     ensures turned { result ≡ Ok true → (0 < candidates turns.old) × (turns.new ≡ turn limit turns.old) }
 {

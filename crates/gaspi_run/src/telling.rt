@@ -1,6 +1,7 @@
 //! What the commands tell of their inputs.
 
 ghost use Rattle.std.specs.Prelude.{◌≡◌, ◌<◌, ◌≤◌, ◌+◌, ◌^◌, ℕ, length, [], IfOk, IsErrOf, Err, true, false};
+ghost use Rattle.call_journal.specs.JournalText.{HaveOwnValues};
 ghost use Rattle.rank_script.specs.WorldText.{world_text, checked_world};
 ghost use Rattle.rank_script.specs.declared.scripts.ScriptFault.TheVariants as script_faults;
 ghost use Rattle.text_lines.specs.Lines.{fed_lines};
@@ -68,6 +69,7 @@ fn run_text(
     scripts: &Scripts,
     journal: &Journal,
 ) -> Result<Bytes, NoMemory>
+    requires { HaveOwnValues journal.now }
     ensures { IfOk result (λ text. text ≡ run_text brief shape.now scripts.now journal.now) }
 {
     let mut text = Bytes::new(alloc);
