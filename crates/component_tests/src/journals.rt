@@ -2,7 +2,8 @@
 
 use crate::one_rank::{notified, shape, taken};
 use call_journal::{
-    Journal, JournalFault, ReservedJournal, Verdict, check, journals_differ_in_text, read, write,
+    Journal, JournalFault, ReservedJournal, Verdict, check, have_own_values,
+    journals_differ_in_text, read, write,
 };
 use gaspi_types::Bytes;
 use std::alloc::Global;
@@ -17,6 +18,7 @@ fn assert_text(
     expected: &[u8],
 ) -> Result<(), Fail> {
     let mut text = Bytes::new(alloc);
+    assert!(rt; have_own_values(journal));
     write(&mut text, journal)?;
     assert!(rt; text.as_slice() == expected);
     let again = read(alloc, expected)?;

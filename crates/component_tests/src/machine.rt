@@ -2,8 +2,8 @@
 
 use crate::one_rank::{caller, notified, notify, put, shape, taken};
 use gaspi_types::{
-    Call, Event, Item, NoMemory, QueueId, RankId, Ready, Reply, Reset, Rows, Transfer,
-    WriteListNotify,
+    Args, Barrier, Call, Coll, Event, GroupId, Item, NoMemory, NumType, Numbers, QueueId, RankId,
+    Ready, Reply, Reset, Rows, Transfer, WriteListNotify,
 };
 use plain_machine::Machine;
 use std::alloc::Global;
@@ -123,5 +123,44 @@ fn a_list_is_posted_by_an_event(rt: HostRuntime) -> Result<(), Fail> {
     steps(&rt, alloc, &mut machine, &posted);
     has_room(&rt, &machine, 992);
     assert_eq!(rt; machine.transfer_count(), 3);
+    Ok(())
+}
+
+/// A barrier of all ranks.
+fn barrier() -> Call {
+    Call::Barrier(Barrier { group: 0 })
+}
+
+/// Looks at the barrier, which may join, and joins.
+fn joins(rt: &impl Abort, alloc: Global, machine: &mut Machine) -> Result<(), Fail> {
+    assert!(rt; machine.is_declared(caller()));
+    let ready = machine.answer(alloc, caller(), &barrier())?;
+    if let Ready::Join(args) = ready {
+        let joined = machine.join(alloc, caller(), &barrier(), args);
+        assert!(rt; joined.is_ok());
+    }
+    Ok(())
+}
+
+#[test]
+fn a_barrier_joins_and_completes(rt: HostRuntime) -> Result<(), Fail> {
+    let alloc = rt.alloc();
+    let mut machine = start(alloc)?;
+    assert!(rt; !machine.is_pending(caller(), &barrier()));
+    joins(&rt, alloc, &mut machine)?;
+    assert!(rt; machine.is_pending(caller(), &barrier()));
+    let done = Event::Called(caller(), barrier(), Reply::Done);
+    steps(&rt, alloc, &mut machine, &done);
+    assert!(rt; !machine.is_pending(caller(), &barrier()));
+    let joined = Event::Joined(
+        caller(),
+        GroupId::of(0),
+        Args {
+            coll: Coll::Barrier,
+            values: Numbers::new(NumType::Int, Rows::new(alloc)),
+        },
+    );
+    steps(&rt, alloc, &mut machine, &joined);
+    assert!(rt; machine.is_pending(caller(), &barrier()));
     Ok(())
 }

@@ -231,6 +231,17 @@ fn refusals_that_no_run_has(rt: HostRuntime) -> Result<(), Fail> {
 }
 
 #[test]
+fn calls_of_collectives_have_texts(rt: HostRuntime) -> Result<(), Fail> {
+    let alloc = rt.alloc();
+    assert!(rt; is_call_text(alloc, b"commit 1")?);
+    assert!(rt; is_call_text(alloc, b"barrier 0")?);
+    assert!(rt; is_call_text(alloc, b"create 3 16 0")?);
+    assert!(rt; is_call_text(alloc, b"allreduce 0 SUM INT 2 1 -2")?);
+    assert!(rt; CallWord::Create.takes_timeout() && CallWord::Allreduce.takes_timeout());
+    Ok(())
+}
+
+#[test]
 fn collectives_have_texts(rt: HostRuntime) -> Result<(), Fail> {
     let refusals = [
         Refusal::ResumeOther {

@@ -1,8 +1,9 @@
 use Rattle.std.proofs.Common.{◌≡◌, ◌<◌, true, sym, subst}
+use Rattle.call_journal.specs.JournalText.{HaveOwnValues}
 use Rattle.gaspi_model.specs.Step.{is_legal}
 use Rattle.gaspi_run.specs.Schedule.{HasSettled, HaveEnded}
 use Rattle.gaspi_run.specs.declared.turns.Turns.{Turns}
-use Rattle.gaspi_run.proofs.ScheduleLoop.{known, laws, turned-active, turned-less, turned-more, over-legal, over-ended, over-settled, end_laws}
+use Rattle.gaspi_run.proofs.ScheduleLoop.{known, laws, turned-active, turned-own, turned-less, turned-more, over-legal, over-ended, over-settled, end_laws}
 use Rattle.gaspi_run.proofs.Joins.{joins-are-steps, joins-keep-room}
 use Rattle.gaspi_run.proofs.Work.{work}
 use Rattle.gaspi_run.proofs.scheduling.schedule.Goals as goal
@@ -54,3 +55,21 @@ returns-clause-settled c =
     c.soundness.ensures.counts c.enabled.ensures.transfer c.soundness.ensures.opens c.limits-limits.ensures.world c.requires.scripts c.len-count.ensures.plain)
     (end_laws c.settling.ensures.empties c.endings.ensures)
     c.loop-turns.invariant over.0)
+
+pub journal_is_in_range-requires : goal.journal_is_in_range-requires
+journal_is_in_range-requires c =
+    let over = c.in_ok-turn.ensures.over (cc) in
+    subst (λ (t : Turns). HaveOwnValues t.journal) (sym over.1)
+    (turned-own c.args.shape.now c.args.scripts.now c.args.seed c.args.limit c.loop-turns.turns
+    (known _ _ (laws c.soundness.ensures.steps c.soundness.ensures.limits c.soundness.ensures.active c.enabled.ensures.call (joins-are-steps c.enabled.ensures.join) (joins-keep-room c.soundness.ensures.limits c.enabled.ensures.joined c.enabled.ensures.pending c.enabled.ensures.needs) c.runs.ensures.onward c.runs.ensures.ended c.runs.ensures.stopped)
+    c.soundness.ensures.counts c.enabled.ensures.transfer c.soundness.ensures.opens c.limits-limits.ensures.world c.requires.scripts c.len-count.ensures.plain)
+    c.loop-turns.invariant)
+
+pub returns-clause-values : goal.returns-clause-values
+returns-clause-values c =
+    let over = c.in_ok-turn.ensures.over (cc) in
+    subst (λ (t : Turns). HaveOwnValues t.journal) (sym over.1)
+    (turned-own c.args.shape.now c.args.scripts.now c.args.seed c.args.limit c.loop-turns.turns
+    (known _ _ (laws c.soundness.ensures.steps c.soundness.ensures.limits c.soundness.ensures.active c.enabled.ensures.call (joins-are-steps c.enabled.ensures.join) (joins-keep-room c.soundness.ensures.limits c.enabled.ensures.joined c.enabled.ensures.pending c.enabled.ensures.needs) c.runs.ensures.onward c.runs.ensures.ended c.runs.ensures.stopped)
+    c.soundness.ensures.counts c.enabled.ensures.transfer c.soundness.ensures.opens c.limits-limits.ensures.world c.requires.scripts c.len-count.ensures.plain)
+    c.loop-turns.invariant)
