@@ -19,7 +19,6 @@ use Rattle.gaspi_model.specs.Step.{step, answer_in, call_memory, is_active, is_p
 use Rattle.gaspi_model.specs.declared.states.Posts.{Posts}
 use Rattle.gaspi_model.specs.declared.states.State.{State}
 use Rattle.plain_machine.specs.Looking.{group_of, join_event}
-use Rattle.rank_script.specs.declared.scripts.ScriptLine.{ScriptLine}
 use Rattle.gaspi_run.specs.Schedule.{present_need}
 use Rattle.gaspi_run.proofs.Work.{JoinsAreSteps}
 use Rattle.gaspi_run.proofs.RunningAll.{JoinsKeepRoom}
