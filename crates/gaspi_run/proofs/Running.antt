@@ -2,6 +2,7 @@
 use Rattle.std.proofs.Common.{◌≡◌, ℕ, zero, suc, ◌+◌, ◌<◌, ◌≤◌, Bool, true, false, List, [], ◌∷◌, ◌++◌, Option, Some, Ok, refl, sym, ap, ◌∙◌, subst, arith, ◌==◌, ◌⊎◌, inl, inr, find, cond, count_by, if◌then◌else◌, append_assoc, append-nil}
 use Rattle.std.specs.List.{slice_get, slice_set}
 use Rattle.std.proofs.lemmas.Bool.{eqb-true, eqb-false, eq-eqb}
+use Rattle.std.proofs.lemmas.List.Elements.{filter-append}
 use Rattle.std.proofs.lemmas.List.Sums.{sum_by-cons, get_or-le-sum_by}
 use Rattle.std.proofs.lemmas.Option.{slice_get_within, get_or_from_slice_get}
 use Rattle.gaspi_types.specs.World.{World, is_caller}
@@ -9,7 +10,7 @@ use Rattle.gaspi_types.specs.declared.shapes.CallerId.{CallerId}
 use Rattle.gaspi_types.specs.declared.calls.Call.{Call}
 use Rattle.gaspi_types.specs.declared.replies.Reply.{Reply}
 use Rattle.gaspi_types.specs.declared.events.Event.{Event}
-use Rattle.gaspi_types.specs.declared.events.Event.TheVariants.{Called}
+use Rattle.gaspi_types.specs.declared.events.Event.TheVariants.{Called, Joined, Take, Put}
 use Rattle.gaspi_model.specs.Step.{reached, room_taken, own_calls, is_active}
 use Rattle.gaspi_model.specs.declared.states.State.{State}
 use Rattle.gaspi_types.proofs.Items.{slice_get-set_same, slice_get-set_other}
@@ -20,7 +21,7 @@ use Rattle.rank_script.specs.declared.scripts.ScriptLine.{ScriptLine}
 use Rattle.rank_script.specs.declared.scripts.RunOutcome.{RunOutcome}
 use Rattle.rank_script.specs.declared.scripts.RunOutcome.TheVariants as outcomes
 use Rattle.gaspi_run.specs.declared.turns.Finished.{Finished}
-use Rattle.gaspi_run.specs.Schedule.{present_need, HasLimitCause, HasEnded}
+use Rattle.gaspi_run.specs.Schedule.{present_need, is_own, own_events, HasLimitCause, HasEnded}
 use Rattle.gaspi_run.specs.declared.turns.Waiting.{Waiting}
 use Rattle.gaspi_run.specs.declared.turns.Turns.{Turns}
 
@@ -46,6 +47,27 @@ own-same c call reply = rw (eq-eqb c.rank c.rank refl, eq-eqb c.thread c.thread 
 
 pub own-other : (rank thread : ℕ) (c : CallerId) (call : Call) (reply : Reply) → is_caller rank thread c ≡ false → own_of rank thread (Called c call reply) ≡ []
 own-other rank thread c call reply apart = rw apart refl
+
+-- the same of its events
+pub own_events-append : (rank thread : ℕ) (a b : List Event) → own_events rank thread (a ++ b) ≡ own_events rank thread a ++ own_events rank thread b
+own_events-append rank thread a b = filter-append (is_own rank thread) a b
+
+pub events-same : (c : CallerId) (call : Call) (reply : Reply) → own_events c.rank c.thread (Called c call reply ∷ []) ≡ Called c call reply ∷ []
+events-same c call reply = rw (eq-eqb c.rank c.rank refl, eq-eqb c.thread c.thread refl) refl
+
+pub called-other : (rank thread : ℕ) (c : CallerId) (call : Call) (reply : Reply) → is_caller rank thread c ≡ false → own_events rank thread (Called c call reply ∷ []) ≡ []
+called-other rank thread c call reply apart = rw apart refl
+
+-- who has no event has no call
+no-call : (rank thread : ℕ) (e : Event) → own_events rank thread (e ∷ []) ≡ [] → own_of rank thread e ≡ []
+no-call rank thread (Called c call reply) none = go (is_caller rank thread c) none
+  where
+    go : (b : Bool) → (if b then Called c call reply ∷ [] else []) ≡ [] → if◌then◌else◌ {A = List (Call × Reply)} b ((call, reply) ∷ []) [] ≡ []
+    go true h = absurd (let no : ⊥ = cc in no)
+    go false h = refl
+no-call rank thread (Joined c id args) none = refl
+no-call rank thread (Take origin queue target number outcome) none = refl
+no-call rank thread (Put origin queue target number outcome) none = refl
 
 -- Callers that are counted.
 
@@ -166,7 +188,7 @@ pub record WasStopped (w : World) (journal : List Event) (c : CallerId) (lines :
   pub before : List Event
   pub later : List Event
   pub begins : before ++ later ≡ journal
-  pub calls : own_calls c.rank c.thread before ≡ own_calls c.rank c.thread journal
+  pub events : own_events c.rank c.thread before ≡ own_events c.rank c.thread journal
   pub state : State
   pub leads : reached w before ≡ Ok state
   pub full : w.limits.events < room_taken state c.rank + present_need state c line
@@ -190,10 +212,13 @@ pub record IsRunning (w : World) (scripts : List Script) (t : Turns) : Type 0 wh
 
 -- An event that is not a caller's own leaves what was said of it.
 
-pub stopped-more : (w : World) (journal : List Event) (e : Event) (c : CallerId) (lines : List ScriptLine) (outcome : RunOutcome) → own_of c.rank c.thread e ≡ []
+events-more : (c : CallerId) (journal : List Event) (e : Event) → own_events c.rank c.thread (e ∷ []) ≡ [] → own_events c.rank c.thread (journal ++ e ∷ []) ≡ own_events c.rank c.thread journal
+events-more c journal e foreign = own_events-append c.rank c.thread journal (e ∷ []) ∙ ap (λ (es : List Event). own_events c.rank c.thread journal ++ es) foreign ∙ append-nil _
+
+pub stopped-more : (w : World) (journal : List Event) (e : Event) (c : CallerId) (lines : List ScriptLine) (outcome : RunOutcome) → own_events c.rank c.thread (e ∷ []) ≡ []
     → WasStopped w journal c lines outcome → WasStopped w (journal ++ e ∷ []) c lines outcome
 stopped-more w journal e c lines outcome foreign s =
-    let same : own_calls c.rank c.thread (journal ++ e ∷ []) ≡ own_calls c.rank c.thread journal = own_calls-append c.rank c.thread journal (e ∷ []) ∙ rw foreign (append-nil _) in
+    let same : own_calls c.rank c.thread (journal ++ e ∷ []) ≡ own_calls c.rank c.thread journal = own_calls-append c.rank c.thread journal (e ∷ []) ∙ rw (no-call _ _ e foreign) (append-nil _) in
     record {
       line = s.line;
       tried = s.tried;
@@ -203,27 +228,26 @@ stopped-more w journal e c lines outcome foreign s =
       before = s.before;
       later = s.later ++ e ∷ [];
       begins = sym (append_assoc s.before s.later (e ∷ [])) ∙ ap (λ (h : List Event). h ++ e ∷ []) s.begins;
-      calls = s.calls ∙ sym same;
+      events = s.events ∙ sym (events-more c journal e foreign);
       state = s.state;
       leads = s.leads;
       full = s.full;
     }
 
-pub come-more : (w : World) (journal : List Event) (e : Event) (c : CallerId) (lines : List ScriptLine) (p : Progress) → own_of c.rank c.thread e ≡ []
+pub come-more : (w : World) (journal : List Event) (e : Event) (c : CallerId) (lines : List ScriptLine) (p : Progress) → own_events c.rank c.thread (e ∷ []) ≡ []
     → HasCome w journal c lines p → HasCome w (journal ++ e ∷ []) c lines p
 come-more w journal e c lines p foreign (inl follows) =
-    let same : own_calls c.rank c.thread (journal ++ e ∷ []) ≡ own_calls c.rank c.thread journal = own_calls-append c.rank c.thread journal (e ∷ []) ∙ rw foreign (append-nil _) in
+    let same : own_calls c.rank c.thread (journal ++ e ∷ []) ≡ own_calls c.rank c.thread journal = own_calls-append c.rank c.thread journal (e ∷ []) ∙ rw (no-call _ _ e foreign) (append-nil _) in
     inl (subst (λ (ps : List (Call × Reply)). Follows (going_on lines) ps p) (sym same) follows)
 come-more w journal e c lines p foreign (inr stopped) = inr (stopped.0, stopped.1, stopped-more w journal e c lines stopped.0 foreign stopped.2)
 
-limit-more : (w : World) (journal : List Event) (e : Event) (c : CallerId) (lines : List ScriptLine) (outcome : RunOutcome) → own_of c.rank c.thread e ≡ []
+limit-more : (w : World) (journal : List Event) (e : Event) (c : CallerId) (lines : List ScriptLine) (outcome : RunOutcome) → own_events c.rank c.thread (e ∷ []) ≡ []
     → HasLimitCause w journal c lines outcome → HasLimitCause w (journal ++ e ∷ []) c lines outcome
 limit-more w journal e c lines outcomes.Ended foreign h = tt
 limit-more w journal e c lines (outcomes.Failed number) foreign h = tt
 limit-more w journal e c lines (outcomes.Stuck number) foreign h = tt
 limit-more w journal e c lines (outcomes.NoMemory number) foreign h = h
 limit-more w journal e c lines (outcomes.Limit number) foreign h =
-    let same : own_calls c.rank c.thread (journal ++ e ∷ []) ≡ own_calls c.rank c.thread journal = own_calls-append c.rank c.thread journal (e ∷ []) ∙ rw foreign (append-nil _) in
     let r = h.4 in (
       h.0,
       h.1,
@@ -233,17 +257,17 @@ limit-more w journal e c lines (outcomes.Limit number) foreign h =
         before = r.before;
         later = r.later ++ e ∷ [];
         begins = sym (append_assoc r.before r.later (e ∷ [])) ∙ ap (λ (x : List Event). x ++ e ∷ []) r.begins;
-        calls = r.calls ∙ sym same;
+        events = r.events ∙ sym (events-more c journal e foreign);
         state = r.state;
         leads = r.leads;
         full = r.full;
       },
     )
 
-pub ended-more : (w : World) (scripts : List Script) (journal : List Event) (e : Event) (f : Finished) → own_of f.caller.rank f.caller.thread e ≡ []
+pub ended-more : (w : World) (scripts : List Script) (journal : List Event) (e : Event) (f : Finished) → own_events f.caller.rank f.caller.thread (e ∷ []) ≡ []
     → HasEnded w scripts journal f → HasEnded w scripts (journal ++ e ∷ []) f
 ended-more w scripts journal e f foreign h =
-    let same : own_calls f.caller.rank f.caller.thread (journal ++ e ∷ []) ≡ own_calls f.caller.rank f.caller.thread journal = own_calls-append f.caller.rank f.caller.thread journal (e ∷ []) ∙ rw foreign (append-nil _) in
+    let same : own_calls f.caller.rank f.caller.thread (journal ++ e ∷ []) ≡ own_calls f.caller.rank f.caller.thread journal = own_calls-append f.caller.rank f.caller.thread journal (e ∷ []) ∙ rw (no-call _ _ e foreign) (append-nil _) in
     record {
       script = h.script;
       is_script = h.is_script;

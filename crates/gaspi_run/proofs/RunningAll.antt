@@ -35,13 +35,13 @@ use Rattle.rank_script.specs.declared.scripts.ScriptLine.{ScriptLine}
 use Rattle.rank_script.specs.declared.scripts.RunOutcome.{RunOutcome}
 use Rattle.rank_script.specs.declared.scripts.RunOutcome.TheVariants as outcomes
 use Rattle.gaspi_run.specs.Generator.{drawn, picked}
-use Rattle.gaspi_run.specs.Schedule.{made, looks_of, recorded, looked, joined, joined_answered, joined_turn, answered, present_need, going_turn, ending_turn, progress_turn, caller_turn, candidate_turn, candidates, with_draw, turn, turns}
+use Rattle.gaspi_run.specs.Schedule.{made, looks_of, recorded, looked, joined, joined_answered, joined_turn, answered, present_need, own_events, going_turn, ending_turn, progress_turn, caller_turn, candidate_turn, candidates, with_draw, turn, turns}
 use Rattle.gaspi_run.specs.declared.turns.Waiting.{Waiting}
 use Rattle.gaspi_run.specs.declared.turns.Turns.{Turns}
 use Rattle.gaspi_run.proofs.Good.{IsGood, Steps, LimitsStay, good-made, good-turn}
 use Rattle.gaspi_run.proofs.Work.{JoinsAreSteps}
-use Rattle.gaspi_run.proofs.Running.{IsRunning, Goes, HasCome, own_of, line-there, find-there}
-use Rattle.gaspi_run.proofs.RunningTurns.{ActiveStays, Onward, foreign-step, waiting-changed, called-step}
+use Rattle.gaspi_run.proofs.Running.{IsRunning, Goes, HasCome, line-there, find-there}
+use Rattle.gaspi_run.proofs.RunningTurns.{ActiveStays, Onward, foreign-step, joining-step, waiting-changed, called-step}
 use Rattle.gaspi_run.proofs.RunningEnds.{EndsRun, StopsRun, ending-step}
 
 -- a call of an active caller, with the reply that it has, is a step where there is room
@@ -136,7 +136,7 @@ joined-running laws limit w scripts t place x line tried lines args plain good r
     let t' : Turns = record t { state = ok.0; journal = t.journal ++ e ∷ [] } in
     let is : joined t x line args ≡ t' = made-is t e ok.0 ok.1 in
     let good' : IsGood w t' = subst (λ (u : Turns). IsGood w u) is (good-made laws.steps laws.stay w t e good) in
-    let running' : IsRunning w scripts t' = foreign-step laws.active w scripts t e ok.0 running ok.1 (λ rank thread. refl) (λ rank thread. refl) in
+    let running' : IsRunning w scripts t' = joining-step laws.active w scripts t place x line tried lines e ok.0 running at going ok.1 (λ rank thread. refl) (λ rank thread apart. rw apart refl) (λ rank thread. refl) in
     let room' = laws.room t.state ok.0 x.caller line args good.sound answers room ok.1 in
     subst (λ (u : Turns). IsRunning w scripts (joined_turn limit u place x line)) (sym is)
     (joined-answered-running laws limit w scripts t' place x line tried lines (answer_in ok.0 x.caller.rank x.caller.thread line.call) plain good' running' at going room' refl)
@@ -171,7 +171,7 @@ stopped-goes w scripts t x line tried lines good g going full = record {
       before = t.journal;
       later = [];
       begins = append-nil t.journal;
-      calls = refl;
+      events = refl;
       state = t.state;
       leads = good.legal;
       full = subst (λ (n : ℕ). n < room_taken t.state x.caller.rank + present_need t.state x.caller line) (ap (λ (l : Rattle.gaspi_types.specs.declared.shapes.Limits.Limits). l.events) good.limits) full;
@@ -237,7 +237,7 @@ caller-running laws limit w scripts t place x plain good running at = go x.curso
 transfer-running : Laws → (w : World) (scripts : List Script) (t : Turns) (transfer : Transfer) → IsRunning w scripts t → IsRunning w scripts (made t (transfer_event t.state transfer))
 transfer-running laws w scripts t transfer running = go (step t.state (transfer_event t.state transfer)) refl
   where
-    foreign : (b : Bool) (put take : Event) → ((rank thread : ℕ) → own_of rank thread put ≡ []) → ((rank thread : ℕ) → own_of rank thread take ≡ []) → (rank thread : ℕ) → own_of rank thread (if b then put else take) ≡ []
+    foreign : (b : Bool) (put take : Event) → ((rank thread : ℕ) → own_events rank thread (put ∷ []) ≡ []) → ((rank thread : ℕ) → own_events rank thread (take ∷ []) ≡ []) → (rank thread : ℕ) → own_events rank thread ((if b then put else take) ∷ []) ≡ []
     foreign true put take p q rank thread = p rank thread
     foreign false put take p q rank thread = q rank thread
 

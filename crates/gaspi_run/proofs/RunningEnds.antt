@@ -20,10 +20,10 @@ use Rattle.rank_script.specs.declared.scripts.ScriptLine.{ScriptLine}
 use Rattle.rank_script.specs.declared.scripts.RunOutcome.{RunOutcome}
 use Rattle.rank_script.specs.declared.scripts.RunOutcome.TheVariants as outcomes
 use Rattle.gaspi_run.specs.declared.turns.Finished.{Finished}
-use Rattle.gaspi_run.specs.Schedule.{HasLimitCause, HasEnded}
+use Rattle.gaspi_run.specs.Schedule.{own_events, HasLimitCause, HasEnded}
 use Rattle.gaspi_run.specs.declared.turns.Waiting.{Waiting}
 use Rattle.gaspi_run.specs.declared.turns.Turns.{Turns}
-use Rattle.gaspi_run.proofs.Running.{IsRunning, Goes, HasCome, waiting_count, finished_count, line-there, come-more, ended-more, own-other}
+use Rattle.gaspi_run.proofs.Running.{IsRunning, Goes, HasCome, waiting_count, finished_count, line-there, come-more, ended-more, own_events-append, events-same, called-other}
 use Rattle.gaspi_run.proofs.RunningTurns.{ActiveStays, apart-waiting, apart-finished, own-more}
 
 abbrev pub EndsRun : Type 0
@@ -104,6 +104,9 @@ ended-of ends stops w scripts journal x outcome over g = by-come g.come
     pairs-is : own_calls x.caller.rank x.caller.thread (journal ++ Called x.caller End replies.Done ∷ []) ≡ own_calls x.caller.rank x.caller.thread journal ++ end_pair
     pairs-is = own-more w journal x.caller End replies.Done
 
+    events-is : own_events x.caller.rank x.caller.thread (journal ++ Called x.caller End replies.Done ∷ []) ≡ own_events x.caller.rank x.caller.thread journal ++ Called x.caller End replies.Done ∷ []
+    events-is = own_events-append x.caller.rank x.caller.thread journal (Called x.caller End replies.Done ∷ []) ∙ ap (λ (es : List Event). own_events x.caller.rank x.caller.thread journal ++ es) (events-same x.caller End replies.Done)
+
     by-come : HasCome w journal x.caller g.script.lines x.cursor → HasEnded w scripts (journal ++ Called x.caller End replies.Done ∷ []) (record { caller = x.caller; outcome = outcome })
     by-come (inl f) =
         let follows = subst (λ (p : Progress). Follows (going_on g.script.lines) (own_calls x.caller.rank x.caller.thread journal) p) over f in
@@ -128,7 +131,7 @@ ended-of ends stops w scripts journal x outcome over g = by-come g.come
             before = s.before;
             later = s.later ++ Called x.caller End replies.Done ∷ [];
             begins = sym (append_assoc s.before s.later (Called x.caller End replies.Done ∷ [])) ∙ ap (λ (h : List Event). h ++ Called x.caller End replies.Done ∷ []) s.begins;
-            calls = ap (λ (ps : List (Call × Reply)). ps ++ end_pair) s.calls ∙ sym pairs-is;
+            events = ap (λ (es : List Event). es ++ Called x.caller End replies.Done ∷ []) s.events ∙ sym events-is;
             state = s.state;
             leads = s.leads;
             full = s.full;
@@ -169,7 +172,7 @@ ending-step stays ends stops w scripts t place x outcome s running at over is = 
           script = g.script;
           is_script = g.is_script;
           come = come-more w t.journal (Called x.caller End replies.Done) y.caller g.script.lines y.cursor
-              (own-other y.caller.rank y.caller.thread x.caller End replies.Done (apart-waiting w scripts t place here.0 x y running at here.2 here.1)) g.come;
+              (called-other y.caller.rank y.caller.thread x.caller End replies.Done (apart-waiting w scripts t place here.0 x y running at here.2 here.1)) g.come;
         }
 
     new-at : (f : Finished) (j : ℕ) → slice_get (record { caller = x.caller; outcome = outcome } ∷ []) j ≡ Some f → HasEnded w scripts (t.journal ++ Called x.caller End replies.Done ∷ []) f
@@ -180,7 +183,7 @@ ending-step stays ends stops w scripts t place x outcome s running at over is = 
 
     ended-at : (f : Finished) → ((j : ℕ) × (slice_get t.finished j ≡ Some f)) ⊎ ((j : ℕ) × (slice_get (record { caller = x.caller; outcome = outcome } ∷ []) j ≡ Some f)) → HasEnded w scripts (t.journal ++ Called x.caller End replies.Done ∷ []) f
     ended-at f (inl here) = ended-more w scripts t.journal (Called x.caller End replies.Done) f
-        (own-other f.caller.rank f.caller.thread x.caller End replies.Done (apart-finished w scripts t place here.0 x f running at here.1)) (running.ended here.0 f here.1)
+        (called-other f.caller.rank f.caller.thread x.caller End replies.Done (apart-finished w scripts t place here.0 x f running at here.1)) (running.ended here.0 f here.1)
     ended-at f (inr here) = new-at f here.0 here.1
 
     counts : (rank thread : ℕ) → waiting_count rank thread (remove t.waiting place) + finished_count rank thread (t.finished ++ record { caller = x.caller; outcome = outcome } ∷ [])

@@ -1,7 +1,7 @@
 -- Each turn keeps that the callers' calls are runs of their scripts.
-use Rattle.std.proofs.Common.{◌≡◌, ℕ, ◌+◌, Bool, true, false, ◌&&◌, List, [], ◌∷◌, ◌++◌, Some, Ok, refl, sym, ap, ◌∙◌, subst, arith, ◌⊎◌, inl, inr, cond}
+use Rattle.std.proofs.Common.{◌≡◌, ℕ, ◌+◌, Bool, true, false, ◌&&◌, List, [], ◌∷◌, ◌++◌, ◌==◌, Option, Some, Ok, append-nil, refl, sym, ap, ◌∙◌, subst, arith, ◌⊎◌, inl, inr, cond}
 use Rattle.std.specs.List.{slice_get, slice_set, sum_by}
-use Rattle.std.proofs.lemmas.Bool.{eq-eqb}
+use Rattle.std.proofs.lemmas.Bool.{eqb-true, eqb-false, eq-eqb}
 use Rattle.std.proofs.lemmas.List.Sums.{sum_by-set}
 use Rattle.std.proofs.lemmas.Option.{slice_get_within, get_or_from_slice_get}
 use Rattle.gaspi_types.specs.World.{World, is_caller}
@@ -18,10 +18,10 @@ use Rattle.rank_script.specs.Runs.{Progress, Going, Over, going_on, advanced, st
 use Rattle.rank_script.specs.declared.scripts.Script.{Script}
 use Rattle.rank_script.specs.declared.scripts.ScriptLine.{ScriptLine}
 use Rattle.gaspi_run.specs.declared.turns.Finished.{Finished}
-use Rattle.gaspi_run.specs.Schedule.{with_waiting}
+use Rattle.gaspi_run.specs.Schedule.{with_waiting, own_events}
 use Rattle.gaspi_run.specs.declared.turns.Waiting.{Waiting}
 use Rattle.gaspi_run.specs.declared.turns.Turns.{Turns}
-use Rattle.gaspi_run.proofs.Running.{IsRunning, Goes, HasCome, own_of, own_calls-append, own-same, own-other, waiting_count, finished_count, count-at, count-two, come-more, ended-more, set-cases}
+use Rattle.gaspi_run.proofs.Running.{IsRunning, Goes, HasCome, own_of, own_calls-append, own-same, called-other, waiting_count, finished_count, count-at, count-two, come-more, ended-more, set-cases}
 
 -- what the machine's and the runs' laws say
 abbrev pub ActiveStays : Type 0
@@ -33,7 +33,7 @@ Onward = (p : Progress) (pairs : List (Call × Reply)) (line : ScriptLine) (trie
 
 -- an event of no caller
 pub foreign-step : ActiveStays → (w : World) (scripts : List Script) (t : Turns) (e : Event) (s : State) → IsRunning w scripts t → step t.state e ≡ Ok s
-    → ((rank thread : ℕ) → own_of rank thread e ≡ []) → ((rank thread : ℕ) → ends_caller rank thread e ≡ false)
+    → ((rank thread : ℕ) → own_events rank thread (e ∷ []) ≡ []) → ((rank thread : ℕ) → ends_caller rank thread e ≡ false)
     → IsRunning w scripts (record t { state = s; journal = t.journal ++ e ∷ [] })
 foreign-step stays w scripts t e s running is foreign ends = record {
   active = λ place x at. stays t.state s e x.caller.rank x.caller.thread is (ends x.caller.rank x.caller.thread) ∙ running.active place x at;
@@ -126,6 +126,43 @@ goes-on onward w scripts journal x line tried lines reply going g = record {
     follows (inl f) = subst (λ (p : Progress). Follows (going_on g.script.lines) (own_calls x.caller.rank x.caller.thread journal) p) going f
     follows (inr stopped) = absurd (let over : ◌≡◌ {A = Progress} (Going line tried lines) (Over stopped.0) = sym going ∙ stopped.1 in let no : ⊥ = cc in no)
 
+-- a join of the present call: the run of its caller stays where it is
+pub joining-step : ActiveStays → (w : World) (scripts : List Script) (t : Turns) (place : ℕ) (x : Waiting) (line : ScriptLine) (tried : ℕ) (lines : List ScriptLine) (e : Event) (s : State)
+    → IsRunning w scripts t → slice_get t.waiting place ≡ Some x → x.cursor ≡ Going line tried lines → step t.state e ≡ Ok s
+    → ((rank thread : ℕ) → own_of rank thread e ≡ []) → ((rank thread : ℕ) → is_caller rank thread x.caller ≡ false → own_events rank thread (e ∷ []) ≡ [])
+    → ((rank thread : ℕ) → ends_caller rank thread e ≡ false)
+    → IsRunning w scripts (record t { state = s; journal = t.journal ++ e ∷ [] })
+joining-step stays w scripts t place x line tried lines e s running at going is uncalled apart ends = record {
+  active = λ q y here. stays t.state s e y.caller.rank y.caller.thread is (ends y.caller.rank y.caller.thread) ∙ running.active q y here;
+  goes = λ q y here. goes-at q y here (place == q) refl;
+  ended = λ k f here. ended-more w scripts t.journal e f (apart f.caller.rank f.caller.thread (apart-finished w scripts t place k x f running at here)) (running.ended k f here);
+  counted = running.counted;
+  once = running.once;
+}
+  where
+    same : own_calls x.caller.rank x.caller.thread (t.journal ++ e ∷ []) ≡ own_calls x.caller.rank x.caller.thread t.journal
+    same = own_calls-append x.caller.rank x.caller.thread t.journal (e ∷ []) ∙ rw (uncalled x.caller.rank x.caller.thread) (append-nil _)
+
+    follows : (all : List ScriptLine) → HasCome w t.journal x.caller all x.cursor → HasCome w (t.journal ++ e ∷ []) x.caller all x.cursor
+    follows all (inl f) = inl (subst (λ (ps : List (Call × Reply)). Follows (going_on all) ps x.cursor) (sym same) f)
+    follows all (inr stopped) = absurd (let over : ◌≡◌ {A = Progress} (Going line tried lines) (Over stopped.0) = sym going ∙ stopped.1 in let no : ⊥ = cc in no)
+
+    own-goes : Goes w scripts (t.journal ++ e ∷ []) x
+    own-goes = (let g = running.goes place x at in record { script = g.script; is_script = g.is_script; come = follows g.script.lines g.come })
+
+    goes-at : (q : ℕ) (y : Waiting) → slice_get t.waiting q ≡ Some y → (b : Bool) → (place == q) ≡ b → Goes w scripts (t.journal ++ e ∷ []) y
+    goes-at q y here true is-place =
+        let there : slice_get t.waiting q ≡ Some x = subst (λ (n : ℕ). slice_get t.waiting n ≡ Some x) (eqb-true place q is-place) at in
+        let one : x ≡ y = (let some : ◌≡◌ {A = Option Waiting} (Some x) (Some y) = sym there ∙ here in cc) in
+        subst (λ (z : Waiting). Goes w scripts (t.journal ++ e ∷ []) z) one own-goes
+    goes-at q y here false is-other =
+        let g = running.goes q y here in
+        record {
+          script = g.script;
+          is_script = g.is_script;
+          come = come-more w t.journal e y.caller g.script.lines y.cursor (apart y.caller.rank y.caller.thread (apart-waiting w scripts t place q x y running at here (λ h. eqb-false place q is-other h))) g.come;
+        }
+
 -- a call of the present line, recorded
 pub called-step : ActiveStays → Onward → (w : World) (scripts : List Script) (t : Turns) (place : ℕ) (x : Waiting) (line : ScriptLine) (tried : ℕ) (lines : List ScriptLine) (reply : Reply) (s : State)
     → IsRunning w scripts t → slice_get t.waiting place ≡ Some x → x.cursor ≡ Going line tried lines → is_end line.call ≡ false → step t.state (Called x.caller line.call reply) ≡ Ok s
@@ -133,7 +170,7 @@ pub called-step : ActiveStays → Onward → (w : World) (scripts : List Script)
 called-step stays onward w scripts t place x line tried lines reply s running at going plain is = record {
   active = λ q y here. active-at q y (set-cases t.waiting place q x (record { caller = x.caller; cursor = advanced x.cursor reply; looks = 0 }) y at here);
   goes = λ q y here. goes-at q y (set-cases t.waiting place q x (record { caller = x.caller; cursor = advanced x.cursor reply; looks = 0 }) y at here);
-  ended = λ k f here. ended-more w scripts t.journal (Called x.caller line.call reply) f (own-other f.caller.rank f.caller.thread x.caller line.call reply (apart-finished w scripts t place k x f running at here)) (running.ended k f here);
+  ended = λ k f here. ended-more w scripts t.journal (Called x.caller line.call reply) f (called-other f.caller.rank f.caller.thread x.caller line.call reply (apart-finished w scripts t place k x f running at here)) (running.ended k f here);
   counted = λ rank thread. ap (λ (n : ℕ). n + finished_count rank thread t.finished) (count-set t.waiting place x (record { caller = x.caller; cursor = advanced x.cursor reply; looks = 0 }) rank thread at refl) ∙ running.counted rank thread;
   once = running.once;
 }
@@ -152,5 +189,5 @@ called-step stays onward w scripts t place x line tried lines reply s running at
         record {
           script = g.script;
           is_script = g.is_script;
-          come = come-more w t.journal (Called x.caller line.call reply) y.caller g.script.lines y.cursor (own-other y.caller.rank y.caller.thread x.caller line.call reply (apart-waiting w scripts t place q x y running at there.1 there.0)) g.come;
+          come = come-more w t.journal (Called x.caller line.call reply) y.caller g.script.lines y.cursor (called-other y.caller.rank y.caller.thread x.caller line.call reply (apart-waiting w scripts t place q x y running at there.1 there.0)) g.come;
         }

@@ -1,6 +1,6 @@
 -- The schedule on one thread: turns of callers and of transfers, picked by the generator. (own choice)
 use Rattle.std.specs.Prelude.{count_by, ◌<◌, ◌≡◌, Bool, ℕ, zero, suc, ◌+◌, ◌-◌, true, false, ◌==◌, nat_lt, nat_le, List, [], ◌∷◌, ◌++◌, length, remove, Option, None, Some, Result, Ok, Err, if◌then◌else◌, slice_get, slice_set, find}
-use Rattle.std.specs.List.{flat_map, range_with_len}
+use Rattle.std.specs.List.{filter, flat_map, range_with_len}
 use Rattle.gaspi_types.specs.CallRows.{need_of}
 use Rattle.gaspi_types.specs.World.{World, is_caller}
 use Rattle.gaspi_types.specs.declared.shapes.CallerId.{CallerId}
@@ -14,7 +14,7 @@ use Rattle.gaspi_types.specs.declared.replies.Ready.{Ready}
 use Rattle.gaspi_types.specs.declared.replies.Ready.TheVariants as ready
 use Rattle.gaspi_types.specs.declared.events.Transfer.{Transfer}
 use Rattle.gaspi_types.specs.declared.events.Event.{Event}
-use Rattle.gaspi_types.specs.declared.events.Event.TheVariants.{Called}
+use Rattle.gaspi_types.specs.declared.events.Event.TheVariants.{Called, Joined, Take, Put}
 use Rattle.gaspi_types.specs.declared.groups.Args.{Args}
 use Rattle.gaspi_model.specs.State.{opening}
 use Rattle.gaspi_model.specs.Step.{step, answer_in, room_taken, transfer_event, own_calls, reached, is_active, is_pending}
@@ -23,7 +23,7 @@ use Rattle.gaspi_model.specs.Settled.{IsSettled}
 use Rattle.gaspi_model.specs.declared.states.State.{State}
 use Rattle.gaspi_model.specs.declared.states.Why.{Why}
 use Rattle.plain_machine.specs.Looking.{join_event}
-use Rattle.rank_script.specs.Runs.{Progress, Going, Over, going_on, advanced, stopped, IsRun, end_pair}
+use Rattle.rank_script.specs.Runs.{Progress, Going, Over, going_on, advanced, stopped, IsRun}
 use Rattle.rank_script.specs.WorldText.{is_script_of}
 use Rattle.rank_script.specs.declared.scripts.RunOutcome.TheVariants as outcomes
 use Rattle.rank_script.specs.declared.scripts.Halted.TheVariants as halts
@@ -187,15 +187,25 @@ pub record HasSettled (w : World) (journal : List Event) : Type 0 where
 abbrev pub AreActive : Turns → Type 0
 AreActive t = (place : ℕ) (x : Waiting) → slice_get t.waiting place ≡ Some x → is_active t.state x.caller.rank x.caller.thread ≡ true
 
+-- the events of a caller in a history, in order: its calls and its joins
+abbrev pub is_own : ℕ → ℕ → Event → Bool
+is_own rank thread (Called c call reply) = is_caller rank thread c
+is_own rank thread (Joined c id args) = is_caller rank thread c
+is_own rank thread (Take origin queue target number outcome) = false
+is_own rank thread (Put origin queue target number outcome) = false
+
+abbrev pub own_events : ℕ → ℕ → List Event → List Event
+own_events rank thread history = filter (is_own rank thread) history
+
 -- How a caller ended: its calls are a run of its script, with that outcome; and where it ended at the event limit, there
--- is a history that the journal begins with, which has all its calls but the end, and after which its rank had no room
+-- is a history that the journal begins with, which has all its events but the end, and after which its rank had no room
 -- for what the call of that line needs.
 
 pub record HadNoRoom (w : World) (journal : List Event) (caller : CallerId) (line : ScriptLine) : Type 0 where
   pub before : List Event
   pub later : List Event
   pub begins : before ++ later ≡ journal
-  pub calls : own_calls caller.rank caller.thread before ++ end_pair ≡ own_calls caller.rank caller.thread journal
+  pub events : own_events caller.rank caller.thread before ++ Called caller End replies.Done ∷ [] ≡ own_events caller.rank caller.thread journal
   pub state : State
   pub leads : reached w before ≡ Ok state
   pub full : w.limits.events < room_taken state caller.rank + present_need state caller line
