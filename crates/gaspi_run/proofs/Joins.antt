@@ -12,16 +12,17 @@ use Rattle.gaspi_types.specs.declared.replies.Refusal.{Refusal}
 use Rattle.gaspi_types.specs.declared.replies.Reply.{Reply}
 use Rattle.gaspi_types.specs.declared.shapes.CallerId.{CallerId}
 use Rattle.gaspi_model.specs.Calls.{answer, call_finds, ready_of}
-use Rattle.gaspi_model.specs.CollectiveCalls.{is_joining}
+use Rattle.gaspi_model.specs.CollectiveCalls.{is_joining, joining_call}
 use Rattle.gaspi_model.specs.Sound.{IsSound}
 use Rattle.gaspi_model.specs.State.{is_running, thread_at}
 use Rattle.gaspi_model.specs.Step.{step, answer_in, call_memory, is_active, is_pending, room_taken}
 use Rattle.gaspi_model.specs.declared.states.Posts.{Posts}
 use Rattle.gaspi_model.specs.declared.states.State.{State}
 use Rattle.plain_machine.specs.Looking.{group_of, join_event}
+use Rattle.rank_script.specs.declared.scripts.ScriptLine.{ScriptLine}
 use Rattle.gaspi_run.specs.Schedule.{present_need}
 use Rattle.gaspi_run.proofs.Work.{JoinsAreSteps}
-use Rattle.gaspi_run.proofs.RunningAll.{JoinsKeepRoom}
+use Rattle.gaspi_run.proofs.RunningAll.{JoinLaws}
 
 -- What joins is a collective.
 
@@ -47,29 +48,44 @@ join-has-group s rank thread call args is = by-posts (slice_get s.posts rank) re
 
 -- What the laws of the machine come to, for the schedule.
 
-pub joins-are-steps : ((s : State) (rank thread id : ℕ) (call : Call) (args : Args) → IsSound s → is_active s rank thread ≡ true
+joins-are-steps : ((s : State) (rank thread id : ℕ) (call : Call) (args : Args) → IsSound s → is_active s rank thread ≡ true
     → room_taken s rank + need_of call (is_pending s rank thread call) false ≤ s.limits.events → (row_of call).group ≡ Some id
     → answer_in s rank thread call ≡ Some (ready.Join args) → IsOk (step s (Joined (record { rank = rank; thread = thread }) id args))) → JoinsAreSteps
 joins-are-steps law s c line args sound active room answers =
     law s c.rank c.thread (group_of line.call) line.call args sound active room (join-has-group s c.rank c.thread line.call args answers) answers
 
-pub joins-keep-room : ((s t : State) (e : Event) → step s e ≡ Ok t → t.limits ≡ s.limits)
+pub join-laws : ((s t : State) (e : Event) → step s e ≡ Ok t → t.limits ≡ s.limits)
+    → ((s : State) (rank thread id : ℕ) (call : Call) (args : Args) → IsSound s → is_active s rank thread ≡ true
+    → room_taken s rank + need_of call (is_pending s rank thread call) false ≤ s.limits.events → (row_of call).group ≡ Some id
+    → answer_in s rank thread call ≡ Some (ready.Join args) → IsOk (step s (Joined (record { rank = rank; thread = thread }) id args)))
+    → ((s : State) (rank thread id : ℕ) (call : Call) (args : Args) → (row_of call).group ≡ Some id → answer_in s rank thread call ≡ Some (ready.Join args) → joining_call id args ≡ call)
     → ((s t : State) (c : CallerId) (call : Call) (id : ℕ) (args : Args) → IsSound s → (row_of call).group ≡ Some id → step s (Joined c id args) ≡ Ok t
     → (is_pending t c.rank c.thread call ≡ true) × (room_taken t c.rank ≡ room_taken s c.rank + 1))
     → ((s : State) (rank thread : ℕ) (call : Call) (found : Ready) → is_pending s rank thread call ≡ true → answer_in s rank thread call ≡ Some found → is_joining found ≡ false)
     → ((call : Call) (id : ℕ) → (row_of call).group ≡ Some id → (need_of call false false ≡ 2) × (need_of call true false ≡ 1))
-    → JoinsKeepRoom
-joins-keep-room stay joined pending needs s t c line args sound answers room made = go (is_pending s c.rank c.thread line.call) refl
+    → JoinLaws
+join-laws stay join itself joined pending needs = record {
+  steps = joins-are-steps join;
+  room = keeps-room;
+  once = once;
+  itself = λ s c line args answers. itself s c.rank c.thread (group_of line.call) line.call args (join-has-group s c.rank c.thread line.call args answers) answers;
+  pends = λ s t c line args sound answers made. (joined s t c line.call (group_of line.call) args sound (join-has-group s c.rank c.thread line.call args answers) made).0;
+}
   where
-    named : (row_of line.call).group ≡ Some (group_of line.call)
-    named = join-has-group s c.rank c.thread line.call args answers
+    once : (s : State) (c : CallerId) (line : ScriptLine) (args : Args) → answer_in s c.rank c.thread line.call ≡ Some (ready.Join args) → is_pending s c.rank c.thread line.call ≡ false
+    once s c line args answers = go (is_pending s c.rank c.thread line.call) refl
+      where
+        go : (b : Bool) → is_pending s c.rank c.thread line.call ≡ b → is_pending s c.rank c.thread line.call ≡ false
+        go false is = is
+        go true is = absurd (let never : is_joining (ready.Join args) ≡ false = pending s c.rank c.thread line.call (ready.Join args) is answers in let no : ⊥ = cc in no)
 
-    go : (b : Bool) → is_pending s c.rank c.thread line.call ≡ b → room_taken t c.rank + present_need t c line ≤ t.limits.events
-    go true is = absurd (let never : is_joining (ready.Join args) ≡ false = pending s c.rank c.thread line.call (ready.Join args) is answers in let no : ⊥ = cc in no)
-    go false is =
+    keeps-room : (s t : State) (c : CallerId) (line : ScriptLine) (args : Args) → IsSound s → answer_in s c.rank c.thread line.call ≡ Some (ready.Join args)
+        → room_taken s c.rank + present_need s c line ≤ s.limits.events → step s (join_event c line.call args) ≡ Ok t → room_taken t c.rank + present_need t c line ≤ t.limits.events
+    keeps-room s t c line args sound answers room made =
+        let named = join-has-group s c.rank c.thread line.call args answers in
         let after = joined s t c line.call (group_of line.call) args sound named made in
         let need = needs line.call (group_of line.call) named in
-        let before : present_need s c line ≡ 2 = ap (λ (b : Bool). need_of line.call b false) is ∙ need.0 in
+        let before : present_need s c line ≡ 2 = ap (λ (b : Bool). need_of line.call b false) (once s c line args answers) ∙ need.0 in
         let now : present_need t c line ≡ 1 = ap (λ (b : Bool). need_of line.call b false) after.0 ∙ need.1 in
         let same : t.limits.events ≡ s.limits.events = ap (λ (l : Rattle.gaspi_types.specs.declared.shapes.Limits.Limits). l.events) (stay s t (join_event c line.call args) made) in
         let took = after.1 in

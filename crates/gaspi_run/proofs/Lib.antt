@@ -1,7 +1,9 @@
 pub mod Declared
 pub mod OwnValues
+pub mod StaysPending
 pub mod Work
 pub mod Good
+pub mod JoinsFollowed
 pub mod Running
 pub mod RunningTurns
 pub mod RunningEnds

@@ -1,5 +1,5 @@
 -- What every turn of the schedule keeps of the callers: their calls are runs of their scripts.
-use Rattle.std.proofs.Common.{◌≡◌, ℕ, zero, suc, ◌+◌, ◌<◌, ◌≤◌, Bool, true, false, List, [], ◌∷◌, ◌++◌, Option, Some, Ok, refl, sym, ap, ◌∙◌, subst, arith, ◌==◌, ◌⊎◌, inl, inr, find, cond, count_by, if◌then◌else◌, append_assoc, append-nil}
+use Rattle.std.proofs.Common.{◌≡◌, ℕ, zero, suc, ◌+◌, ◌<◌, ◌≤◌, Bool, true, false, List, [], ◌∷◌, ◌++◌, Option, None, Some, Ok, refl, sym, ap, ◌∙◌, subst, arith, ◌==◌, ◌⊎◌, inl, inr, find, cond, count_by, if◌then◌else◌, append_assoc, append-nil}
 use Rattle.std.specs.List.{slice_get, slice_set}
 use Rattle.std.proofs.lemmas.Bool.{eqb-true, eqb-false, eq-eqb}
 use Rattle.std.proofs.lemmas.List.Elements.{filter-append}
@@ -11,7 +11,7 @@ use Rattle.gaspi_types.specs.declared.calls.Call.{Call}
 use Rattle.gaspi_types.specs.declared.replies.Reply.{Reply}
 use Rattle.gaspi_types.specs.declared.events.Event.{Event}
 use Rattle.gaspi_types.specs.declared.events.Event.TheVariants.{Called, Joined, Take, Put}
-use Rattle.gaspi_model.specs.Step.{reached, room_taken, own_calls, is_active}
+use Rattle.gaspi_model.specs.Step.{reached, room_taken, own_calls, is_active, is_pending}
 use Rattle.gaspi_model.specs.declared.states.State.{State}
 use Rattle.gaspi_types.proofs.Items.{slice_get-set_same, slice_get-set_other}
 use Rattle.rank_script.specs.Runs.{Progress, Going, Over, going_on, advanced, stopped, is_stuck, is_retried, is_failed, Follows, IsRun}
@@ -21,9 +21,10 @@ use Rattle.rank_script.specs.declared.scripts.ScriptLine.{ScriptLine}
 use Rattle.rank_script.specs.declared.scripts.RunOutcome.{RunOutcome}
 use Rattle.rank_script.specs.declared.scripts.RunOutcome.TheVariants as outcomes
 use Rattle.gaspi_run.specs.declared.turns.Finished.{Finished}
-use Rattle.gaspi_run.specs.Schedule.{present_need, is_own, own_events, HasLimitCause, HasEnded}
+use Rattle.gaspi_run.specs.Schedule.{present_need, is_own, own_events, AreJoinsFollowed, HasLimitCause, HasEnded}
 use Rattle.gaspi_run.specs.declared.turns.Waiting.{Waiting}
 use Rattle.gaspi_run.specs.declared.turns.Turns.{Turns}
+use Rattle.gaspi_run.proofs.JoinsFollowed.{AreFollowedSoFar, ends_joined}
 
 -- What a caller's own events are.
 
@@ -192,10 +193,24 @@ pub record WasStopped (w : World) (journal : List Event) (c : CallerId) (lines :
   pub state : State
   pub leads : reached w before ≡ Ok state
   pub full : w.limits.events < room_taken state c.rank + present_need state c line
+  pub joins : AreFollowedSoFar (Some line.call) (own_events c.rank c.thread journal)
+
+-- the call that comes next
+abbrev pub present : Progress → Option Call
+present (Over outcome) = None
+present (Going line tried lines) = Some line.call
 
 abbrev pub HasCome : World → List Event → CallerId → List ScriptLine → Progress → Type 0
 HasCome w journal c lines p =
-    Follows (going_on lines) (own_calls c.rank c.thread journal) p ⊎ ((outcome : RunOutcome) × (p ≡ Over outcome) × WasStopped w journal c lines outcome)
+    (Follows (going_on lines) (own_calls c.rank c.thread journal) p × AreFollowedSoFar (present p) (own_events c.rank c.thread journal)) ⊎ ((outcome : RunOutcome) × (p ≡ Over outcome) × WasStopped w journal c lines outcome)
+
+-- of a run that goes on
+pub come-going : (w : World) (journal : List Event) (c : CallerId) (all : List ScriptLine) (p : Progress) (line : ScriptLine) (tried : ℕ) (lines : List ScriptLine) → p ≡ Going line tried lines → HasCome w journal c all p
+    → Follows (going_on all) (own_calls c.rank c.thread journal) (Going line tried lines) × AreFollowedSoFar (Some line.call) (own_events c.rank c.thread journal)
+come-going w journal c all p line tried lines going (inl f) =
+    (subst (λ (q : Progress). Follows (going_on all) (own_calls c.rank c.thread journal) q) going f.0, subst (λ (q : Progress). AreFollowedSoFar (present q) (own_events c.rank c.thread journal)) going f.1)
+come-going w journal c all p line tried lines going (inr stopped) =
+    absurd (let over : ◌≡◌ {A = Progress} (Going line tried lines) (Over stopped.0) = sym going ∙ stopped.1 in let no : ⊥ = cc in no)
 
 pub record Goes (w : World) (scripts : List Script) (journal : List Event) (x : Waiting) : Type 0 where
   pub script : Script
@@ -206,13 +221,15 @@ pub record Goes (w : World) (scripts : List Script) (journal : List Event) (x : 
 pub record IsRunning (w : World) (scripts : List Script) (t : Turns) : Type 0 where
   pub active : (place : ℕ) (x : Waiting) → slice_get t.waiting place ≡ Some x → is_active t.state x.caller.rank x.caller.thread ≡ true
   pub goes : (place : ℕ) (x : Waiting) → slice_get t.waiting place ≡ Some x → Goes w scripts t.journal x
+  pub joined : (place : ℕ) (x : Waiting) (line : ScriptLine) (tried : ℕ) (lines : List ScriptLine) → slice_get t.waiting place ≡ Some x → x.cursor ≡ Going line tried lines
+      → ends_joined (own_events x.caller.rank x.caller.thread t.journal) ≡ true → is_pending t.state x.caller.rank x.caller.thread line.call ≡ true
   pub ended : (place : ℕ) (f : Finished) → slice_get t.finished place ≡ Some f → HasEnded w scripts t.journal f
   pub counted : (rank thread : ℕ) → waiting_count rank thread t.waiting + finished_count rank thread t.finished ≡ count_by (λ (s : Script). is_caller rank thread s.caller) scripts
   pub once : (rank thread : ℕ) → count_by (λ (s : Script). is_caller rank thread s.caller) scripts ≤ 1
 
 -- An event that is not a caller's own leaves what was said of it.
 
-events-more : (c : CallerId) (journal : List Event) (e : Event) → own_events c.rank c.thread (e ∷ []) ≡ [] → own_events c.rank c.thread (journal ++ e ∷ []) ≡ own_events c.rank c.thread journal
+pub events-more : (c : CallerId) (journal : List Event) (e : Event) → own_events c.rank c.thread (e ∷ []) ≡ [] → own_events c.rank c.thread (journal ++ e ∷ []) ≡ own_events c.rank c.thread journal
 events-more c journal e foreign = own_events-append c.rank c.thread journal (e ∷ []) ∙ ap (λ (es : List Event). own_events c.rank c.thread journal ++ es) foreign ∙ append-nil _
 
 pub stopped-more : (w : World) (journal : List Event) (e : Event) (c : CallerId) (lines : List ScriptLine) (outcome : RunOutcome) → own_events c.rank c.thread (e ∷ []) ≡ []
@@ -232,13 +249,17 @@ stopped-more w journal e c lines outcome foreign s =
       state = s.state;
       leads = s.leads;
       full = s.full;
+      joins = subst (λ (es : List Event). AreFollowedSoFar (Some s.line.call) es) (sym (events-more c journal e foreign)) s.joins;
     }
 
 pub come-more : (w : World) (journal : List Event) (e : Event) (c : CallerId) (lines : List ScriptLine) (p : Progress) → own_events c.rank c.thread (e ∷ []) ≡ []
     → HasCome w journal c lines p → HasCome w (journal ++ e ∷ []) c lines p
-come-more w journal e c lines p foreign (inl follows) =
+come-more w journal e c lines p foreign (inl f) =
     let same : own_calls c.rank c.thread (journal ++ e ∷ []) ≡ own_calls c.rank c.thread journal = own_calls-append c.rank c.thread journal (e ∷ []) ∙ rw (no-call _ _ e foreign) (append-nil _) in
-    inl (subst (λ (ps : List (Call × Reply)). Follows (going_on lines) ps p) (sym same) follows)
+    inl (
+      subst (λ (ps : List (Call × Reply)). Follows (going_on lines) ps p) (sym same) f.0,
+      subst (λ (es : List Event). AreFollowedSoFar (present p) es) (sym (events-more c journal e foreign)) f.1,
+    )
 come-more w journal e c lines p foreign (inr stopped) = inr (stopped.0, stopped.1, stopped-more w journal e c lines stopped.0 foreign stopped.2)
 
 limit-more : (w : World) (journal : List Event) (e : Event) (c : CallerId) (lines : List ScriptLine) (outcome : RunOutcome) → own_events c.rank c.thread (e ∷ []) ≡ []
@@ -272,6 +293,9 @@ ended-more w scripts journal e f foreign h =
       script = h.script;
       is_script = h.is_script;
       run = subst (λ (ps : List (Call × Reply)). IsRun h.script.lines ps f.outcome) (sym same) h.run;
+      stopped = h.stopped;
+      stopped_before = h.stopped_before;
+      joins = subst (λ (es : List Event). AreJoinsFollowed h.stopped es) (sym (events-more f.caller journal e foreign)) h.joins;
       limit = limit-more w journal e f.caller h.script.lines f.outcome foreign h.limit;
     }
 

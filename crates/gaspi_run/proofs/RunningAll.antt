@@ -1,5 +1,5 @@
 -- Every turn of the schedule keeps that the callers' calls are runs of their scripts.
-use Rattle.std.proofs.Common.{◌≡◌, ◌≢◌, ℕ, zero, suc, ◌+◌, ◌-◌, ◌<◌, ◌≤◌, Bool, true, false, List, [], ◌∷◌, ◌++◌, length, Option, None, Some, Result, Ok, Err, refl, sym, ap, ◌∙◌, subst, arith, nat_lt, nat_le, ◌==◌, IsOk, inl, inr, append-nil, if◌then◌else◌}
+use Rattle.std.proofs.Common.{◌≡◌, ◌≢◌, ℕ, zero, suc, ◌+◌, ◌-◌, ◌<◌, ◌≤◌, Bool, true, false, List, [], ◌∷◌, ◌++◌, length, Option, None, Some, Result, Ok, Err, refl, sym, ap, ◌∙◌, subst, arith, nat_lt, nat_le, ◌==◌, IsOk, inr, append-nil, if◌then◌else◌}
 use Rattle.std.specs.List.{slice_get, All}
 use Rattle.std.proofs.lemmas.Bool.{ltb-true, ltb-false}
 use Rattle.std.proofs.lemmas.List.Elements.{All-get_or}
@@ -18,7 +18,7 @@ use Rattle.gaspi_types.specs.declared.groups.Args.{Args}
 use Rattle.gaspi_types.specs.declared.shapes.CallerId.{CallerId}
 use Rattle.gaspi_model.specs.State.{thread_at, is_running}
 use Rattle.gaspi_model.specs.Calls.{recorded_reply}
-use Rattle.gaspi_model.specs.CollectiveCalls.{is_joining}
+use Rattle.gaspi_model.specs.CollectiveCalls.{is_joining, joining_call}
 use Rattle.gaspi_model.specs.Sound.{IsSound}
 use Rattle.gaspi_model.specs.Step.{step, transfer_event, answer_in, room_taken, own_calls, is_active, is_pending, ends_caller}
 use Rattle.gaspi_model.specs.Transfers.{transfers}
@@ -26,9 +26,9 @@ use Rattle.gaspi_model.specs.declared.states.Posts.{Posts}
 use Rattle.gaspi_model.specs.declared.states.State.{State}
 use Rattle.gaspi_model.specs.declared.states.Why.{Why}
 use Rattle.gaspi_types.proofs.Items.{past-none}
-use Rattle.plain_machine.specs.Looking.{join_event}
+use Rattle.plain_machine.specs.Looking.{group_of, join_event}
 use Rattle.rank_script.specs.PlainScripts.{IsPlain, HasPlainLines, ArePlain}
-use Rattle.rank_script.specs.Runs.{Progress, Going, Over, going_on, stopped, Follows}
+use Rattle.rank_script.specs.Runs.{Progress, Going, Over, stopped}
 use Rattle.rank_script.specs.declared.scripts.Halted.TheVariants as halts
 use Rattle.rank_script.specs.declared.scripts.Script.{Script}
 use Rattle.rank_script.specs.declared.scripts.ScriptLine.{ScriptLine}
@@ -40,7 +40,8 @@ use Rattle.gaspi_run.specs.declared.turns.Waiting.{Waiting}
 use Rattle.gaspi_run.specs.declared.turns.Turns.{Turns}
 use Rattle.gaspi_run.proofs.Good.{IsGood, Steps, LimitsStay, good-made, good-turn}
 use Rattle.gaspi_run.proofs.Work.{JoinsAreSteps}
-use Rattle.gaspi_run.proofs.Running.{IsRunning, Goes, HasCome, line-there, find-there}
+use Rattle.gaspi_run.proofs.JoinsFollowed.{ends_joined}
+use Rattle.gaspi_run.proofs.Running.{IsRunning, Goes, come-going, line-there, find-there}
 use Rattle.gaspi_run.proofs.RunningTurns.{ActiveStays, Onward, foreign-step, joining-step, waiting-changed, called-step}
 use Rattle.gaspi_run.proofs.RunningEnds.{EndsRun, StopsRun, ending-step}
 
@@ -50,11 +51,17 @@ CallsAreSteps = (s : State) (rank thread : ℕ) (call : Call) (ready : Ready) �
     → room_taken s rank + need_of call (is_pending s rank thread call) false ≤ s.limits.events → answer_in s rank thread call ≡ Some ready → is_joining ready ≡ false
     → IsOk (step s (Called (record { rank = rank; thread = thread }) call (recorded_reply ready)))
 
--- after the join of the present call its rank has the room that the call needs yet
-abbrev pub JoinsKeepRoom : Type 0
-JoinsKeepRoom = (s t : State) (c : CallerId) (line : ScriptLine) (args : Args) → IsSound s → answer_in s c.rank c.thread line.call ≡ Some (ready.Join args)
-    → room_taken s c.rank + present_need s c line ≤ s.limits.events → step s (join_event c line.call args) ≡ Ok t
-    → room_taken t c.rank + present_need t c line ≤ t.limits.events
+-- What a join of the present call of an active caller is and leaves: a step where there is room; its rank has the room that the call
+-- needs yet; it is of that call, which was not pending, and is then.
+pub record JoinLaws : Type 0 where
+  pub steps : JoinsAreSteps
+  pub room : (s t : State) (c : CallerId) (line : ScriptLine) (args : Args) → IsSound s → answer_in s c.rank c.thread line.call ≡ Some (ready.Join args)
+      → room_taken s c.rank + present_need s c line ≤ s.limits.events → step s (join_event c line.call args) ≡ Ok t
+      → room_taken t c.rank + present_need t c line ≤ t.limits.events
+  pub once : (s : State) (c : CallerId) (line : ScriptLine) (args : Args) → answer_in s c.rank c.thread line.call ≡ Some (ready.Join args) → is_pending s c.rank c.thread line.call ≡ false
+  pub itself : (s : State) (c : CallerId) (line : ScriptLine) (args : Args) → answer_in s c.rank c.thread line.call ≡ Some (ready.Join args) → joining_call (group_of line.call) args ≡ line.call
+  pub pends : (s t : State) (c : CallerId) (line : ScriptLine) (args : Args) → IsSound s → answer_in s c.rank c.thread line.call ≡ Some (ready.Join args)
+      → step s (join_event c line.call args) ≡ Ok t → is_pending t c.rank c.thread line.call ≡ true
 
 -- the laws that the turns rest on
 pub record Laws : Type 0 where
@@ -62,8 +69,7 @@ pub record Laws : Type 0 where
   pub stay : LimitsStay
   pub active : ActiveStays
   pub calls : CallsAreSteps
-  pub joins : JoinsAreSteps
-  pub room : JoinsKeepRoom
+  pub joins : JoinLaws
   pub onward : Onward
   pub ends : EndsRun
   pub stops : StopsRun
@@ -77,15 +83,11 @@ all-at P xs place x all at = subst P (get_or_from_slice_get xs place x x at) (Al
 
 -- the present line of a caller is one of its script, and makes no end
 plain-line : (w : World) (scripts : List Script) (journal : List Event) (x : Waiting) (line : ScriptLine) (tried : ℕ) (lines : List ScriptLine) → ArePlain scripts → Goes w scripts journal x → x.cursor ≡ Going line tried lines → is_end line.call ≡ false
-plain-line w scripts journal x line tried lines plain g going = by-come g.come
-  where
-    by-come : HasCome w journal x.caller g.script.lines x.cursor → is_end line.call ≡ false
-    by-come (inl f) =
-        let follows = subst (λ (p : Progress). Follows (going_on g.script.lines) (own_calls x.caller.rank x.caller.thread journal) p) going f in
-        let there = line-there g.script.lines (own_calls x.caller.rank x.caller.thread journal) line tried lines follows in
-        let script = find-there _ scripts g.script g.is_script in
-        not-end line.call (all-at IsPlain g.script.lines there.0 line (all-at HasPlainLines scripts script.0 g.script plain script.1) there.1)
-    by-come (inr stopped) = absurd (let over : ◌≡◌ {A = Progress} (Going line tried lines) (Over stopped.0) = sym going ∙ stopped.1 in let no : ⊥ = cc in no)
+plain-line w scripts journal x line tried lines plain g going =
+    let f = come-going w journal x.caller g.script.lines x.cursor line tried lines going g.come in
+    let there = line-there g.script.lines (own_calls x.caller.rank x.caller.thread journal) line tried lines f.0 in
+    let script = find-there _ scripts g.script g.is_script in
+    not-end line.call (all-at IsPlain g.script.lines there.0 line (all-at HasPlainLines scripts script.0 g.script plain script.1) there.1)
 
 ok-state : (r : Result State Why) → IsOk r → (s : State) × (r ≡ Ok s)
 ok-state (Ok s) h = (s, refl)
@@ -97,7 +99,7 @@ recorded-running : Laws → (w : World) (scripts : List Script) (t : Turns) (pla
     → answer_in t.state x.caller.rank x.caller.thread line.call ≡ Some found → IsRunning w scripts (recorded t place x line.call (recorded_reply found))
 recorded-running laws w scripts t place x line tried lines found unjoined plain good running at going room answers =
     let ok = ok-state (step t.state (Called x.caller line.call (recorded_reply found))) (laws.calls t.state x.caller.rank x.caller.thread line.call found good.sound (running.active place x at) room answers unjoined) in
-    let made = called-step laws.active laws.onward w scripts t place x line tried lines (recorded_reply found) ok.0 running at going (plain-line w scripts t.journal x line tried lines plain (running.goes place x at) going) ok.1 in
+    let made = called-step laws.active laws.onward w scripts t place x line tried lines (recorded_reply found) ok.0 good.sound running at going (plain-line w scripts t.journal x line tried lines plain (running.goes place x at) going) ok.1 in
     rw ok.1 made
 
 looked-running : Laws → (limit : ℕ) (w : World) (scripts : List Script) (t : Turns) (place : ℕ) (x : Waiting) (line : ScriptLine) (tried : ℕ) (lines : List ScriptLine) → ArePlain scripts → IsGood w t → IsRunning w scripts t
@@ -110,7 +112,7 @@ looked-running laws limit w scripts t place x line tried lines plain good runnin
     go false more =
         let x' : Waiting = record { caller = x.caller; cursor = x.cursor; looks = x.looks + 1 } in
         let g = running.goes place x at in
-        rw more (waiting-changed w scripts t place x x' running at refl (record { script = g.script; is_script = g.is_script; come = g.come }))
+        rw more (waiting-changed w scripts t place x x' running at refl (λ l n ls h. h) (record { script = g.script; is_script = g.is_script; come = g.come }))
 
 -- what the look goes on to find where the present call has joined
 joined-answered-running : Laws → (limit : ℕ) (w : World) (scripts : List Script) (t : Turns) (place : ℕ) (x : Waiting) (line : ScriptLine) (tried : ℕ) (lines : List ScriptLine) (found : Option Ready) → ArePlain scripts → IsGood w t → IsRunning w scripts t
@@ -132,14 +134,22 @@ joined-running : Laws → (limit : ℕ) (w : World) (scripts : List Script) (t :
     → answer_in t.state x.caller.rank x.caller.thread line.call ≡ Some (ready.Join args) → IsRunning w scripts (joined_turn limit (joined t x line args) place x line)
 joined-running laws limit w scripts t place x line tried lines args plain good running at going room answers =
     let e = join_event x.caller line.call args in
-    let ok = ok-state (step t.state e) (laws.joins t.state x.caller line args good.sound (running.active place x at) room answers) in
+    let ok = ok-state (step t.state e) (laws.joins.steps t.state x.caller line args good.sound (running.active place x at) room answers) in
     let t' : Turns = record t { state = ok.0; journal = t.journal ++ e ∷ [] } in
     let is : joined t x line args ≡ t' = made-is t e ok.0 ok.1 in
     let good' : IsGood w t' = subst (λ (u : Turns). IsGood w u) is (good-made laws.steps laws.stay w t e good) in
-    let running' : IsRunning w scripts t' = joining-step laws.active w scripts t place x line tried lines e ok.0 running at going ok.1 (λ rank thread. refl) (λ rank thread apart. rw apart refl) (λ rank thread. refl) in
-    let room' = laws.room t.state ok.0 x.caller line args good.sound answers room ok.1 in
+    let running' : IsRunning w scripts t' = joining-step laws.active w scripts t place x line tried lines (group_of line.call) args ok.0 good.sound running at going ok.1
+    (laws.joins.itself t.state x.caller line args answers) (closed (ends_joined (own_events x.caller.rank x.caller.thread t.journal)) refl) (laws.joins.pends t.state ok.0 x.caller line args good.sound answers ok.1) in
+    let room' = laws.joins.room t.state ok.0 x.caller line args good.sound answers room ok.1 in
     subst (λ (u : Turns). IsRunning w scripts (joined_turn limit u place x line)) (sym is)
     (joined-answered-running laws limit w scripts t' place x line tried lines (answer_in ok.0 x.caller.rank x.caller.thread line.call) plain good' running' at going room' refl)
+  where
+    closed : (b : Bool) → ends_joined (own_events x.caller.rank x.caller.thread t.journal) ≡ b → ends_joined (own_events x.caller.rank x.caller.thread t.journal) ≡ false
+    closed false h = h
+    closed true h =
+        let pends = running.joined place x line tried lines at going h in
+        let not = laws.joins.once t.state x.caller line args answers in
+        absurd (let never : true ≡ false = sym pends ∙ not in let no : ⊥ = cc in no)
 
 answered-running : Laws → (limit : ℕ) (w : World) (scripts : List Script) (t : Turns) (place : ℕ) (x : Waiting) (line : ScriptLine) (tried : ℕ) (lines : List ScriptLine) (found : Option Ready) → ArePlain scripts → IsGood w t → IsRunning w scripts t
     → slice_get t.waiting place ≡ Some x → x.cursor ≡ Going line tried lines → room_taken t.state x.caller.rank + present_need t.state x.caller line ≤ t.state.limits.events
@@ -156,41 +166,45 @@ answered-running laws limit w scripts t place x line tried lines (Some ready.Not
 stopped-goes : (w : World) (scripts : List Script) (t : Turns) (x : Waiting) (line : ScriptLine) (tried : ℕ) (lines : List ScriptLine) → IsGood w t → Goes w scripts t.journal x → x.cursor ≡ Going line tried lines
     → t.state.limits.events < room_taken t.state x.caller.rank + present_need t.state x.caller line
     → Goes w scripts t.journal (record { caller = x.caller; cursor = stopped x.cursor halts.Limit; looks = 0 })
-stopped-goes w scripts t x line tried lines good g going full = record {
-  script = g.script;
-  is_script = g.is_script;
-  come = inr (
-    outcomes.Limit line.number,
-    ap (λ (p : Progress). stopped p halts.Limit) going,
+stopped-goes w scripts t x line tried lines good g going full =
+    let f = come-going w t.journal x.caller g.script.lines x.cursor line tried lines going g.come in
     record {
-      line = line;
-      tried = tried;
-      rest = lines;
-      follows = follows g.come;
-      limit = refl;
-      before = t.journal;
-      later = [];
-      begins = append-nil t.journal;
-      events = refl;
-      state = t.state;
-      leads = good.legal;
-      full = subst (λ (n : ℕ). n < room_taken t.state x.caller.rank + present_need t.state x.caller line) (ap (λ (l : Rattle.gaspi_types.specs.declared.shapes.Limits.Limits). l.events) good.limits) full;
-    },
-  );
-}
-  where
-    follows : HasCome w t.journal x.caller g.script.lines x.cursor → Follows (going_on g.script.lines) (own_calls x.caller.rank x.caller.thread t.journal) (Going line tried lines)
-    follows (inl f) = subst (λ (p : Progress). Follows (going_on g.script.lines) (own_calls x.caller.rank x.caller.thread t.journal) p) going f
-    follows (inr stopped) = absurd (let over : ◌≡◌ {A = Progress} (Going line tried lines) (Over stopped.0) = sym going ∙ stopped.1 in let no : ⊥ = cc in no)
+      script = g.script;
+      is_script = g.is_script;
+      come = inr (
+        outcomes.Limit line.number,
+        ap (λ (p : Progress). stopped p halts.Limit) going,
+        record {
+          line = line;
+          tried = tried;
+          rest = lines;
+          follows = f.0;
+          limit = refl;
+          before = t.journal;
+          later = [];
+          begins = append-nil t.journal;
+          events = refl;
+          state = t.state;
+          leads = good.legal;
+          full = subst (λ (n : ℕ). n < room_taken t.state x.caller.rank + present_need t.state x.caller line) (ap (λ (l : Rattle.gaspi_types.specs.declared.shapes.Limits.Limits). l.events) good.limits) full;
+          joins = f.1;
+        },
+      );
+    }
 
 going-running : Laws → (limit : ℕ) (w : World) (scripts : List Script) (t : Turns) (place : ℕ) (x : Waiting) (line : ScriptLine) (tried : ℕ) (lines : List ScriptLine) → ArePlain scripts → IsGood w t → IsRunning w scripts t
     → slice_get t.waiting place ≡ Some x → x.cursor ≡ Going line tried lines → IsRunning w scripts (going_turn limit t place x line)
 going-running laws limit w scripts t place x line tried lines plain good running at going = go (nat_lt t.state.limits.events (room_taken t.state x.caller.rank + present_need t.state x.caller line)) refl
   where
+    over-not : (l : ScriptLine) (n : ℕ) (ls : List ScriptLine) → stopped x.cursor halts.Limit ≡ Going l n ls → x.cursor ≡ Going l n ls
+    over-not l n ls h =
+        let over : ◌≡◌ {A = Progress} (stopped (Going line tried lines) halts.Limit) (Going l n ls) = ap (λ (p : Progress). stopped p halts.Limit) (sym going) ∙ h in
+        absurd (let no : ⊥ = cc in no)
+
     go : (b : Bool) → nat_lt t.state.limits.events (room_taken t.state x.caller.rank + present_need t.state x.caller line) ≡ b → IsRunning w scripts (going_turn limit t place x line)
     go true full =
         let x' : Waiting = record { caller = x.caller; cursor = stopped x.cursor halts.Limit; looks = 0 } in
-        rw full (waiting-changed w scripts t place x x' running at refl
+        rw full (waiting-changed w scripts t place x x' running at refl (λ l n ls h. over-not l n ls h)
         (stopped-goes w scripts t x line tried lines good (running.goes place x at) going (ltb-true t.state.limits.events (room_taken t.state x.caller.rank + present_need t.state x.caller line) full)))
     go false room =
         let fits = ltb-false t.state.limits.events (room_taken t.state x.caller.rank + present_need t.state x.caller line) room in
@@ -220,7 +234,7 @@ ending-running laws w scripts t place x outcome good running at over =
     let active = running.active place x at in
     let answers = end-answer t.state x.caller.rank x.caller.thread good.sound within active in
     let ok = ok-state (step t.state (Called x.caller End replies.Done)) (laws.calls t.state x.caller.rank x.caller.thread End (ready.Reply replies.Done) good.sound active (room-end t.state x.caller.rank x.caller.thread good.sound) answers refl) in
-    let made = ending-step laws.active laws.ends laws.stops w scripts t place x outcome ok.0 running at over ok.1 in
+    let made = ending-step laws.active laws.ends laws.stops w scripts t place x outcome ok.0 good.sound running at over ok.1 in
     rw ok.1 made
 
 caller-running : Laws → (limit : ℕ) (w : World) (scripts : List Script) (t : Turns) (place : ℕ) (x : Waiting) → ArePlain scripts → IsGood w t → IsRunning w scripts t → slice_get t.waiting place ≡ Some x
@@ -234,8 +248,8 @@ caller-running laws limit w scripts t place x plain good running at = go x.curso
         subst (λ (u : Turns). IsRunning w scripts u) (sym (ap (λ (p : Progress). progress_turn limit t place x p) is)) (ending-running laws w scripts t place x outcome good running at is)
 
 -- a transfer is no caller's event
-transfer-running : Laws → (w : World) (scripts : List Script) (t : Turns) (transfer : Transfer) → IsRunning w scripts t → IsRunning w scripts (made t (transfer_event t.state transfer))
-transfer-running laws w scripts t transfer running = go (step t.state (transfer_event t.state transfer)) refl
+transfer-running : Laws → (w : World) (scripts : List Script) (t : Turns) (transfer : Transfer) → IsSound t.state → IsRunning w scripts t → IsRunning w scripts (made t (transfer_event t.state transfer))
+transfer-running laws w scripts t transfer sound running = go (step t.state (transfer_event t.state transfer)) refl
   where
     foreign : (b : Bool) (put take : Event) → ((rank thread : ℕ) → own_events rank thread (put ∷ []) ≡ []) → ((rank thread : ℕ) → own_events rank thread (take ∷ []) ≡ []) → (rank thread : ℕ) → own_events rank thread ((if b then put else take) ∷ []) ≡ []
     foreign true put take p q rank thread = p rank thread
@@ -247,7 +261,7 @@ transfer-running laws w scripts t transfer running = go (step t.state (transfer_
 
     go : (r : Result State Why) → step t.state (transfer_event t.state transfer) ≡ r → IsRunning w scripts (made t (transfer_event t.state transfer))
     go (Err why) is = rw is running
-    go (Ok s) is = rw is (foreign-step laws.active w scripts t (transfer_event t.state transfer) s running is
+    go (Ok s) is = rw is (foreign-step laws.active w scripts t (transfer_event t.state transfer) s sound running is
         (foreign transfer.put _ _ (λ rank thread. refl) (λ rank thread. refl)) (ends transfer.put _ _ (λ rank thread. refl) (λ rank thread. refl)))
 
 candidate-running : Laws → (limit : ℕ) (w : World) (scripts : List Script) (t : Turns) (candidate : ℕ) → ArePlain scripts → IsGood w t → IsRunning w scripts t → IsRunning w scripts (candidate_turn limit t candidate)
@@ -255,7 +269,7 @@ candidate-running laws limit w scripts t candidate plain good running = of-calle
   where
     of-transfer : (o : Option Transfer) → slice_get t.waiting candidate ≡ None → slice_get (transfers t.state.limits t.state.posts) (candidate - length t.waiting) ≡ o → IsRunning w scripts (candidate_turn limit t candidate)
     of-transfer None past none = rw (past, none) running
-    of-transfer (Some transfer) past at = rw (past, at) (transfer-running laws w scripts t transfer running)
+    of-transfer (Some transfer) past at = rw (past, at) (transfer-running laws w scripts t transfer good.sound running)
 
     of-caller : (o : Option Waiting) → slice_get t.waiting candidate ≡ o → IsRunning w scripts (candidate_turn limit t candidate)
     of-caller (Some x) at = rw at (caller-running laws limit w scripts t candidate x plain good running at)
@@ -268,7 +282,7 @@ running-turn laws limit w scripts t plain good running = go (candidates t == 0) 
     good-draw = record { legal = good.legal; sound = good.sound; limits = good.limits; ranked = good.ranked; own = good.own }
 
     draw : IsRunning w scripts (with_draw t)
-    draw = record { active = running.active; goes = running.goes; ended = running.ended; counted = running.counted; once = running.once }
+    draw = record { active = running.active; goes = running.goes; joined = running.joined; ended = running.ended; counted = running.counted; once = running.once }
 
     go : (b : Bool) → (candidates t == 0) ≡ b → IsRunning w scripts (turn limit t)
     go true over = rw over running

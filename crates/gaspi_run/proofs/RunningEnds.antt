@@ -1,5 +1,5 @@
 -- The end of a caller keeps that the callers' calls are runs of their scripts.
-use Rattle.std.proofs.Common.{◌≡◌, ℕ, zero, suc, ◌+◌, Bool, true, false, List, [], ◌∷◌, ◌++◌, Some, Ok, refl, sym, ap, ◌∙◌, subst, arith, remove, ◌⊎◌, inl, inr, cond, count_by, if◌then◌else◌, append_assoc}
+use Rattle.std.proofs.Common.{◌≡◌, ℕ, zero, suc, ◌+◌, Bool, true, false, List, [], ◌∷◌, ◌++◌, None, Some, Ok, refl, sym, ap, ◌∙◌, subst, arith, remove, ◌⊎◌, inl, inr, cond, count_by, if◌then◌else◌, append_assoc}
 use Rattle.std.specs.List.{slice_get, sum_by}
 use Rattle.std.proofs.lemmas.List.Sums.{sum_by-remove, sum_by_push}
 use Rattle.std.proofs.lemmas.Option.{slice_get_within, get_or_from_slice_get}
@@ -11,7 +11,8 @@ use Rattle.gaspi_types.specs.declared.replies.Reply.{Reply}
 use Rattle.gaspi_types.specs.declared.replies.Reply.TheVariants as replies
 use Rattle.gaspi_types.specs.declared.events.Event.{Event}
 use Rattle.gaspi_types.specs.declared.events.Event.TheVariants.{Called}
-use Rattle.gaspi_model.specs.Step.{step, own_calls, is_active, ends_caller}
+use Rattle.gaspi_model.specs.Sound.{IsSound}
+use Rattle.gaspi_model.specs.Step.{step, own_calls, is_active, is_pending, ends_caller}
 use Rattle.gaspi_model.specs.declared.states.State.{State}
 use Rattle.gaspi_types.proofs.Items.{append-parts}
 use Rattle.rank_script.specs.Runs.{Progress, Going, Over, going_on, advanced, is_stuck, is_retried, is_failed, Follows, IsRun, IsStopped, end_pair}
@@ -20,10 +21,12 @@ use Rattle.rank_script.specs.declared.scripts.ScriptLine.{ScriptLine}
 use Rattle.rank_script.specs.declared.scripts.RunOutcome.{RunOutcome}
 use Rattle.rank_script.specs.declared.scripts.RunOutcome.TheVariants as outcomes
 use Rattle.gaspi_run.specs.declared.turns.Finished.{Finished}
-use Rattle.gaspi_run.specs.Schedule.{own_events, HasLimitCause, HasEnded}
+use Rattle.gaspi_run.specs.Schedule.{own_events, AreJoinsFollowed, HasLimitCause, HasEnded}
 use Rattle.gaspi_run.specs.declared.turns.Waiting.{Waiting}
 use Rattle.gaspi_run.specs.declared.turns.Turns.{Turns}
-use Rattle.gaspi_run.proofs.Running.{IsRunning, Goes, HasCome, waiting_count, finished_count, line-there, come-more, ended-more, own_events-append, events-same, called-other}
+use Rattle.gaspi_run.proofs.JoinsFollowed.{AreFollowedSoFar, ends_joined, followed-at-end}
+use Rattle.gaspi_run.proofs.StaysPending.{pending-stays}
+use Rattle.gaspi_run.proofs.Running.{IsRunning, Goes, HasCome, waiting_count, finished_count, present, line-there, come-more, ended-more, own_events-append, events-same, events-more, called-other}
 use Rattle.gaspi_run.proofs.RunningTurns.{ActiveStays, apart-waiting, apart-finished, own-more}
 
 abbrev pub EndsRun : Type 0
@@ -109,11 +112,15 @@ ended-of ends stops w scripts journal x outcome over g = by-come g.come
 
     by-come : HasCome w journal x.caller g.script.lines x.cursor → HasEnded w scripts (journal ++ Called x.caller End replies.Done ∷ []) (record { caller = x.caller; outcome = outcome })
     by-come (inl f) =
-        let follows = subst (λ (p : Progress). Follows (going_on g.script.lines) (own_calls x.caller.rank x.caller.thread journal) p) over f in
+        let follows = subst (λ (p : Progress). Follows (going_on g.script.lines) (own_calls x.caller.rank x.caller.thread journal) p) over f.0 in
+        let so_far = subst (λ (p : Progress). AreFollowedSoFar (present p) (own_events x.caller.rank x.caller.thread journal)) over f.1 in
         record {
           script = g.script;
           is_script = g.is_script;
           run = subst (λ (ps : List (Call × Reply)). IsRun g.script.lines ps outcome) (sym pairs-is) (ends g.script.lines (own_calls x.caller.rank x.caller.thread journal) outcome follows);
+          stopped = None;
+          stopped_before = tt;
+          joins = subst (λ (es : List Event). AreJoinsFollowed None es) (sym events-is) (followed-at-end None (own_events x.caller.rank x.caller.thread journal) x.caller replies.Done so_far);
           limit = follows-cause w (journal ++ Called x.caller End replies.Done ∷ []) x.caller g.script.lines g.script.lines (own_calls x.caller.rank x.caller.thread journal) outcome follows;
         }
     by-come (inr stopped) =
@@ -142,16 +149,21 @@ ended-of ends stops w scripts journal x outcome over g = by-come g.come
           is_script = g.is_script;
           run = subst (λ (ps : List (Call × Reply)). IsRun g.script.lines ps outcome) (sym pairs-is)
               (stops g.script.lines (own_calls x.caller.rank x.caller.thread journal) s.line s.tried s.rest outcome s.follows (inl limit));
+          stopped = Some s.line.call;
+          stopped_before = (there.0, s.line, there.1, refl, limit);
+          joins = subst (λ (es : List Event). AreJoinsFollowed (Some s.line.call) es) (sym events-is)
+              (followed-at-end (Some s.line.call) (own_events x.caller.rank x.caller.thread journal) x.caller replies.Done s.joins);
           limit = subst (λ (o : RunOutcome). HasLimitCause w (journal ++ Called x.caller End replies.Done ∷ []) x.caller g.script.lines o) (sym limit) cause;
         }
 
 -- the end of a caller, made
 pub ending-step : ActiveStays → EndsRun → StopsRun → (w : World) (scripts : List Script) (t : Turns) (place : ℕ) (x : Waiting) (outcome : RunOutcome) (s : State)
-    → IsRunning w scripts t → slice_get t.waiting place ≡ Some x → x.cursor ≡ Over outcome → step t.state (Called x.caller End replies.Done) ≡ Ok s
+    → IsSound t.state → IsRunning w scripts t → slice_get t.waiting place ≡ Some x → x.cursor ≡ Over outcome → step t.state (Called x.caller End replies.Done) ≡ Ok s
     → IsRunning w scripts (record t { state = s; waiting = remove t.waiting place; finished = t.finished ++ record { caller = x.caller; outcome = outcome } ∷ []; journal = t.journal ++ Called x.caller End replies.Done ∷ [] })
-ending-step stays ends stops w scripts t place x outcome s running at over is = record {
+ending-step stays ends stops w scripts t place x outcome s sound running at over is = record {
   active = λ q y here. active-at y (remove-apart t.waiting place q y here);
   goes = λ q y here. goes-at y (remove-apart t.waiting place q y here);
+  joined = λ q y line tried lines here going h. joined-at y line tried lines (remove-apart t.waiting place q y here) going h;
   ended = λ k f here. ended-at f (append-parts t.finished (record { caller = x.caller; outcome = outcome } ∷ []) k f here);
   counted = counts;
   once = running.once;
@@ -174,6 +186,13 @@ ending-step stays ends stops w scripts t place x outcome s running at over is = 
           come = come-more w t.journal (Called x.caller End replies.Done) y.caller g.script.lines y.cursor
               (called-other y.caller.rank y.caller.thread x.caller End replies.Done (apart-waiting w scripts t place here.0 x y running at here.2 here.1)) g.come;
         }
+
+    joined-at : (y : Waiting) (line : ScriptLine) (tried : ℕ) (lines : List ScriptLine) → ((k : ℕ) × (place ≡ k → ⊥) × (slice_get t.waiting k ≡ Some y)) → y.cursor ≡ Going line tried lines
+        → ends_joined (own_events y.caller.rank y.caller.thread (t.journal ++ Called x.caller End replies.Done ∷ [])) ≡ true → is_pending s y.caller.rank y.caller.thread line.call ≡ true
+    joined-at y line tried lines here going h =
+        let none = called-other y.caller.rank y.caller.thread x.caller End replies.Done (apart-waiting w scripts t place here.0 x y running at here.2 here.1) in
+        pending-stays t.state s (Called x.caller End replies.Done) y.caller.rank y.caller.thread line.call sound is none
+        (running.joined here.0 y line tried lines here.2 going (subst (λ (es : List Event). ends_joined es ≡ true) (events-more y.caller t.journal (Called x.caller End replies.Done) none) h))
 
     new-at : (f : Finished) (j : ℕ) → slice_get (record { caller = x.caller; outcome = outcome } ∷ []) j ≡ Some f → HasEnded w scripts (t.journal ++ Called x.caller End replies.Done ∷ []) f
     new-at f zero here =

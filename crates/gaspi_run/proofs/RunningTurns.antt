@@ -9,19 +9,24 @@ use Rattle.gaspi_types.specs.declared.shapes.CallerId.{CallerId}
 use Rattle.gaspi_types.specs.declared.calls.Call.{Call}
 use Rattle.gaspi_types.specs.declared.replies.Reply.{Reply}
 use Rattle.gaspi_types.specs.declared.events.Event.{Event}
-use Rattle.gaspi_types.specs.declared.events.Event.TheVariants.{Called}
-use Rattle.gaspi_model.specs.Step.{step, own_calls, is_active, ends_caller}
+use Rattle.gaspi_types.specs.declared.events.Event.TheVariants.{Called, Joined}
+use Rattle.gaspi_types.specs.declared.groups.Args.{Args}
+use Rattle.gaspi_model.specs.CollectiveCalls.{joining_call}
+use Rattle.gaspi_model.specs.Sound.{IsSound}
+use Rattle.gaspi_model.specs.Step.{step, own_calls, is_active, is_pending, ends_caller}
 use Rattle.gaspi_types.specs.CallRows.{is_end}
 use Rattle.gaspi_model.specs.declared.states.State.{State}
 use Rattle.gaspi_types.proofs.Items.{slice_get-set}
-use Rattle.rank_script.specs.Runs.{Progress, Going, Over, going_on, advanced, stopped, Follows}
+use Rattle.rank_script.specs.Runs.{Progress, Going, going_on, advanced, Follows}
 use Rattle.rank_script.specs.declared.scripts.Script.{Script}
 use Rattle.rank_script.specs.declared.scripts.ScriptLine.{ScriptLine}
 use Rattle.gaspi_run.specs.declared.turns.Finished.{Finished}
 use Rattle.gaspi_run.specs.Schedule.{with_waiting, own_events}
 use Rattle.gaspi_run.specs.declared.turns.Waiting.{Waiting}
 use Rattle.gaspi_run.specs.declared.turns.Turns.{Turns}
-use Rattle.gaspi_run.proofs.Running.{IsRunning, Goes, HasCome, own_of, own_calls-append, own-same, called-other, waiting_count, finished_count, count-at, count-two, come-more, ended-more, set-cases}
+use Rattle.gaspi_run.proofs.JoinsFollowed.{AreFollowedSoFar, ends_joined, called-ends, called-so-far, joined-so-far}
+use Rattle.gaspi_run.proofs.StaysPending.{pending-stays}
+use Rattle.gaspi_run.proofs.Running.{IsRunning, Goes, present, come-going, own_calls-append, own_events-append, own-same, events-same, events-more, called-other, waiting_count, finished_count, count-at, count-two, come-more, ended-more, set-cases}
 
 -- what the machine's and the runs' laws say
 abbrev pub ActiveStays : Type 0
@@ -32,16 +37,19 @@ Onward = (p : Progress) (pairs : List (Call × Reply)) (line : ScriptLine) (trie
     → Follows p pairs (Going line tried lines) → Follows p (pairs ++ (line.call, reply) ∷ []) (advanced (Going line tried lines) reply)
 
 -- an event of no caller
-pub foreign-step : ActiveStays → (w : World) (scripts : List Script) (t : Turns) (e : Event) (s : State) → IsRunning w scripts t → step t.state e ≡ Ok s
+pub foreign-step : ActiveStays → (w : World) (scripts : List Script) (t : Turns) (e : Event) (s : State) → IsSound t.state → IsRunning w scripts t → step t.state e ≡ Ok s
     → ((rank thread : ℕ) → own_events rank thread (e ∷ []) ≡ []) → ((rank thread : ℕ) → ends_caller rank thread e ≡ false)
     → IsRunning w scripts (record t { state = s; journal = t.journal ++ e ∷ [] })
-foreign-step stays w scripts t e s running is foreign ends = record {
+foreign-step stays w scripts t e s sound running is foreign ends = record {
   active = λ place x at. stays t.state s e x.caller.rank x.caller.thread is (ends x.caller.rank x.caller.thread) ∙ running.active place x at;
   goes = λ place x at. (let g = running.goes place x at in record {
     script = g.script;
     is_script = g.is_script;
     come = come-more w t.journal e x.caller g.script.lines x.cursor (foreign x.caller.rank x.caller.thread) g.come;
   });
+  joined = λ place x line tried lines at going h.
+      pending-stays t.state s e x.caller.rank x.caller.thread line.call sound is (foreign x.caller.rank x.caller.thread)
+      (running.joined place x line tried lines at going (subst (λ (es : List Event). ends_joined es ≡ true) (events-more x.caller t.journal e (foreign x.caller.rank x.caller.thread)) h));
   ended = λ place f at. ended-more w scripts t.journal e f (foreign f.caller.rank f.caller.thread) (running.ended place f at);
   counted = running.counted;
   once = running.once;
@@ -86,10 +94,11 @@ count-set ws place x x' rank thread at same =
 
 -- where a caller's run stands is changed, and no event is made
 pub waiting-changed : (w : World) (scripts : List Script) (t : Turns) (place : ℕ) (x x' : Waiting) → IsRunning w scripts t → slice_get t.waiting place ≡ Some x → x'.caller ≡ x.caller
-    → Goes w scripts t.journal x' → IsRunning w scripts (with_waiting t place x')
-waiting-changed w scripts t place x x' running at same goes = record {
+    → ((line : ScriptLine) (tried : ℕ) (lines : List ScriptLine) → x'.cursor ≡ Going line tried lines → x.cursor ≡ Going line tried lines) → Goes w scripts t.journal x' → IsRunning w scripts (with_waiting t place x')
+waiting-changed w scripts t place x x' running at same stands goes = record {
   active = λ q y here. active-at q y (slice_get-set t.waiting place q x' y here);
   goes = λ q y here. goes-at q y (slice_get-set t.waiting place q x' y here);
+  joined = λ q y line tried lines here going h. joined-at q y line tried lines (slice_get-set t.waiting place q x' y here) going h;
   ended = running.ended;
   counted = λ rank thread. ap (λ (n : ℕ). n + finished_count rank thread t.finished) (count-set t.waiting place x x' rank thread at same) ∙ running.counted rank thread;
   once = running.once;
@@ -98,6 +107,15 @@ waiting-changed w scripts t place x x' running at same goes = record {
     active-at : (q : ℕ) (y : Waiting) → ((q ≡ place) × (y ≡ x')) ⊎ (slice_get t.waiting q ≡ Some y) → is_active t.state y.caller.rank y.caller.thread ≡ true
     active-at q y (inl here) = rw (here.1, same) (running.active place x at)
     active-at q y (inr there) = running.active q y there
+
+    joined-at : (q : ℕ) (y : Waiting) (line : ScriptLine) (tried : ℕ) (lines : List ScriptLine) → ((q ≡ place) × (y ≡ x')) ⊎ (slice_get t.waiting q ≡ Some y) → y.cursor ≡ Going line tried lines
+        → ends_joined (own_events y.caller.rank y.caller.thread t.journal) ≡ true → is_pending t.state y.caller.rank y.caller.thread line.call ≡ true
+    joined-at q y line tried lines (inl here) going h =
+        let callers : y.caller ≡ x.caller = ap (λ (z : Waiting). z.caller) here.1 ∙ same in
+        let cursor : x'.cursor ≡ Going line tried lines = sym (ap (λ (z : Waiting). z.cursor) here.1) ∙ going in
+        subst (λ (c : CallerId). is_pending t.state c.rank c.thread line.call ≡ true) (sym callers)
+        (running.joined place x line tried lines at (stands line tried lines cursor) (subst (λ (c : CallerId). ends_joined (own_events c.rank c.thread t.journal) ≡ true) callers h))
+    joined-at q y line tried lines (inr there) going h = running.joined q y line tried lines there going h
 
     goes-at : (q : ℕ) (y : Waiting) → ((q ≡ place) × (y ≡ x')) ⊎ (slice_get t.waiting q ≡ Some y) → Goes w scripts t.journal y
     goes-at q y (inl here) = subst (λ (z : Waiting). Goes w scripts t.journal z) (sym here.1) goes
@@ -111,65 +129,112 @@ and-false false = refl
 pub own-more : (w : World) (journal : List Event) (c : CallerId) (call : Call) (reply : Reply) → own_calls c.rank c.thread (journal ++ Called c call reply ∷ []) ≡ own_calls c.rank c.thread journal ++ (call, reply) ∷ []
 own-more w journal c call reply = own_calls-append c.rank c.thread journal (Called c call reply ∷ []) ∙ ap (λ (ps : List (Call × Reply)). own_calls c.rank c.thread journal ++ ps) (own-same c call reply)
 
+-- the same of its events
+pub own-events-more : (journal : List Event) (c : CallerId) (call : Call) (reply : Reply) → own_events c.rank c.thread (journal ++ Called c call reply ∷ []) ≡ own_events c.rank c.thread journal ++ Called c call reply ∷ []
+own-events-more journal c call reply = own_events-append c.rank c.thread journal (Called c call reply ∷ []) ∙ ap (λ (es : List Event). own_events c.rank c.thread journal ++ es) (events-same c call reply)
+
 -- the run of a caller whose present call was recorded
 goes-on : Onward → (w : World) (scripts : List Script) (journal : List Event) (x : Waiting) (line : ScriptLine) (tried : ℕ) (lines : List ScriptLine) (reply : Reply) → x.cursor ≡ Going line tried lines → Goes w scripts journal x
     → Goes w scripts (journal ++ Called x.caller line.call reply ∷ []) (record { caller = x.caller; cursor = advanced x.cursor reply; looks = 0 })
-goes-on onward w scripts journal x line tried lines reply going g = record {
-  script = g.script;
-  is_script = g.is_script;
-  come = inl (subst (λ (ps : List (Call × Reply)). Follows (going_on g.script.lines) ps (advanced x.cursor reply)) (sym (own-more w journal x.caller line.call reply))
-      (subst (λ (p : Progress). Follows (going_on g.script.lines) (own_calls x.caller.rank x.caller.thread journal ++ (line.call, reply) ∷ []) (advanced p reply)) (sym going)
-      (onward (going_on g.script.lines) (own_calls x.caller.rank x.caller.thread journal) line tried lines reply (follows g.come))));
-}
-  where
-    follows : HasCome w journal x.caller g.script.lines x.cursor → Follows (going_on g.script.lines) (own_calls x.caller.rank x.caller.thread journal) (Going line tried lines)
-    follows (inl f) = subst (λ (p : Progress). Follows (going_on g.script.lines) (own_calls x.caller.rank x.caller.thread journal) p) going f
-    follows (inr stopped) = absurd (let over : ◌≡◌ {A = Progress} (Going line tried lines) (Over stopped.0) = sym going ∙ stopped.1 in let no : ⊥ = cc in no)
+goes-on onward w scripts journal x line tried lines reply going g =
+    let f = come-going w journal x.caller g.script.lines x.cursor line tried lines going g.come in
+    record {
+      script = g.script;
+      is_script = g.is_script;
+      come = inl (
+        subst (λ (ps : List (Call × Reply)). Follows (going_on g.script.lines) ps (advanced x.cursor reply)) (sym (own-more w journal x.caller line.call reply))
+            (subst (λ (p : Progress). Follows (going_on g.script.lines) (own_calls x.caller.rank x.caller.thread journal ++ (line.call, reply) ∷ []) (advanced p reply)) (sym going)
+            (onward (going_on g.script.lines) (own_calls x.caller.rank x.caller.thread journal) line tried lines reply f.0)),
+        subst (λ (es : List Event). AreFollowedSoFar (present (advanced x.cursor reply)) es) (sym (own-events-more journal x.caller line.call reply))
+            (called-so-far (present (advanced x.cursor reply)) (own_events x.caller.rank x.caller.thread journal) x.caller line.call reply f.1),
+      );
+    }
 
 -- a join of the present call: the run of its caller stays where it is
-pub joining-step : ActiveStays → (w : World) (scripts : List Script) (t : Turns) (place : ℕ) (x : Waiting) (line : ScriptLine) (tried : ℕ) (lines : List ScriptLine) (e : Event) (s : State)
-    → IsRunning w scripts t → slice_get t.waiting place ≡ Some x → x.cursor ≡ Going line tried lines → step t.state e ≡ Ok s
-    → ((rank thread : ℕ) → own_of rank thread e ≡ []) → ((rank thread : ℕ) → is_caller rank thread x.caller ≡ false → own_events rank thread (e ∷ []) ≡ [])
-    → ((rank thread : ℕ) → ends_caller rank thread e ≡ false)
-    → IsRunning w scripts (record t { state = s; journal = t.journal ++ e ∷ [] })
-joining-step stays w scripts t place x line tried lines e s running at going is uncalled apart ends = record {
-  active = λ q y here. stays t.state s e y.caller.rank y.caller.thread is (ends y.caller.rank y.caller.thread) ∙ running.active q y here;
+pub joining-step : ActiveStays → (w : World) (scripts : List Script) (t : Turns) (place : ℕ) (x : Waiting) (line : ScriptLine) (tried : ℕ) (lines : List ScriptLine) (id : ℕ) (args : Args) (s : State)
+    → IsSound t.state → IsRunning w scripts t → slice_get t.waiting place ≡ Some x → x.cursor ≡ Going line tried lines → step t.state (Joined x.caller id args) ≡ Ok s
+    → joining_call id args ≡ line.call → ends_joined (own_events x.caller.rank x.caller.thread t.journal) ≡ false → is_pending s x.caller.rank x.caller.thread line.call ≡ true
+    → IsRunning w scripts (record t { state = s; journal = t.journal ++ Joined x.caller id args ∷ [] })
+joining-step stays w scripts t place x line tried lines id args s sound running at going is itself ends pends = record {
+  active = λ q y here. stays t.state s e y.caller.rank y.caller.thread is refl ∙ running.active q y here;
   goes = λ q y here. goes-at q y here (place == q) refl;
+  joined = λ q y line' tried' lines' here going' h. joined-at q y line' tried' lines' here going' h (place == q) refl;
   ended = λ k f here. ended-more w scripts t.journal e f (apart f.caller.rank f.caller.thread (apart-finished w scripts t place k x f running at here)) (running.ended k f here);
   counted = running.counted;
   once = running.once;
 }
   where
-    same : own_calls x.caller.rank x.caller.thread (t.journal ++ e ∷ []) ≡ own_calls x.caller.rank x.caller.thread t.journal
-    same = own_calls-append x.caller.rank x.caller.thread t.journal (e ∷ []) ∙ rw (uncalled x.caller.rank x.caller.thread) (append-nil _)
+    e : Event
+    e = Joined x.caller id args
 
-    follows : (all : List ScriptLine) → HasCome w t.journal x.caller all x.cursor → HasCome w (t.journal ++ e ∷ []) x.caller all x.cursor
-    follows all (inl f) = inl (subst (λ (ps : List (Call × Reply)). Follows (going_on all) ps x.cursor) (sym same) f)
-    follows all (inr stopped) = absurd (let over : ◌≡◌ {A = Progress} (Going line tried lines) (Over stopped.0) = sym going ∙ stopped.1 in let no : ⊥ = cc in no)
+    apart : (rank thread : ℕ) → is_caller rank thread x.caller ≡ false → own_events rank thread (e ∷ []) ≡ []
+    apart rank thread other = rw other refl
+
+    calls : own_calls x.caller.rank x.caller.thread (t.journal ++ e ∷ []) ≡ own_calls x.caller.rank x.caller.thread t.journal
+    calls = own_calls-append x.caller.rank x.caller.thread t.journal (e ∷ []) ∙ append-nil _
+
+    events : own_events x.caller.rank x.caller.thread (t.journal ++ e ∷ []) ≡ own_events x.caller.rank x.caller.thread t.journal ++ e ∷ []
+    events = own_events-append x.caller.rank x.caller.thread t.journal (e ∷ []) ∙ rw (is_caller-self x.caller) refl
 
     own-goes : Goes w scripts (t.journal ++ e ∷ []) x
-    own-goes = (let g = running.goes place x at in record { script = g.script; is_script = g.is_script; come = follows g.script.lines g.come })
+    own-goes =
+        let g = running.goes place x at in
+        let f = come-going w t.journal x.caller g.script.lines x.cursor line tried lines going g.come in
+        let so_far : AreFollowedSoFar (Some line.call) (own_events x.caller.rank x.caller.thread (t.journal ++ e ∷ [])) =
+        subst (λ (es : List Event). AreFollowedSoFar (Some line.call) es) (sym events)
+        (subst (λ (c : Call). AreFollowedSoFar (Some c) (own_events x.caller.rank x.caller.thread t.journal ++ e ∷ [])) itself
+        (joined-so-far (Some line.call) (own_events x.caller.rank x.caller.thread t.journal) x.caller id args ends f.1)) in
+        record {
+          script = g.script;
+          is_script = g.is_script;
+          come = inl (
+            subst (λ (p : Progress). Follows (going_on g.script.lines) (own_calls x.caller.rank x.caller.thread (t.journal ++ e ∷ [])) p) (sym going)
+                (subst (λ (ps : List (Call × Reply)). Follows (going_on g.script.lines) ps (Going line tried lines)) (sym calls) f.0),
+            subst (λ (p : Progress). AreFollowedSoFar (present p) (own_events x.caller.rank x.caller.thread (t.journal ++ e ∷ []))) (sym going) so_far,
+          );
+        }
+
+    the-same : (q : ℕ) (y : Waiting) → slice_get t.waiting q ≡ Some y → (place == q) ≡ true → x ≡ y
+    the-same q y here is-place =
+        let there : slice_get t.waiting q ≡ Some x = subst (λ (n : ℕ). slice_get t.waiting n ≡ Some x) (eqb-true place q is-place) at in
+        let some : ◌≡◌ {A = Option Waiting} (Some x) (Some y) = sym there ∙ here in
+        cc
+
+    foreign : (q : ℕ) (y : Waiting) → slice_get t.waiting q ≡ Some y → (place == q) ≡ false → own_events y.caller.rank y.caller.thread (e ∷ []) ≡ []
+    foreign q y here is-other = apart y.caller.rank y.caller.thread (apart-waiting w scripts t place q x y running at here (λ h. eqb-false place q is-other h))
 
     goes-at : (q : ℕ) (y : Waiting) → slice_get t.waiting q ≡ Some y → (b : Bool) → (place == q) ≡ b → Goes w scripts (t.journal ++ e ∷ []) y
-    goes-at q y here true is-place =
-        let there : slice_get t.waiting q ≡ Some x = subst (λ (n : ℕ). slice_get t.waiting n ≡ Some x) (eqb-true place q is-place) at in
-        let one : x ≡ y = (let some : ◌≡◌ {A = Option Waiting} (Some x) (Some y) = sym there ∙ here in cc) in
-        subst (λ (z : Waiting). Goes w scripts (t.journal ++ e ∷ []) z) one own-goes
+    goes-at q y here true is-place = subst (λ (z : Waiting). Goes w scripts (t.journal ++ e ∷ []) z) (the-same q y here is-place) own-goes
     goes-at q y here false is-other =
         let g = running.goes q y here in
         record {
           script = g.script;
           is_script = g.is_script;
-          come = come-more w t.journal e y.caller g.script.lines y.cursor (apart y.caller.rank y.caller.thread (apart-waiting w scripts t place q x y running at here (λ h. eqb-false place q is-other h))) g.come;
+          come = come-more w t.journal e y.caller g.script.lines y.cursor (foreign q y here is-other) g.come;
         }
+
+    joined-at : (q : ℕ) (y : Waiting) (line' : ScriptLine) (tried' : ℕ) (lines' : List ScriptLine) → slice_get t.waiting q ≡ Some y → y.cursor ≡ Going line' tried' lines'
+        → ends_joined (own_events y.caller.rank y.caller.thread (t.journal ++ e ∷ [])) ≡ true → (b : Bool) → (place == q) ≡ b → is_pending s y.caller.rank y.caller.thread line'.call ≡ true
+    joined-at q y line' tried' lines' here going' h true is-place =
+        let one = the-same q y here is-place in
+        let cursors : ◌≡◌ {A = Progress} (Going line tried lines) (Going line' tried' lines') = sym going ∙ ap (λ (z : Waiting). z.cursor) one ∙ going' in
+        let same_line : line ≡ line' = cc in
+        subst (λ (l : ScriptLine). is_pending s y.caller.rank y.caller.thread l.call ≡ true) same_line
+        (subst (λ (z : Waiting). is_pending s z.caller.rank z.caller.thread line.call ≡ true) one pends)
+    joined-at q y line' tried' lines' here going' h false is-other =
+        let none = foreign q y here is-other in
+        pending-stays t.state s e y.caller.rank y.caller.thread line'.call sound is none
+        (running.joined q y line' tried' lines' here going' (subst (λ (es : List Event). ends_joined es ≡ true) (events-more y.caller t.journal e none) h))
 
 -- a call of the present line, recorded
 pub called-step : ActiveStays → Onward → (w : World) (scripts : List Script) (t : Turns) (place : ℕ) (x : Waiting) (line : ScriptLine) (tried : ℕ) (lines : List ScriptLine) (reply : Reply) (s : State)
-    → IsRunning w scripts t → slice_get t.waiting place ≡ Some x → x.cursor ≡ Going line tried lines → is_end line.call ≡ false → step t.state (Called x.caller line.call reply) ≡ Ok s
+    → IsSound t.state → IsRunning w scripts t → slice_get t.waiting place ≡ Some x → x.cursor ≡ Going line tried lines → is_end line.call ≡ false → step t.state (Called x.caller line.call reply) ≡ Ok s
     → IsRunning w scripts (record t { state = s; waiting = slice_set t.waiting place (record { caller = x.caller; cursor = advanced x.cursor reply; looks = 0 }); journal = t.journal ++ Called x.caller line.call reply ∷ [] })
-called-step stays onward w scripts t place x line tried lines reply s running at going plain is = record {
+called-step stays onward w scripts t place x line tried lines reply s sound running at going plain is = record {
   active = λ q y here. active-at q y (set-cases t.waiting place q x (record { caller = x.caller; cursor = advanced x.cursor reply; looks = 0 }) y at here);
   goes = λ q y here. goes-at q y (set-cases t.waiting place q x (record { caller = x.caller; cursor = advanced x.cursor reply; looks = 0 }) y at here);
+  joined = λ q y line' tried' lines' here going' h.
+      joined-at q y line' tried' lines' (set-cases t.waiting place q x (record { caller = x.caller; cursor = advanced x.cursor reply; looks = 0 }) y at here) going' h;
   ended = λ k f here. ended-more w scripts t.journal (Called x.caller line.call reply) f (called-other f.caller.rank f.caller.thread x.caller line.call reply (apart-finished w scripts t place k x f running at here)) (running.ended k f here);
   counted = λ rank thread. ap (λ (n : ℕ). n + finished_count rank thread t.finished) (count-set t.waiting place x (record { caller = x.caller; cursor = advanced x.cursor reply; looks = 0 }) rank thread at refl) ∙ running.counted rank thread;
   once = running.once;
@@ -191,3 +256,18 @@ called-step stays onward w scripts t place x line tried lines reply s running at
           is_script = g.is_script;
           come = come-more w t.journal (Called x.caller line.call reply) y.caller g.script.lines y.cursor (called-other y.caller.rank y.caller.thread x.caller line.call reply (apart-waiting w scripts t place q x y running at there.1 there.0)) g.come;
         }
+
+    joined-at : (q : ℕ) (y : Waiting) (line' : ScriptLine) (tried' : ℕ) (lines' : List ScriptLine)
+        → ((q ≡ place) × (y ≡ record { caller = x.caller; cursor = advanced x.cursor reply; looks = 0 })) ⊎ ((place ≡ q → ⊥) × (slice_get t.waiting q ≡ Some y)) → y.cursor ≡ Going line' tried' lines'
+        → ends_joined (own_events y.caller.rank y.caller.thread (t.journal ++ Called x.caller line.call reply ∷ [])) ≡ true → is_pending s y.caller.rank y.caller.thread line'.call ≡ true
+    joined-at q y line' tried' lines' (inl here) going' h =
+        let callers : y.caller ≡ x.caller = ap (λ (z : Waiting). z.caller) here.1 in
+        let own : ends_joined (own_events x.caller.rank x.caller.thread (t.journal ++ Called x.caller line.call reply ∷ [])) ≡ true =
+        subst (λ (c : CallerId). ends_joined (own_events c.rank c.thread (t.journal ++ Called x.caller line.call reply ∷ [])) ≡ true) callers h in
+        let not : ends_joined (own_events x.caller.rank x.caller.thread (t.journal ++ Called x.caller line.call reply ∷ [])) ≡ false =
+        ap ends_joined (own-events-more t.journal x.caller line.call reply) ∙ called-ends (own_events x.caller.rank x.caller.thread t.journal) x.caller line.call reply in
+        absurd (let never : true ≡ false = sym own ∙ not in let no : ⊥ = cc in no)
+    joined-at q y line' tried' lines' (inr there) going' h =
+        let none = called-other y.caller.rank y.caller.thread x.caller line.call reply (apart-waiting w scripts t place q x y running at there.1 there.0) in
+        pending-stays t.state s (Called x.caller line.call reply) y.caller.rank y.caller.thread line'.call sound is none
+        (running.joined q y line' tried' lines' there.1 going' (subst (λ (es : List Event). ends_joined es ≡ true) (events-more y.caller t.journal (Called x.caller line.call reply) none) h))

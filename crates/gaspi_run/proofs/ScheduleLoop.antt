@@ -28,12 +28,12 @@ use Rattle.gaspi_run.specs.Schedule.{started, turn, turns, candidates, AreActive
 use Rattle.gaspi_run.specs.declared.turns.Finished.{Finished}
 use Rattle.gaspi_run.specs.declared.turns.Waiting.{Waiting}
 use Rattle.gaspi_run.specs.declared.turns.Turns.{Turns}
-use Rattle.gaspi_run.proofs.Work.{work, turn-less, Counts, TransfersAreSteps, JoinsAreSteps, WorkLaws}
+use Rattle.gaspi_run.proofs.Work.{work, turn-less, Counts, TransfersAreSteps, WorkLaws}
 use Rattle.gaspi_run.proofs.Good.{IsGood, Steps, LimitsStay, good-turns, turns-more}
 use Rattle.gaspi_run.proofs.Running.{IsRunning}
 use Rattle.gaspi_run.proofs.RunningTurns.{ActiveStays, Onward}
 use Rattle.gaspi_run.proofs.RunningEnds.{EndsRun, StopsRun}
-use Rattle.gaspi_run.proofs.RunningAll.{Laws, CallsAreSteps, JoinsKeepRoom, running-turns}
+use Rattle.gaspi_run.proofs.RunningAll.{Laws, CallsAreSteps, JoinLaws, running-turns}
 use Rattle.gaspi_run.proofs.Started.{good-started, running-started, count-map}
 
 -- the schedule has come to where some number of turns leads
@@ -51,14 +51,13 @@ pub record Known (w : World) (scripts : List Script) : Type 0 where
   pub are : AreScriptsOf w scripts
   pub plain : ArePlain scripts
 
-pub laws : Steps → LimitsStay → ActiveStays → CallsAreSteps → JoinsAreSteps → JoinsKeepRoom → Onward → EndsRun → StopsRun → Laws
-laws steps stay active calls joins room onward ends stops = record {
+pub laws : Steps → LimitsStay → ActiveStays → CallsAreSteps → JoinLaws → Onward → EndsRun → StopsRun → Laws
+laws steps stay active calls joins onward ends stops = record {
   steps = steps;
   stay = stay;
   active = active;
   calls = calls;
   joins = joins;
-  room = room;
   onward = onward;
   ends = ends;
   stops = stops;
@@ -93,7 +92,7 @@ turned-own w scripts seed limit t k h = (turned-good w scripts seed limit t k h)
 pub turned-less : (w : World) (scripts : List Script) (seed limit : ℕ) (t : Turns) → Known w scripts → HasTurned w scripts seed limit t → 0 < candidates t → work limit (turn limit t) < work limit t
 turned-less w scripts seed limit t k h some =
     let good = turned-good w scripts seed limit t k h in
-    let w-laws : WorkLaws = record { counts = k.counts; transfers = k.transfers; joins = k.laws.joins; steps = k.laws.steps } in
+    let w-laws : WorkLaws = record { counts = k.counts; transfers = k.transfers; joins = k.laws.joins.steps; steps = k.laws.steps } in
     turn-less w-laws limit t good.sound
     (λ place x at. subst (λ (l : Rattle.gaspi_types.specs.declared.shapes.Limits.Limits). x.caller.rank < l.ranks) (sym good.limits) (good.ranked place x at)) (turned-active w scripts seed limit t k h) some
 

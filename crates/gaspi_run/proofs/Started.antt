@@ -254,6 +254,7 @@ pub running-started : (w : World) (scripts : List Script) (seed : ℕ) → IsWor
 running-started w scripts seed world are = record {
   active = λ place x at. active-at x (starts-part w scripts place x at);
   goes = λ place x at. goes-at x (starts-part w scripts place x at);
+  joined = λ place x line tried lines at going h. absurd (let no : ⊥ = cc in no);
   ended = λ place f at. absurd (let no : ⊥ = cc in no);
   counted = λ r t. (let all = starts-counted w scripts r t world are in omega arith);
   once = λ r t. scripts-once w scripts r t world are;
@@ -272,4 +273,4 @@ running-started w scripts seed world are = record {
         let found : find (is_script_of h.2.caller) scripts ≡ Some h.2 =
         subst (λ (n : ℕ). find (is_script_of (record { rank = h.2.caller.rank; thread = n })) scripts ≡ Some h.2) (sym caller.3)
         (subst (λ (n : ℕ). find (is_script_of (record { rank = n; thread = h.1 })) scripts ≡ Some h.2) (sym caller.2) h.4) in
-        subst (λ (y : Waiting). Goes w scripts [] y) (sym h.5) (record { script = h.2; is_script = found; come = inl refl })
+        subst (λ (y : Waiting). Goes w scripts [] y) (sym h.5) (record { script = h.2; is_script = found; come = inl (refl, tt) })

@@ -1,5 +1,5 @@
 -- The schedule on one thread: turns of callers and of transfers, picked by the generator. (own choice)
-use Rattle.std.specs.Prelude.{count_by, ◌<◌, ◌≡◌, Bool, ℕ, zero, suc, ◌+◌, ◌-◌, true, false, ◌==◌, nat_lt, nat_le, List, [], ◌∷◌, ◌++◌, length, remove, Option, None, Some, Result, Ok, Err, if◌then◌else◌, slice_get, slice_set, find}
+use Rattle.std.specs.Prelude.{count_by, ◌<◌, ◌≡◌, ◌⊎◌, Bool, ℕ, zero, suc, ◌+◌, ◌-◌, true, false, ◌==◌, nat_lt, nat_le, List, [], ◌∷◌, ◌++◌, length, remove, Option, None, Some, Result, Ok, Err, if◌then◌else◌, slice_get, slice_set, find}
 use Rattle.std.specs.List.{filter, flat_map, range_with_len}
 use Rattle.gaspi_types.specs.CallRows.{need_of}
 use Rattle.gaspi_types.specs.World.{World, is_caller}
@@ -16,6 +16,7 @@ use Rattle.gaspi_types.specs.declared.events.Transfer.{Transfer}
 use Rattle.gaspi_types.specs.declared.events.Event.{Event}
 use Rattle.gaspi_types.specs.declared.events.Event.TheVariants.{Called, Joined, Take, Put}
 use Rattle.gaspi_types.specs.declared.groups.Args.{Args}
+use Rattle.gaspi_model.specs.CollectiveCalls.{joining_call}
 use Rattle.gaspi_model.specs.State.{opening}
 use Rattle.gaspi_model.specs.Step.{step, answer_in, room_taken, transfer_event, own_calls, reached, is_active, is_pending}
 use Rattle.gaspi_model.specs.Transfers.{transfers}
@@ -197,7 +198,30 @@ is_own rank thread (Put origin queue target number outcome) = false
 abbrev pub own_events : ℕ → ℕ → List Event → List Event
 own_events rank thread history = filter (is_own rank thread) history
 
--- How a caller ended: its calls are a run of its script, with that outcome; and where it ended at the event limit, there
+-- whether a join of a caller is of the call that it makes next; or, where its run was stopped before that call, it makes its end next
+abbrev pub IsFollowed : Option Call → Call → List Event → Type 0
+IsFollowed stopped joins [] = ⊥
+IsFollowed stopped joins (Called c call reply ∷ events) = (call ≡ joins) ⊎ ((call ≡ End) × (stopped ≡ Some joins))
+IsFollowed stopped joins (Joined c id args ∷ events) = ⊥
+IsFollowed stopped joins (Take origin queue target number outcome ∷ events) = ⊥
+IsFollowed stopped joins (Put origin queue target number outcome ∷ events) = ⊥
+
+-- each join of a caller's events is
+abbrev pub AreJoinsFollowed : Option Call → List Event → Type 0
+AreJoinsFollowed stopped [] = Unit {0}
+AreJoinsFollowed stopped (Joined c id args ∷ events) = IsFollowed stopped (joining_call id args) events × AreJoinsFollowed stopped events
+AreJoinsFollowed stopped (Called c call reply ∷ events) = AreJoinsFollowed stopped events
+AreJoinsFollowed stopped (Take origin queue target number outcome ∷ events) = AreJoinsFollowed stopped events
+AreJoinsFollowed stopped (Put origin queue target number outcome ∷ events) = AreJoinsFollowed stopped events
+
+-- the call before which a run was stopped, where it was
+abbrev pub IsStoppedBefore : List ScriptLine → RunOutcome → Option Call → Type 0
+IsStoppedBefore lines outcome None = Unit {0}
+IsStoppedBefore lines outcome (Some call) =
+    (place : ℕ) × (line : ScriptLine) × (slice_get lines place ≡ Some line) × (line.call ≡ call) × (outcome ≡ outcomes.Limit line.number)
+
+-- How a caller ended: its calls are a run of its script, with that outcome; each of its joins is of the call that it makes next, or
+-- of the one before which it was stopped; and where it ended at the event limit, there
 -- is a history that the journal begins with, which has all its events but the end, and after which its rank had no room
 -- for what the call of that line needs.
 
@@ -222,6 +246,9 @@ pub record HasEnded (w : World) (scripts : List Script) (journal : List Event) (
   pub script : Script
   pub is_script : find (is_script_of f.caller) scripts ≡ Some script
   pub run : IsRun script.lines (own_calls f.caller.rank f.caller.thread journal) f.outcome
+  pub stopped : Option Call
+  pub stopped_before : IsStoppedBefore script.lines f.outcome stopped
+  pub joins : AreJoinsFollowed stopped (own_events f.caller.rank f.caller.thread journal)
   pub limit : HasLimitCause w journal f.caller script.lines f.outcome
 
 -- each script has one outcome among those, and each of those is how its caller ended

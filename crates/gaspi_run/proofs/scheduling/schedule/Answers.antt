@@ -4,14 +4,14 @@ use Rattle.gaspi_model.specs.Step.{is_legal}
 use Rattle.gaspi_run.specs.Schedule.{HasSettled, HaveEnded}
 use Rattle.gaspi_run.specs.declared.turns.Turns.{Turns}
 use Rattle.gaspi_run.proofs.ScheduleLoop.{known, laws, turned-active, turned-own, turned-less, turned-more, over-legal, over-ended, over-settled, end_laws}
-use Rattle.gaspi_run.proofs.Joins.{joins-are-steps, joins-keep-room}
+use Rattle.gaspi_run.proofs.Joins.{join-laws}
 use Rattle.gaspi_run.proofs.Work.{work}
 use Rattle.gaspi_run.proofs.scheduling.schedule.Goals as goal
 
 pub turn-requires : goal.turn-requires
 turn-requires c =
     turned-active c.args.shape.now c.args.scripts.now c.args.seed c.args.limit _
-    (known _ _ (laws c.soundness.ensures.steps c.soundness.ensures.limits c.soundness.ensures.active c.enabled.ensures.call (joins-are-steps c.enabled.ensures.join) (joins-keep-room c.soundness.ensures.limits c.enabled.ensures.joined c.enabled.ensures.pending c.enabled.ensures.needs) c.runs.ensures.onward c.runs.ensures.ended c.runs.ensures.stopped)
+    (known _ _ (laws c.soundness.ensures.steps c.soundness.ensures.limits c.soundness.ensures.active c.enabled.ensures.call (join-laws c.soundness.ensures.limits c.enabled.ensures.join c.enabled.ensures.itself c.enabled.ensures.joined c.enabled.ensures.pending c.enabled.ensures.needs) c.runs.ensures.onward c.runs.ensures.ended c.runs.ensures.stopped)
     c.soundness.ensures.counts c.enabled.ensures.transfer c.soundness.ensures.opens c.limits-limits.ensures.world c.requires.scripts c.len-count.ensures.plain)
     c.loop-turns.invariant
 
@@ -20,7 +20,7 @@ loop-turns-smaller c =
     let turned = c.in_ok-turn.ensures.turned (cc) in
     subst (λ (t : Turns). work c.args.limit t < work c.args.limit c.loop-turns.turns) (sym turned.1)
     (turned-less c.args.shape.now c.args.scripts.now c.args.seed c.args.limit c.loop-turns.turns
-    (known _ _ (laws c.soundness.ensures.steps c.soundness.ensures.limits c.soundness.ensures.active c.enabled.ensures.call (joins-are-steps c.enabled.ensures.join) (joins-keep-room c.soundness.ensures.limits c.enabled.ensures.joined c.enabled.ensures.pending c.enabled.ensures.needs) c.runs.ensures.onward c.runs.ensures.ended c.runs.ensures.stopped)
+    (known _ _ (laws c.soundness.ensures.steps c.soundness.ensures.limits c.soundness.ensures.active c.enabled.ensures.call (join-laws c.soundness.ensures.limits c.enabled.ensures.join c.enabled.ensures.itself c.enabled.ensures.joined c.enabled.ensures.pending c.enabled.ensures.needs) c.runs.ensures.onward c.runs.ensures.ended c.runs.ensures.stopped)
     c.soundness.ensures.counts c.enabled.ensures.transfer c.soundness.ensures.opens c.limits-limits.ensures.world c.requires.scripts c.len-count.ensures.plain)
     c.loop-turns.invariant turned.0)
 
@@ -33,7 +33,7 @@ returns-clause-legal c =
     let over = c.in_ok-turn.ensures.over (cc) in
     subst (λ (t : Turns). is_legal c.args.shape.now t.journal ≡ true) (sym over.1)
     (over-legal c.args.shape.now c.args.scripts.now c.args.seed c.args.limit c.loop-turns.turns
-    (known _ _ (laws c.soundness.ensures.steps c.soundness.ensures.limits c.soundness.ensures.active c.enabled.ensures.call (joins-are-steps c.enabled.ensures.join) (joins-keep-room c.soundness.ensures.limits c.enabled.ensures.joined c.enabled.ensures.pending c.enabled.ensures.needs) c.runs.ensures.onward c.runs.ensures.ended c.runs.ensures.stopped)
+    (known _ _ (laws c.soundness.ensures.steps c.soundness.ensures.limits c.soundness.ensures.active c.enabled.ensures.call (join-laws c.soundness.ensures.limits c.enabled.ensures.join c.enabled.ensures.itself c.enabled.ensures.joined c.enabled.ensures.pending c.enabled.ensures.needs) c.runs.ensures.onward c.runs.ensures.ended c.runs.ensures.stopped)
     c.soundness.ensures.counts c.enabled.ensures.transfer c.soundness.ensures.opens c.limits-limits.ensures.world c.requires.scripts c.len-count.ensures.plain)
     c.loop-turns.invariant)
 
@@ -42,7 +42,7 @@ returns-clause-runs c =
     let over = c.in_ok-turn.ensures.over (cc) in
     subst (λ (t : Turns). HaveEnded c.args.shape.now c.args.scripts.now t.journal t.finished) (sym over.1)
     (over-ended c.args.shape.now c.args.scripts.now c.args.seed c.args.limit c.loop-turns.turns
-    (known _ _ (laws c.soundness.ensures.steps c.soundness.ensures.limits c.soundness.ensures.active c.enabled.ensures.call (joins-are-steps c.enabled.ensures.join) (joins-keep-room c.soundness.ensures.limits c.enabled.ensures.joined c.enabled.ensures.pending c.enabled.ensures.needs) c.runs.ensures.onward c.runs.ensures.ended c.runs.ensures.stopped)
+    (known _ _ (laws c.soundness.ensures.steps c.soundness.ensures.limits c.soundness.ensures.active c.enabled.ensures.call (join-laws c.soundness.ensures.limits c.enabled.ensures.join c.enabled.ensures.itself c.enabled.ensures.joined c.enabled.ensures.pending c.enabled.ensures.needs) c.runs.ensures.onward c.runs.ensures.ended c.runs.ensures.stopped)
     c.soundness.ensures.counts c.enabled.ensures.transfer c.soundness.ensures.opens c.limits-limits.ensures.world c.requires.scripts c.len-count.ensures.plain)
     c.loop-turns.invariant over.0)
 
@@ -51,7 +51,7 @@ returns-clause-settled c =
     let over = c.in_ok-turn.ensures.over (cc) in
     subst (λ (t : Turns). HasSettled c.args.shape.now t.journal) (sym over.1)
     (over-settled c.args.shape.now c.args.scripts.now c.args.seed c.args.limit c.loop-turns.turns
-    (known _ _ (laws c.soundness.ensures.steps c.soundness.ensures.limits c.soundness.ensures.active c.enabled.ensures.call (joins-are-steps c.enabled.ensures.join) (joins-keep-room c.soundness.ensures.limits c.enabled.ensures.joined c.enabled.ensures.pending c.enabled.ensures.needs) c.runs.ensures.onward c.runs.ensures.ended c.runs.ensures.stopped)
+    (known _ _ (laws c.soundness.ensures.steps c.soundness.ensures.limits c.soundness.ensures.active c.enabled.ensures.call (join-laws c.soundness.ensures.limits c.enabled.ensures.join c.enabled.ensures.itself c.enabled.ensures.joined c.enabled.ensures.pending c.enabled.ensures.needs) c.runs.ensures.onward c.runs.ensures.ended c.runs.ensures.stopped)
     c.soundness.ensures.counts c.enabled.ensures.transfer c.soundness.ensures.opens c.limits-limits.ensures.world c.requires.scripts c.len-count.ensures.plain)
     (end_laws c.settling.ensures.empties c.endings.ensures)
     c.loop-turns.invariant over.0)
@@ -61,7 +61,7 @@ journal_is_in_range-requires c =
     let over = c.in_ok-turn.ensures.over (cc) in
     subst (λ (t : Turns). HaveOwnValues t.journal) (sym over.1)
     (turned-own c.args.shape.now c.args.scripts.now c.args.seed c.args.limit c.loop-turns.turns
-    (known _ _ (laws c.soundness.ensures.steps c.soundness.ensures.limits c.soundness.ensures.active c.enabled.ensures.call (joins-are-steps c.enabled.ensures.join) (joins-keep-room c.soundness.ensures.limits c.enabled.ensures.joined c.enabled.ensures.pending c.enabled.ensures.needs) c.runs.ensures.onward c.runs.ensures.ended c.runs.ensures.stopped)
+    (known _ _ (laws c.soundness.ensures.steps c.soundness.ensures.limits c.soundness.ensures.active c.enabled.ensures.call (join-laws c.soundness.ensures.limits c.enabled.ensures.join c.enabled.ensures.itself c.enabled.ensures.joined c.enabled.ensures.pending c.enabled.ensures.needs) c.runs.ensures.onward c.runs.ensures.ended c.runs.ensures.stopped)
     c.soundness.ensures.counts c.enabled.ensures.transfer c.soundness.ensures.opens c.limits-limits.ensures.world c.requires.scripts c.len-count.ensures.plain)
     c.loop-turns.invariant)
 
@@ -70,6 +70,6 @@ returns-clause-values c =
     let over = c.in_ok-turn.ensures.over (cc) in
     subst (λ (t : Turns). HaveOwnValues t.journal) (sym over.1)
     (turned-own c.args.shape.now c.args.scripts.now c.args.seed c.args.limit c.loop-turns.turns
-    (known _ _ (laws c.soundness.ensures.steps c.soundness.ensures.limits c.soundness.ensures.active c.enabled.ensures.call (joins-are-steps c.enabled.ensures.join) (joins-keep-room c.soundness.ensures.limits c.enabled.ensures.joined c.enabled.ensures.pending c.enabled.ensures.needs) c.runs.ensures.onward c.runs.ensures.ended c.runs.ensures.stopped)
+    (known _ _ (laws c.soundness.ensures.steps c.soundness.ensures.limits c.soundness.ensures.active c.enabled.ensures.call (join-laws c.soundness.ensures.limits c.enabled.ensures.join c.enabled.ensures.itself c.enabled.ensures.joined c.enabled.ensures.pending c.enabled.ensures.needs) c.runs.ensures.onward c.runs.ensures.ended c.runs.ensures.stopped)
     c.soundness.ensures.counts c.enabled.ensures.transfer c.soundness.ensures.opens c.limits-limits.ensures.world c.requires.scripts c.len-count.ensures.plain)
     c.loop-turns.invariant)
