@@ -131,15 +131,16 @@ fn barrier() -> Call {
     Call::Barrier(Barrier { group: 0 })
 }
 
-/// Looks at the barrier, which may join, and joins.
-fn joins(rt: &impl Abort, alloc: Global, machine: &mut Machine) -> Result<(), Fail> {
-    assert!(rt; machine.is_declared(caller()));
-    let ready = machine.answer(alloc, caller(), &barrier())?;
-    if let Ready::Join(args) = ready {
-        let joined = machine.join(alloc, caller(), &barrier(), args);
-        assert!(rt; joined.is_ok());
-    }
-    Ok(())
+/// The join of the caller to it.
+fn joined(alloc: Global) -> Event {
+    Event::Joined(
+        caller(),
+        GroupId::of(0),
+        Args {
+            coll: Coll::Barrier,
+            values: Numbers::new(NumType::Int, Rows::new(alloc)),
+        },
+    )
 }
 
 #[test]
@@ -147,20 +148,10 @@ fn a_barrier_joins_and_completes(rt: HostRuntime) -> Result<(), Fail> {
     let alloc = rt.alloc();
     let mut machine = start(alloc)?;
     assert!(rt; !machine.is_pending(caller(), &barrier()));
-    joins(&rt, alloc, &mut machine)?;
+    steps(&rt, alloc, &mut machine, &joined(alloc));
     assert!(rt; machine.is_pending(caller(), &barrier()));
     let done = Event::Called(caller(), barrier(), Reply::Done);
     steps(&rt, alloc, &mut machine, &done);
     assert!(rt; !machine.is_pending(caller(), &barrier()));
-    let joined = Event::Joined(
-        caller(),
-        GroupId::of(0),
-        Args {
-            coll: Coll::Barrier,
-            values: Numbers::new(NumType::Int, Rows::new(alloc)),
-        },
-    );
-    steps(&rt, alloc, &mut machine, &joined);
-    assert!(rt; machine.is_pending(caller(), &barrier()));
     Ok(())
 }
