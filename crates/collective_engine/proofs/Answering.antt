@@ -6,7 +6,7 @@ use Rattle.std.proofs.lemmas.Option.{slice_get_within}
 use Rattle.std.proofs.lemmas.Bool.{eqb-true, ltb-true}
 use Rattle.gaspi_types.proofs.Chains.{both}
 use Rattle.gaspi_types.proofs.Items.{none-past}
-use Rattle.gaspi_types.specs.Collectives.{given_in, part_of, turn_of, first_given, is_full, fits, made_by, fold_of, is_turn_full, turn_checks, turn_made, turn_fold, fixed_by, with_joined, with_completed}
+use Rattle.gaspi_types.specs.Collectives.{AreValuesOf, given_in, part_of, turn_of, first_given, is_full, fits, made_by, fold_of, is_turn_full, turn_checks, turn_made, turn_fold, fixed_by, with_joined, with_completed}
 use Rattle.gaspi_types.specs.NumberTypes.{TypedNumbers}
 use Rattle.gaspi_types.specs.declared.collectives.Coll.{Coll}
 use Rattle.gaspi_types.specs.declared.collectives.Coll.TheVariants.{Allreduce}
@@ -16,9 +16,9 @@ use Rattle.gaspi_types.specs.declared.groups.Contribution.{Contribution}
 use Rattle.gaspi_types.specs.declared.groups.Group.{Group}
 use Rattle.gaspi_types.specs.declared.groups.Made.{Made}
 use Rattle.gaspi_types.specs.declared.replies.Refusal.{Refusal}
-use Rattle.collective_rules.specs.Turns.{coll_in}
+use Rattle.call_rules.specs.Turns.{coll_in}
 use Rattle.collective_engine.specs.Rounds.{turns_of, IsRounds}
-use Rattle.collective_engine.specs.Slots.{HasItsValues, AreValuesOf, GivesNumbers}
+use Rattle.collective_engine.specs.Slots.{HasItsValues, GivesNumbers}
 use Rattle.collective_engine.specs.Turns.{Turns, ranks_of, is_in, IsMember, joined_by, completed_by, buffer_of, given_by, with_given, with_left, is_full_for, may_join, StandsFor}
 use Rattle.collective_engine.specs.declared.buffers.Buffers.{Buffers}
 use Rattle.collective_engine.specs.declared.rounds.Rounds.TheInside.{Inside}
@@ -106,7 +106,7 @@ module _ (r : Inside) (now : Turns) (view : turns_of r ≡ now) (ok : IsRounds r
       rw all (all_members r.members (λ m. GivesNumbers t n (given_by r.buffers (completed_by r.buffers rank) m)) (λ m its. one m its (given_by r.buffers (completed_by r.buffers rank) m) refl (given_by r.buffers (completed_by r.buffers rank) rank) refl))
     where
       numbers : (coll : Coll) (values : TypedNumbers) → coll ≡ Allreduce op t n → AreValuesOf coll values → (values.num_type ≡ t) × (length values.items ≡ n)
-      numbers coll values at have = let h = rw at at have in (h.0, h.1)
+      numbers coll values at have = rw at at have
 
       near : (m : ℕ) → IsMember r.members m → joined_by r.buffers m ≤ completed_by r.buffers rank + 2
       near m its =
@@ -122,7 +122,7 @@ module _ (r : Inside) (now : Turns) (view : turns_of r ≡ now) (ok : IsRounds r
           let no : ⊥ = cc in no)
       one m its (Some d) at None there = absurd (let none = rw there at is in let no : ⊥ = cc in no)
       one m its (Some d) at (Some e) there =
-          let whole = ok.turns.agree.whole (completed_by r.buffers rank) m d its (near m its) at in
+          let whole = (ok.turns.agree.whole (completed_by r.buffers rank) m d its (near m its) at).0 in
           let alike = ok.turns.agree.alike (completed_by r.buffers rank) m rank d e its (below, member mine) (near m its) (near rank (below, member mine)) at there in
           let mine_is : Some e.args.coll ≡ Some (Allreduce op t n) = sym (ap coll_in there) ∙ sym is ∙ coll in
           let for_it : d.args.coll ≡ Allreduce op t n = alike ∙ (let inner : e.args.coll ≡ Allreduce op t n = cc in inner) in

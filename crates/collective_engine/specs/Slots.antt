@@ -1,5 +1,6 @@
 -- The contribution that a slot keeps. (GASPI: collectives)
 use Rattle.std.specs.Prelude.{◌≡◌, ℕ, ◌≤◌, length, take, Option, None, Some}
+use Rattle.gaspi_types.specs.Collectives.{AreWhole}
 use Rattle.gaspi_types.specs.NumberTypes.{AreInType, TypedNumbers}
 use Rattle.gaspi_types.specs.declared.collectives.Coll.{Coll}
 use Rattle.gaspi_types.specs.declared.collectives.Coll.TheVariants.{Barrier, Allreduce, Create, Commit}
@@ -20,15 +21,9 @@ pub record IsSlot (s : Inside) : Type 0 where
   pub count : s.count ≤ 255
   pub range : AreInType s.num_type (take s.count s.room)
 
--- The values of arguments: of an allreduce as many as it says, of its type, and of any other collective none.
-abbrev pub AreValuesOf : Coll → TypedNumbers → Type 0
-AreValuesOf Barrier values = length values.items ≡ 0
-AreValuesOf (Allreduce op t n) values = (values.num_type ≡ t) × (length values.items ≡ n) × (n ≤ 255)
-AreValuesOf (Create segment size) values = length values.items ≡ 0
-AreValuesOf (Commit mask) values = length values.items ≡ 0
-
+-- whole arguments, whose values a slot has room for
 abbrev pub HasItsValues : Args → Type 0
-HasItsValues args = AreValuesOf args.coll args.values
+HasItsValues args = AreWhole args × (length args.values.items ≤ 255)
 
 -- a contribution of so many numbers of a type is there
 abbrev pub GivesNumbers : NumType → ℕ → Option Contribution → Type 0

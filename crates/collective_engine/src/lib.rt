@@ -14,7 +14,7 @@ mod reading;
 mod rounds;
 mod slots;
 
-pub use collective_rules::{check_count, check_type};
+pub use call_rules::{check_count, check_type};
 pub use generations::Generations;
 pub use rounds::Rounds;
 

@@ -1,7 +1,7 @@
 //! Replies compared.
 
 use gaspi_types::{Coll, NoMemory, NumType, Numbers, Refusal, Reply, Rows, are_in_type};
-use reply_comparison::same_reply;
+use call_rules::same_reply;
 use std::alloc::Global;
 use std::test::Fail;
 

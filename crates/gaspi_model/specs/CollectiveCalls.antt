@@ -3,10 +3,9 @@
 -- segments, timeouts)
 use Rattle.std.specs.Prelude.{ℕ, ◌&&◌, Bool, true, false, not, nat_lt, List, [], ◌∷◌, length, Option, None, Some, Result, Ok, Err, if◌then◌else◌, slice_set}
 use Rattle.gaspi_types.specs.Checks.{◌>>=◌, check, found}
-use Rattle.gaspi_types.specs.Collectives.{count_checks, type_checks, same_args, resume, is_turn_full, turn_checks, turn_fold, turn_made}
+use Rattle.gaspi_types.specs.Collectives.{no_values, count_checks, type_checks, same_args, resume, is_turn_full, turn_checks, turn_fold, turn_made}
 use Rattle.gaspi_types.specs.Groups.{is_building, handle_at, building_at, with_committed, fix_checks}
 use Rattle.gaspi_types.specs.Masks.{is_member}
-use Rattle.gaspi_types.specs.NumberTypes.{TypedNumbers}
 use Rattle.gaspi_types.specs.Replies.{same_reply}
 use Rattle.gaspi_types.specs.SegmentTables.{alloc_checks, next_generation}
 use Rattle.gaspi_types.specs.Tables.{entry_at}
@@ -14,7 +13,6 @@ use Rattle.gaspi_types.specs.declared.calls.Call.{Call}
 use Rattle.gaspi_types.specs.declared.calls.Call.TheVariants as calls
 use Rattle.gaspi_types.specs.declared.collectives.Coll.{Coll}
 use Rattle.gaspi_types.specs.declared.collectives.Coll.TheVariants.{Barrier, Allreduce, Create, Commit}
-use Rattle.gaspi_types.specs.declared.collectives.NumType.TheVariants.{Int}
 use Rattle.gaspi_types.specs.declared.groups.Args.{Args}
 use Rattle.gaspi_types.specs.declared.groups.Contribution.{Contribution}
 use Rattle.gaspi_types.specs.declared.groups.Group.{Group}
@@ -63,9 +61,6 @@ building_with groups me id = do
 abbrev pub staged_at : Handles → ℕ → ℕ → Call → Result Handle Refusal
 staged_at groups me id (calls.Commit call) = building_with groups me id
 staged_at groups me id call = committed_at groups id
-
-abbrev pub no_values : TypedNumbers
-no_values = record { num_type = Int; items = [] }
 
 abbrev pub plain_args : Coll → Args
 plain_args coll = record { coll = coll; values = no_values }

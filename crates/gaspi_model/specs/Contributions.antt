@@ -1,6 +1,6 @@
 -- What ranks have given to groups, and what is pending of it, in the states of legal histories. (GASPI: collectives, groups, segments)
 use Rattle.std.specs.Prelude.{◌≡◌, ℕ, ◌+◌, ◌<◌, ◌≤◌, true, length, slice_get, Option, None, Some}
-use Rattle.gaspi_types.specs.Collectives.{part_of, given_in}
+use Rattle.gaspi_types.specs.Collectives.{AreWhole, part_of, given_in}
 use Rattle.gaspi_types.specs.Groups.{handle_at}
 use Rattle.gaspi_types.specs.Masks.{is_member}
 use Rattle.gaspi_types.specs.SegmentTables.{extent_in}
@@ -23,16 +23,6 @@ use Rattle.gaspi_model.specs.declared.states.State.{State}
 abbrev pub waits : Option Pending → ℕ
 waits None = 0
 waits (Some p) = 1
-
--- an allreduce has as many values as it says, of its type
-abbrev pub AreWholeFor : Coll → Args → Type 0
-AreWholeFor (Allreduce op num_type count) args = (args.values.num_type ≡ num_type) × (length args.values.items ≡ count)
-AreWholeFor Barrier args = Unit {0}
-AreWholeFor (Create seg size) args = Unit {0}
-AreWholeFor (Commit mask) args = Unit {0}
-
-abbrev pub AreWhole : Args → Type 0
-AreWhole args = AreWholeFor args.coll args
 
 -- a rank is one of members that are fixed
 pub record IsOneOf (members : Option ℕ) (rank : ℕ) : Type 0 where

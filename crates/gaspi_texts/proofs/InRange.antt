@@ -5,6 +5,7 @@ use Rattle.std.specs.Option.{option_map}
 use Rattle.std.specs.Str.{bytes_eq}
 use Rattle.std.proofs.lemmas.Bool.Decides.{nat_tests, Decides-eqb}
 use Rattle.hex.specs.Hex.{IsBytes}
+use Rattle.gaspi_types.specs.Collectives.{AreValuesOf}
 use Rattle.gaspi_types.specs.Replies.{refusal_fields, coll_fields, stage_number, op_number, type_number}
 use Rattle.gaspi_types.specs.declared.calls.Call.{Call}
 use Rattle.gaspi_types.specs.declared.collectives.NumType.{NumType}
@@ -34,7 +35,7 @@ use Rattle.gaspi_texts.specs.EventReading.{number_below, outcome_of, caller_of, 
 use Rattle.gaspi_texts.specs.EventText.{arrow, IsInEventRange}
 use Rattle.call_texts.specs.Hex.{bytes_of}
 use Rattle.call_texts.specs.Numbers.{number_of, value_of}
-use Rattle.gaspi_texts.specs.CollectiveText.{stage_of, one_field, allreduce_of, create_of, barrier_of, coll_of, AreValuesOf, AreArgsInRange, values_of, args_with, args_of}
+use Rattle.gaspi_texts.specs.CollectiveText.{stage_of, one_field, allreduce_of, create_of, barrier_of, coll_of, AreArgsInRange, values_of, args_with, args_of}
 use Rattle.gaspi_texts.specs.RefusalText.{RefusalForm, Bare, OneNumber, TwoNumbers, OneStage, OneCollective, Held, numbers_of_held, held_of, RefusalRow, refusal_rows, row_in, refusal_of}
 use Rattle.gaspi_types.specs.NumberTypes.{AreInType}
 use Rattle.gaspi_texts.specs.ReplyText.{plain_reply, value_reply, bytes_reply, list_reply, refused_reply, reply_word_of, reply_with, reply_of, IsInRange}

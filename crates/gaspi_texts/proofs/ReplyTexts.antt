@@ -4,6 +4,7 @@ use Rattle.std.specs.Fmt.{signed_decimal}
 use Rattle.std.specs.List.{AllByRecursion}
 use Rattle.std.proofs.lemmas.Bool.Decides.{Decides-eqb}
 use Rattle.std.proofs.lemmas.List.{length-map}
+use Rattle.gaspi_types.specs.Collectives.{AreValuesOf}
 use Rattle.gaspi_types.specs.Replies.{refusal_number, refusal_fields, coll_fields}
 use Rattle.gaspi_types.specs.declared.collectives.NumType.{NumType}
 use Rattle.gaspi_types.specs.declared.collectives.NumType.TheVariants.{Int, Uint, Long, Ulong, Float, Double}
@@ -19,7 +20,7 @@ use Rattle.gaspi_types.specs.declared.replies.Reply.{Reply}
 use Rattle.gaspi_types.specs.declared.replies.Reply.TheVariants as replies
 use Rattle.gaspi_types.specs.declared.groups.Args.{Args}
 use Rattle.call_texts.specs.Elements.{type_word, op_word}
-use Rattle.gaspi_texts.specs.CollectiveText.{stage_word, stage_of, coll_words, coll_of, AreValuesOf, AreArgsInRange, args_words, args_of}
+use Rattle.gaspi_texts.specs.CollectiveText.{stage_word, stage_of, coll_words, coll_of, AreArgsInRange, args_words, args_of}
 use Rattle.gaspi_texts.specs.RefusalText.{RefusalForm, Bare, OneNumber, TwoNumbers, OneStage, OneCollective, Held, numbers_of_held, words_of_held, held_of, RefusalRow, refusal_rows, row_in, refusal_of, Holding, Holds, holding_of, field_words}
 use Rattle.gaspi_types.specs.NumberTypes.{AreInType, TypedNumbers}
 use Rattle.gaspi_texts.specs.ReplyText.{reply_word_of, words_of_reply, reply_text, reply_of, IsInRange}

@@ -1,5 +1,5 @@
 -- The texts of stages and collectives. (own choice)
-use Rattle.std.specs.Prelude.{◌≡◌, ◌^◌, ◌<◌, ℕ, ◌==◌, List, [], ◌∷◌, ◌++◌, length, map, Option, Some, None, find, if◌then◌else◌, codes}
+use Rattle.std.specs.Prelude.{◌^◌, ◌<◌, ℕ, ◌==◌, List, [], ◌∷◌, ◌++◌, length, map, Option, Some, None, find, if◌then◌else◌, codes}
 use Rattle.std.specs.Fmt.{decimal, signed_decimal}
 use Rattle.std.specs.List.{AllByRecursion}
 use Rattle.std.specs.Option.{option_map}
@@ -7,9 +7,9 @@ use Rattle.std.specs.Str.{bytes_eq}
 use Rattle.call_texts.specs.Elements.{type_word, op_word, type_of, op_of, elements_of}
 use Rattle.call_texts.specs.Steps.{◌>>=◌}
 use Rattle.call_texts.specs.Numbers.{value_of}
+use Rattle.gaspi_types.specs.Collectives.{AreWhole, no_values}
 use Rattle.gaspi_types.specs.NumberTypes.{AreInType, TypedNumbers}
 use Rattle.gaspi_types.specs.Replies.{coll_fields}
-use Rattle.gaspi_types.specs.declared.collectives.NumType.TheVariants.{Int}
 use Rattle.gaspi_types.specs.declared.collectives.Stage.{Stage}
 use Rattle.gaspi_types.specs.declared.collectives.Stage.TheVariants.{Building, Committed}
 use Rattle.gaspi_types.specs.declared.collectives.Coll.{Coll}
@@ -71,20 +71,11 @@ coll_of (word ∷ arguments) =
 
 -- Collectives with their values, as ranks join them.
 
--- no values
-abbrev pub no_numbers : TypedNumbers
-no_numbers = record { num_type = Int; items = [] }
-
--- the values of a collective: those of an allreduce are of its type, and as many as it says; any other has none
-abbrev pub AreValuesOf : Coll → TypedNumbers → Type 0
-AreValuesOf (Allreduce op num_type count) values = (values.num_type ≡ num_type) × (length values.items ≡ count)
-AreValuesOf coll values = values ≡ no_numbers
-
 -- the numbers are those of their types
 pub record AreArgsInRange (args : Args) : Type 0 where
   pub numbers : AllByRecursion (λ n. n < 2 ^ 32) (coll_fields args.coll)
   pub elements : AreInType args.values.num_type args.values.items
-  pub own : AreValuesOf args.coll args.values
+  pub own : AreWhole args
 
 -- the values stand behind the kind and the other arguments
 abbrev pub args_words : Args → List (List ℕ)
@@ -95,7 +86,7 @@ abbrev pub values_of : Coll → List (List ℕ) → Option TypedNumbers
 values_of (Allreduce op num_type count) words = do
   items ← if length words == count then elements_of num_type words else None
   Some (record { num_type = num_type; items = items })
-values_of coll words = Some no_numbers
+values_of coll words = Some no_values
 
 abbrev pub args_with : Option Coll → List (List ℕ) → Option Args
 args_with found words = do

@@ -8,7 +8,7 @@ use Rattle.gaspi_types.specs.declared.events.Outcome.TheVariants.{Applied, Faile
 use Rattle.gaspi_types.specs.declared.events.Event.{Event}
 use Rattle.gaspi_types.specs.declared.events.Event.TheVariants.{Called, Joined, Take, Put}
 use Rattle.call_texts.specs.CallText.{words_of_call, IsWritable}
-use Rattle.gaspi_texts.specs.CollectiveText.{AreValuesOf, AreArgsInRange, args_words}
+use Rattle.gaspi_texts.specs.CollectiveText.{AreArgsInRange, args_words}
 use Rattle.gaspi_texts.specs.ReplyText.{words_of_reply, IsInRange}
 
 -- a caller as its rank and thread
@@ -37,7 +37,7 @@ event_text e = join_with_byte 32 (words_of_event e)
 
 -- what a caller joins has the values that it says
 abbrev pub HasOwnValues : Event → Type 0
-HasOwnValues (Joined c group args) = AreValuesOf args.coll args.values
+HasOwnValues (Joined c group args) = AreWhole args
 HasOwnValues e = Unit {0}
 
 -- the numbers of an event are those of its types, whatever the world's limits are

@@ -1,8 +1,8 @@
 //! Whether what callers join has the values that it says. (GASPI: allreduce)
 
 ghost use Rattle.std.specs.Prelude.{◌≡◌, ◌↔◌, ◌==◌, IsTrue, length};
+ghost use Rattle.gaspi_types.specs.Collectives.{AreValuesOf};
 ghost use Rattle.gaspi_types.specs.declared.collectives.NumType.{NumType};
-ghost use Rattle.gaspi_texts.specs.CollectiveText.{AreValuesOf};
 ghost use Rattle.gaspi_texts.specs.EventText.{HasOwnValues};
 
 use gaspi_types::{Coll, Event, NumType, Numbers};

@@ -1,6 +1,6 @@
 -- Collectives: what ranks give to the turns of a group, when a turn is full, and what it comes to. Most words speak of one turn by
 -- what each rank has given to it, so that they serve lists of turns that only grow and buffers alike. (GASPI: collectives)
-use Rattle.std.specs.Prelude.{ℕ, ◌+◌, ◌^◌, ℤ, pos, ◌+ℤ◌, Bool, true, false, not, ◌==◌, ◌&&◌, nat_eq, List, [], ◌∷◌, ◌++◌, map, filter, Option, None, Some, is_some, Result, Ok, slice_get}
+use Rattle.std.specs.Prelude.{◌≡◌, ℕ, ◌+◌, ◌^◌, ℤ, pos, ◌+ℤ◌, Bool, true, false, not, ◌==◌, ◌&&◌, nat_eq, List, [], ◌∷◌, ◌++◌, length, map, filter, Option, None, Some, is_some, Result, Ok, slice_get}
 use Rattle.std.specs.Cmp.Lexicographic.{pointwise}
 use Rattle.std.specs.Int.{int_min, int_max, int_wrap, int_rem_euclid, w32, w64}
 use Rattle.std.specs.List.{list_all, range_with_len}
@@ -67,6 +67,21 @@ count_checks count = check (is_element_count count) BadCount
 
 abbrev pub type_checks : NumType → Result (Unit {0}) Refusal
 type_checks t = check (not (is_float t)) FloatType
+
+-- no values
+abbrev pub no_values : TypedNumbers
+no_values = record { num_type = Int; items = [] }
+
+-- the values of a collective: those of an allreduce are of its type, and as many as it says; any other has none
+abbrev pub AreValuesOf : Coll → TypedNumbers → Type 0
+AreValuesOf (Allreduce op num_type count) values = (values.num_type ≡ num_type) × (length values.items ≡ count)
+AreValuesOf Barrier values = values ≡ no_values
+AreValuesOf (Create segment size) values = values ≡ no_values
+AreValuesOf (Commit mask) values = values ≡ no_values
+
+-- whole arguments have them
+abbrev pub AreWhole : Args → Type 0
+AreWhole args = AreValuesOf args.coll args.values
 
 -- Arguments compared, and a pending collective resumed. (GASPI: timeouts)
 

@@ -4,7 +4,7 @@ use Rattle.std.specs.List.{range_with_len}
 use Rattle.std.specs.Option.{unwrap_or}
 use Rattle.std.proofs.lemmas.Nat.Bits.{bit_at-zero}
 use Rattle.gaspi_types.specs.Checks.{check}
-use Rattle.gaspi_types.specs.Collectives.{members_of, members_in, part_of, turn_of, is_full, values_in, resume, asks_same, same_coll, same_args}
+use Rattle.gaspi_types.specs.Collectives.{AreValuesOf, members_of, members_in, part_of, turn_of, is_full, values_in, resume, asks_same, same_coll, same_args}
 use Rattle.gaspi_types.specs.Masks.{is_member}
 use Rattle.gaspi_types.specs.NumberTypes.{TypedNumbers}
 use Rattle.gaspi_types.specs.Replies.{same_numbers}
@@ -24,7 +24,7 @@ use Rattle.gaspi_types.specs.declared.replies.Reply.{Reply}
 use Rattle.gaspi_types.specs.declared.replies.Reply.TheVariants as replies
 use Rattle.gaspi_types.proofs.Chains.{bind_then, check_holds, both}
 use Rattle.gaspi_model.specs.CollectiveCalls.{args_of}
-use Rattle.gaspi_model.specs.Contributions.{AreWholeFor, IsSoundGroup, IsSoundPart}
+use Rattle.gaspi_model.specs.Contributions.{IsSoundGroup, IsSoundPart}
 use Rattle.gaspi_model.proofs.Same.{same_refusal-same, same_reply-same}
 use Rattle.plain_calls.specs.Turns.{AreAlike, IsReducible}
 
@@ -103,6 +103,6 @@ reducible_by g me thread events members (Some p) (calls.Allreduce call) group pa
           let whole = group.whole (turn_of g me) rank c given in
           let coll : c.args.coll ≡ Allreduce call.op call.values.num_type (length call.values.items) =
           sym agree ∙ ap (λ (a : Args). a.coll) last.2 ∙ sym (ap (λ (a : Args). a.coll) mine) in
-          subst (λ (k : Coll). AreWholeFor k c.args) coll whole,
+          subst (λ (k : Coll). AreValuesOf k c.args.values) coll whole,
     )
 reducible_by g me thread events members pending call group part is = tt

@@ -2,25 +2,24 @@
 
 ghost use Rattle.std.specs.Prelude.{◌≡◌, ℕ, length, true, false, Ok, OnOk, IfOk, IsOk};
 ghost use Rattle.std.specs.Option.{option_copied, option_map};
-ghost use Rattle.gaspi_types.specs.Collectives.{part_of, is_turn_full};
+ghost use Rattle.gaspi_types.specs.Collectives.{no_values, part_of, is_turn_full};
 ghost use Rattle.gaspi_types.specs.Groups.{fix_checks};
 ghost use Rattle.gaspi_types.specs.Tables.{entry_at};
 ghost use Rattle.gaspi_types.specs.declared.calls.Call.TheVariants as calls;
-ghost use Rattle.gaspi_model.specs.CollectiveCalls.{element_checks, committed_at, building_with, staged_at, no_values, plain_args, args_of, segment_checks, meeting_checks, fresh_finds, full_reply, resumed_finds, collective_ready, collective_answer, is_join_of, joining_call};
+ghost use Rattle.gaspi_model.specs.CollectiveCalls.{element_checks, committed_at, building_with, staged_at, plain_args, args_of, segment_checks, meeting_checks, fresh_finds, full_reply, resumed_finds, collective_ready, collective_answer, is_join_of, joining_call};
 ghost use Rattle.gaspi_model.specs.Contributions.{IsSoundGroup, IsSoundPart};
 ghost use Rattle.plain_calls.specs.Memory.{is_allreduce};
 ghost use Rattle.plain_calls.specs.Turns.{called_on, IsReducible};
 
 use crate::contributions::{check_turn, is_turn_full, turn_fold};
 use crate::threads::{is_running, thread_at};
-use collective_rules::{check_count, check_type, resume};
+use call_rules::{check_count, check_type, resume, same_args};
 use gaspi_model::Posts;
 use gaspi_types::{
     Allreduce, Args, Barrier, Call, Coll, Commit, Create, Group, Handle, Handles, NoMemory,
     NumType, Numbers, Pending, RankId, Ready, Refusal, Reply, Resume, Rows, Stage, ThreadId,
     is_member,
 };
-use reply_comparison::same_args;
 use segment_tables::check_alloc;
 use std::alloc::Global;
 

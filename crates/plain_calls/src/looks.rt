@@ -9,7 +9,7 @@ ghost use Rattle.plain_calls.specs.Looks.{is_join};
 
 use crate::replies::is_idle_ready;
 use gaspi_types::{Message, Ready, Reply};
-use reply_comparison::same_reply;
+use call_rules::same_reply;
 use segment_tables::Kinds;
 
 /// What a look at a call found: what it answers, and, where it is done, the kinds of the entries that it appends, or the

@@ -6,7 +6,7 @@ ghost use Rattle.rank_script.specs.Runs.{Over, going_on, advanced, stopped, pres
 
 use crate::scripts::{Halted, RunOutcome, Script, ScriptLine};
 use gaspi_types::{Call, Reply, Timeout};
-use reply_comparison::same_reply;
+use call_rules::same_reply;
 use std::marker::Model;
 
 /// How far a run of a script has come: the lines whose calls are still to be made, or how the run ended.

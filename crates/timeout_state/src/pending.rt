@@ -47,7 +47,7 @@ impl Pending {
         ensures { result ≡ resume (entry_at self.now group) thread (Some args.now) }
     {
         let pending = self.table.at(group.index()).as_ref();
-        collective_rules::resume(pending, thread, Some(args))
+        call_rules::resume(pending, thread, Some(args))
     }
 
     /// Makes a collective of a thread pending on a group, on which none is. It takes no memory. (GASPI: collectives)

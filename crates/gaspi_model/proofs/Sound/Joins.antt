@@ -1,8 +1,8 @@
 -- A join keeps a state sound.
-use Rattle.std.proofs.Common.{◌≡◌, ℕ, ◌+◌, ◌<◌, ◌≤◌, Bool, true, false, ◌==◌, nat_lt, List, [], ◌∷◌, ◌++◌, length, Option, None, Some, Ok, refl, sym, ap, ◌∙◌, subst, arith, ◌⊎◌, inl, inr}
+use Rattle.std.proofs.Common.{◌≡◌, ℕ, ◌+◌, ◌<◌, ◌≤◌, Bool, true, false, ◌==◌, ◌&&◌, if◌then◌else◌, nat_lt, List, [], ◌∷◌, ◌++◌, length, Option, None, Some, Ok, refl, sym, ap, ◌∙◌, subst, arith, ◌⊎◌, inl, inr}
 use Rattle.std.specs.List.{slice_get, slice_set}
 use Rattle.std.proofs.lemmas.Bool.{ltb-true, eqb-true}
-use Rattle.gaspi_types.specs.Collectives.{part_of, given_in, turn_of, turn_checks, fixed_by, with_joined}
+use Rattle.gaspi_types.specs.Collectives.{no_values, AreValuesOf, AreWhole, part_of, given_in, turn_of, turn_checks, fixed_by, with_joined}
 use Rattle.gaspi_types.specs.Groups.{handle_at, handle_of_all, fix_checks}
 use Rattle.gaspi_types.specs.SegmentTables.{extent_in, alloc_checks, next_generation}
 use Rattle.gaspi_types.specs.NumberTypes.{TypedNumbers}
@@ -22,7 +22,7 @@ use Rattle.gaspi_types.specs.declared.replies.Refusal.TheVariants.{GroupMismatch
 use Rattle.gaspi_types.specs.declared.segments.Extent.{Extent}
 use Rattle.gaspi_model.specs.Coherence.{tables_of}
 use Rattle.gaspi_model.specs.CollectiveCalls.{staged_at, plain_args, args_of, segment_checks, meeting_checks, joining_call, made_posts, contribution_of, made_generation, joined_posts}
-use Rattle.gaspi_model.specs.Contributions.{AreWhole, IsOneOf, IsSoundPart, HasBegun, IsSoundGroup, WasMadeSo}
+use Rattle.gaspi_model.specs.Contributions.{IsOneOf, IsSoundPart, HasBegun, IsSoundGroup, WasMadeSo}
 use Rattle.gaspi_model.specs.Posting.{counted}
 use Rattle.gaspi_model.specs.SegmentCalls.{with_own}
 use Rattle.gaspi_model.specs.Sound.{IsSound}
@@ -93,14 +93,21 @@ commit-mask members id mask values args is = (let same : plain_args (colls.Commi
 pub join-whole : (members id : ℕ) (args : Args) → args_of members (joining_call id args) ≡ Some args → AreWhole args
 join-whole members id args is = go args.coll args.values is
   where
-    go : (coll : Coll) (values : TypedNumbers) → args_of members (joining_call id (record { coll = coll; values = values })) ≡ Some (record { coll = coll; values = values }) → AreWhole (record { coll = coll; values = values })
-    go colls.Barrier values is = tt
-    go (colls.Create seg size) values is = tt
-    go (colls.Commit mask) values is = tt
-    go (colls.Allreduce op t n) values is =
-        let same : ◌≡◌ {A = Args} (record { coll = colls.Allreduce op values.num_type (length values.items); values = values }) (record { coll = colls.Allreduce op t n; values = values }) = cc in
-        let coll : colls.Allreduce op values.num_type (length values.items) ≡ colls.Allreduce op t n = ap (λ (a : Args). a.coll) same in
-        ((let types : values.num_type ≡ t = cc in types), (let counts : length values.items ≡ n = cc in counts))
+    values-of : (coll other : Coll) (values : TypedNumbers) → plain_args other ≡ record { coll = coll; values = values } → values ≡ no_values
+    values-of coll other values same = sym (ap (λ (a : Args). a.values) same)
+
+    go : (coll : Coll) (values : TypedNumbers) → args_of members (joining_call id (record { coll = coll; values = values })) ≡ Some (record { coll = coll; values = values }) → AreValuesOf coll values
+    go colls.Barrier values is = values-of colls.Barrier colls.Barrier values (cc)
+    go (colls.Allreduce op num_type count) values is =
+        let same : ◌≡◌ {A = Args} (record { coll = colls.Allreduce op values.num_type (length values.items); values = values }) (record { coll = colls.Allreduce op num_type count; values = values }) = cc in
+        let coll : ◌≡◌ {A = Coll} (colls.Allreduce op values.num_type (length values.items)) (colls.Allreduce op num_type count) = ap (λ (a : Args). a.coll) same in
+        ((let first : values.num_type ≡ num_type = cc in first), (let second : length values.items ≡ count = cc in second))
+    go (colls.Create seg size) values is = by-size (nat_lt seg 4294967296 && nat_lt size 4294967296) is
+      where
+        by-size : (b : Bool) → (if b then Some (plain_args (colls.Create seg size)) else None) ≡ Some (record { coll = colls.Create seg size; values = values }) → values ≡ no_values
+        by-size false found = absurd (let no : ⊥ = cc in no)
+        by-size true found = values-of (colls.Create seg size) (colls.Create seg size) values (cc)
+    go (colls.Commit mask) values is = values-of (colls.Commit mask) (colls.Commit members) values (cc)
 
 -- Which group a collective may join.
 pub record JoinsBuilt (posts : Posts) (g : Group) (me id : ℕ) (h : Handle) : Type 0 where

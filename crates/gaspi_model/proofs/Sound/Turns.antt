@@ -3,7 +3,7 @@ use Rattle.std.proofs.Common.{◌≡◌, ℕ, zero, suc, ◌+◌, ◌<◌, ◌�
 use Rattle.std.specs.List.{slice_get, list_all, range_with_len}
 use Rattle.std.proofs.lemmas.Bool.{ltb-true, lt-ltb}
 use Rattle.std.proofs.lemmas.Option.{slice_get_within}
-use Rattle.gaspi_types.specs.Collectives.{same_coll, first_given, fits, members_in, given_in, turn_of, turn_checks, fixed_by, with_joined, with_completed}
+use Rattle.gaspi_types.specs.Collectives.{AreWhole, same_coll, first_given, fits, members_in, given_in, turn_of, turn_checks, fixed_by, with_joined, with_completed}
 use Rattle.gaspi_types.specs.Masks.{is_member}
 use Rattle.gaspi_types.specs.declared.collectives.Coll.{Coll}
 use Rattle.gaspi_types.specs.declared.collectives.Coll.TheVariants.{Commit}
@@ -12,7 +12,7 @@ use Rattle.gaspi_types.specs.declared.groups.Group.{Group}
 use Rattle.gaspi_types.specs.declared.groups.Part.{Part}
 use Rattle.gaspi_types.specs.declared.groups.Pending.{Pending}
 use Rattle.gaspi_types.specs.declared.replies.Refusal.TheVariants.{CollectiveMismatch}
-use Rattle.gaspi_model.specs.Contributions.{AreWhole, IsOneOf, IsSoundPart, IsSoundGroup}
+use Rattle.gaspi_model.specs.Contributions.{IsOneOf, IsSoundPart, IsSoundGroup}
 use Rattle.gaspi_types.proofs.Chains.{both, check_holds}
 use Rattle.gaspi_types.proofs.Items.{same-or-not, length-changed_at, front-of-joined, behind-of-joined}
 use Rattle.gaspi_model.proofs.Same.{same_coll-same}

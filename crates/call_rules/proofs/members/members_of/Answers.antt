@@ -2,9 +2,9 @@ use Rattle.std.proofs.Common.{◌≡◌, true, false, arith, refl}
 use Rattle.std.proofs.Math.Numerals.{add-one}
 use Rattle.std.proofs.lemmas.List.{take_more_set, length-set, append-nil}
 use Rattle.gaspi_types.specs.Masks.{is_member}
-use Rattle.collective_rules.proofs.Gathering.{gathered}
-use Rattle.collective_rules.proofs.members.members_of.Goals as goal
-use Rattle.collective_rules.proofs.members.members_of.Goals.{then-is_member, else-is_member}
+use Rattle.call_rules.proofs.Gathering.{gathered}
+use Rattle.call_rules.proofs.members.members_of.Goals as goal
+use Rattle.call_rules.proofs.members.members_of.Goals.{then-is_member, else-is_member}
 
 pub loop-number-preserved : goal.loop-number-preserved
 loop-number-preserved c =

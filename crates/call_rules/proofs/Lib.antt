@@ -1,3 +1,4 @@
+pub mod Equal
 pub mod Folding
 pub mod Gathering
 pub mod Sums

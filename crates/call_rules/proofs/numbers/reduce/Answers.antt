@@ -1,6 +1,6 @@
-use Rattle.collective_rules.proofs.Folding.{reduces-on}
+use Rattle.call_rules.proofs.Folding.{reduces-on}
 use Rattle.std.proofs.Common.{arith}
-use Rattle.collective_rules.proofs.numbers.reduce.Goals as goal
+use Rattle.call_rules.proofs.numbers.reduce.Goals as goal
 
 pub loop-place-preserved : goal.loop-place-preserved
 loop-place-preserved c =

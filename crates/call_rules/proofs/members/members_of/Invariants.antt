@@ -1,7 +1,7 @@
 use Rattle.std.proofs.Common.{◌≡◌, ◌≤◌, take, filter, length}
 use Rattle.std.specs.List.{range_with_len}
 use Rattle.gaspi_types.specs.Masks.{is_member}
-use Rattle.collective_rules.proofs.members.members_of.Given as goal
+use Rattle.call_rules.proofs.members.members_of.Given as goal
 
 abbrev pub invariant-loop-number : goal.invariant-loop-number
 invariant-loop-number l = record {

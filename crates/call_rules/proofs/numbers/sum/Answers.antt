@@ -1,7 +1,7 @@
 use Rattle.std.proofs.Common.{rules, w32, FitsSigned}
 use Rattle.std.specs.Int.{w128}
-use Rattle.collective_rules.proofs.Sums.{fits_int, signed, unsigned_int, unsigned_long, long_sum}
-use Rattle.collective_rules.proofs.numbers.sum.Goals as goal
+use Rattle.call_rules.proofs.Sums.{fits_int, signed, unsigned_int, unsigned_long, long_sum}
+use Rattle.call_rules.proofs.numbers.sum.Goals as goal
 
 pub returns-in-Int-clause-value : goal.returns-in-Int-clause-value
 returns-in-Int-clause-value c =

@@ -1,7 +1,7 @@
 -- The fields of a refusal as a list.
 use Rattle.std.specs.Prelude.{ℕ, List, [], ◌∷◌}
-use Rattle.reply_comparison.specs.declared.comparisons.Fields.{Fields}
-use Rattle.reply_comparison.specs.declared.comparisons.Fields.TheVariants.{Nothing, One, Two, Three, Four}
+use Rattle.call_rules.specs.declared.comparisons.Fields.{Fields}
+use Rattle.call_rules.specs.declared.comparisons.Fields.TheVariants.{Nothing, One, Two, Three, Four}
 
 abbrev pub listed : Fields → List ℕ
 listed Nothing = []

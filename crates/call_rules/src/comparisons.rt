@@ -2,7 +2,7 @@
 
 ghost use Rattle.std.specs.Prelude.{◌≡◌, true, nat_eq};
 ghost use Rattle.std.specs.Cmp.Lexicographic.{pointwise};
-ghost use Rattle.reply_comparison.specs.Fields.{listed};
+ghost use Rattle.call_rules.specs.Fields.{listed};
 ghost use Rattle.gaspi_types.specs.Collectives.{same_coll, same_args};
 ghost use Rattle.gaspi_types.specs.Replies.{refusal_fields, coll_fields, stage_number, op_number, type_number, same_refusal, same_numbers, same_reply};
 

@@ -7,7 +7,7 @@ use Rattle.gaspi_types.specs.Collectives.{reduced, combined}
 use Rattle.gaspi_types.specs.NumberTypes.{is_in_type, AreInType}
 use Rattle.gaspi_types.specs.declared.collectives.NumType.{NumType}
 use Rattle.gaspi_types.specs.declared.collectives.Op.{Op}
-use Rattle.collective_rules.proofs.Sums.{fits_wide}
+use Rattle.call_rules.proofs.Sums.{fits_wide}
 
 -- what stands at a place of numbers in range is in range
 pub in_type-at : (t : NumType) (xs : List ℤ) (i : ℕ) → i < length xs → AreInType t xs → is_in_type t (get_or xs i (pos 0)) ≡ true

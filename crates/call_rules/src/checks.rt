@@ -4,10 +4,10 @@ ghost use Rattle.std.specs.Prelude.{◌≡◌, Option, Some, OnOk};
 ghost use Rattle.gaspi_types.specs.Collectives.{count_checks, type_checks, fits};
 ghost use Rattle.gaspi_types.specs.declared.collectives.Coll.{Coll};
 ghost use Rattle.gaspi_types.specs.declared.groups.Contribution.{Contribution};
-ghost use Rattle.collective_rules.specs.Turns.{coll_in};
+ghost use Rattle.call_rules.specs.Turns.{coll_in};
 
+use crate::comparisons::same_coll;
 use gaspi_types::{Coll, NumType, Refusal};
-use reply_comparison::same_coll;
 
 /// An allreduce has 1 to 255 elements: else `BadCount`. (GASPI: allreduce)
 pub fn check_count(count: u64) -> Result<(), Refusal>

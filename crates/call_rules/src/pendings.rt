@@ -4,8 +4,8 @@ ghost use Rattle.std.specs.Prelude.{◌≡◌};
 ghost use Rattle.std.specs.Option.{option_copied};
 ghost use Rattle.gaspi_types.specs.Collectives.{resume};
 
+use crate::comparisons::same_args;
 use gaspi_types::{Args, Pending, Refusal, Resume, ThreadId};
-use reply_comparison::same_args;
 
 /// What a collective of a thread meets where that one of the rank is pending on its group, or none: it is new, or it is the one that
 /// is pending. Else `ActiveCollective` where that is another thread's, or `ResumeOther` where it differs in kind, arguments or

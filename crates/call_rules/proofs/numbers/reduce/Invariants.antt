@@ -1,7 +1,7 @@
 use Rattle.std.proofs.Common.{◌≡◌, ◌++◌, take, drop}
 use Rattle.gaspi_types.specs.Collectives.{combined}
 use Rattle.gaspi_types.specs.NumberTypes.{AreInType}
-use Rattle.collective_rules.proofs.numbers.reduce.Given as goal
+use Rattle.call_rules.proofs.numbers.reduce.Given as goal
 
 abbrev pub invariant-loop-place : goal.invariant-loop-place
 invariant-loop-place l = record {
