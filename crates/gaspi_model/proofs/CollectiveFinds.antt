@@ -107,6 +107,7 @@ done-found posts group me thread id call reply answered awake = by-running (is_r
 -- a collective that may join: none of its rank is pending on its group, and what members have given fits
 pub record MayJoin (posts : Posts) (group : Group) (me thread id : ℕ) (call : Call) (args : Args) (h : Handle) : Type 0 where
   pub running : is_running (thread_at posts thread) ≡ true
+  pub elements : element_checks call ≡ Ok tt
   pub staged : staged_at posts.groups me id call ≡ Ok h
   pub none : entry_at posts.pending id ≡ None
   pub free : segment_checks posts call ≡ Ok tt
@@ -117,17 +118,17 @@ pub join-found : (posts : Posts) (group : Group) (me thread id : ℕ) (call : Ca
     → (h : Handle) × MayJoin posts group me thread id call args h
 join-found posts group me thread id call args joins = by-running (is_running (thread_at posts thread)) refl joins
   where
-    by-resume : (r : Resume) → is_running (thread_at posts thread) ≡ true → (h : Handle) → staged_at posts.groups me id call ≡ Ok h
+    by-resume : (r : Resume) → is_running (thread_at posts thread) ≡ true → element_checks call ≡ Ok tt → (h : Handle) → staged_at posts.groups me id call ≡ Ok h
         → resume (entry_at posts.pending id) thread (args_of h.members call) ≡ Ok r → (found : Ready) → met_finds r posts group me h.members call ≡ Ok found → is_join_of found args ≡ true
         → (h : Handle) × MayJoin posts group me thread id call args h
-    by-resume Same running h staged is found finds fits = absurd (by-full (is_turn_full group me) found (same_Ok _ _ finds) fits)
+    by-resume Same running elements h staged is found finds fits = absurd (by-full (is_turn_full group me) found (same_Ok _ _ finds) fits)
       where
         by-full : (b : Bool) (found : Ready) → (if b then ready.Reply (full_reply group me call) else ready.NotReady) ≡ found → is_join_of found args ≡ true → ⊥
         by-full true found same fits =
             (let never : is_join_of (ready.Reply (full_reply group me call)) args ≡ true = subst (λ (r : Ready). is_join_of r args ≡ true) (sym same) fits in let no : ⊥ = cc in no)
         by-full false found same fits =
             (let never : is_join_of ready.NotReady args ≡ true = subst (λ (r : Ready). is_join_of r args ≡ true) (sym same) fits in let no : ⊥ = cc in no)
-    by-resume Fresh running h staged is found finds fits =
+    by-resume Fresh running elements h staged is found finds fits =
         bind_then (segment_checks posts call) _ found finds (λ u free h1.
         found_then (args_of h.members call) BadSize _ found h1 (λ may hargs h2.
         bind_then (meeting_checks group me may.coll) _ found h2 (λ v meets h3.
@@ -137,6 +138,7 @@ join-found posts group me thread id call args joins = by-running (is_running (th
           h,
           record {
             running = running;
+            elements = elements;
             staged = staged;
             none = fresh (entry_at posts.pending id) thread (args_of h.members call) is;
             free = free;
@@ -149,9 +151,9 @@ join-found posts group me thread id call args joins = by-running (is_running (th
         → (h : Handle) × MayJoin posts group me thread id call args h
     by-result (Err refusal) finds running fits = absurd (let no : ⊥ = cc in no)
     by-result (Ok found) finds running fits =
-        bind_then (element_checks call) _ found finds (λ u elements h1.
+        bind_then (element_checks call) _ found finds (λ v elements h1.
         bind_then (staged_at posts.groups me id call) _ found h1 (λ h staged h2.
-        bind_then (resume (entry_at posts.pending id) thread (args_of h.members call)) _ found h2 (λ r is h3. by-resume r running h staged is found h3 fits)))
+        bind_then (resume (entry_at posts.pending id) thread (args_of h.members call)) _ found h2 (λ r is h3. by-resume r running elements h staged is found h3 fits)))
 
     by-running : (b : Bool) → is_running (thread_at posts thread) ≡ b → is_join_of (collective_answer posts group me thread id call) args ≡ true
         → (h : Handle) × MayJoin posts group me thread id call args h

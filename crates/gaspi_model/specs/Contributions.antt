@@ -1,5 +1,5 @@
 -- What ranks have given to groups, and what is pending of it, in the states of legal histories. (GASPI: collectives, groups, segments)
-use Rattle.std.specs.Prelude.{◌≡◌, ℕ, ◌+◌, ◌<◌, ◌≤◌, true, length, slice_get, Option, None, Some}
+use Rattle.std.specs.Prelude.{◌≡◌, ℕ, ◌+◌, ◌<◌, ◌≤◌, true, length, slice_get, Option, None, Some, Ok}
 use Rattle.gaspi_types.specs.Collectives.{AreWhole, part_of, given_in}
 use Rattle.gaspi_types.specs.Groups.{handle_at}
 use Rattle.gaspi_types.specs.Masks.{is_member}
@@ -12,10 +12,12 @@ use Rattle.gaspi_types.specs.declared.groups.Args.{Args}
 use Rattle.gaspi_types.specs.declared.groups.Contribution.{Contribution}
 use Rattle.gaspi_types.specs.declared.groups.Group.{Group}
 use Rattle.gaspi_types.specs.declared.groups.Handle.{Handle}
+use Rattle.gaspi_types.specs.declared.groups.Handles.{Handles}
 use Rattle.gaspi_types.specs.declared.groups.Part.{Part}
 use Rattle.gaspi_types.specs.declared.groups.Pending.{Pending}
 use Rattle.gaspi_types.specs.declared.segments.Extent.{Extent}
 use Rattle.gaspi_model.specs.Coherence.{Tables, WasMade, tables_of}
+use Rattle.gaspi_model.specs.CollectiveCalls.{element_checks, staged_at, args_of, joining_call}
 use Rattle.gaspi_model.specs.declared.states.Posts.{Posts}
 use Rattle.gaspi_model.specs.declared.states.State.{State}
 
@@ -44,6 +46,16 @@ pub record HasBegun (posts : Posts) (id completed : ℕ) : Type 0 where
   pub building : (h : Handle) → handle_at posts.groups id ≡ Some h → h.stage ≡ Building → completed ≡ 0
   pub committed : (h : Handle) → handle_at posts.groups id ≡ Some h → h.stage ≡ Committed → (id ≡ 0 → ⊥) → 1 ≤ completed
 
+-- What is pending of a rank on a group may be looked at again: the rank has the group, as the collective wants it, and with the
+-- members that a commit says; and an allreduce has elements that may be reduced.
+pub record IsResumable (groups : Handles) (me id : ℕ) (args : Args) : Type 0 where
+  pub handle : Handle
+  pub there : handle_at groups id ≡ Some handle
+  pub made : id ≤ groups.made
+  pub elements : element_checks (joining_call id args) ≡ Ok tt
+  pub staged : staged_at groups me id (joining_call id args) ≡ Ok handle
+  pub own : args_of handle.members (joining_call id args) ≡ Some args
+
 -- What is given to one turn agrees in all but values and generation; who gives is a member; and a commit has the list of ranks that
 -- is fixed.
 pub record IsSoundGroup (ranks : ℕ) (g : Group) : Type 0 where
@@ -58,8 +70,9 @@ abbrev pub WasMadeSo : Tables → ℕ → ℕ → ℕ → Type 0
 WasMadeSo tables segment generation size =
     WasMade tables segment generation × ((x : Extent) → extent_in tables.own segment ≡ Some x → x.generation ≡ generation → x.size ≡ size)
 
--- There are eight groups. The first turn of each but group 0 is its commit. Of a group that a rank has committed the same ranks are members in the whole world, and that rank is one.
--- And each segment that a rank has given to a turn was made.
+-- There are eight groups. What is pending may be looked at again. The first turn of each group but group 0 is its commit. Of a group
+-- that a rank has committed the same ranks are members in the whole world, and that rank is one. And each segment that a rank has
+-- given to a turn was made.
 pub record AreSoundCollectives (s : State) : Type 0 where
   pub eight : length s.groups ≡ 8
   pub groups : (id : ℕ) (g : Group) → slice_get s.groups id ≡ Some g → IsSoundGroup s.limits.ranks g
@@ -67,6 +80,8 @@ pub record AreSoundCollectives (s : State) : Type 0 where
       → IsSoundPart posts.events (entry_at posts.pending id) (part_of g rank)
   pub begun : (id : ℕ) (g : Group) (rank : ℕ) (posts : Posts) → slice_get s.groups id ≡ Some g → slice_get s.posts rank ≡ Some posts
       → HasBegun posts id (part_of g rank).completed
+  pub resumable : (id rank : ℕ) (posts : Posts) (p : Pending) → slice_get s.posts rank ≡ Some posts → entry_at posts.pending id ≡ Some p
+      → IsResumable posts.groups rank id p.args
   pub first : (id : ℕ) (g : Group) (rank : ℕ) (c : Contribution) → slice_get s.groups id ≡ Some g → (id ≡ 0 → ⊥) → given_in g 0 rank ≡ Some c
       → (mask : ℕ) × (c.args.coll ≡ Commit mask)
   pub committed : (id : ℕ) (g : Group) (rank : ℕ) (posts : Posts) (h : Handle) → slice_get s.groups id ≡ Some g → slice_get s.posts rank ≡ Some posts

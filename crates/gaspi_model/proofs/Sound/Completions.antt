@@ -216,6 +216,7 @@ completion-meets s t posts g part me thread id call reply h p sound hp there don
     building = λ k at stage. absurd (let now = now-committed k at in stage-apart k k refl stage now);
     committed = λ k at stage other. (omega arith);
   });
+  resumable = λ q pends. absurd (let none : ◌≡◌ {A = Option Pending} None (Some q) = sym (entry-set_same (told_posts g me id call posts).pending id None many) ∙ pends in let no : ⊥ = cc in no);
   group = completed-group s.limits.ranks g me part there.part_there (sound.collectives.groups id g there.there);
   first = λ rank c other given. sound.collectives.first id g rank c there.there other (sym (given-completed g me 0 rank part there.part_there) ∙ given);
   committed = λ k at stage. staged-cases {P = (g.members ≡ Some k.members) × (is_member k.members me ≡ true)} posts.groups me id call h done.staged

@@ -8,14 +8,19 @@ use Rattle.gaspi_types.specs.SegmentTables.{extent_in, next_generation}
 use Rattle.gaspi_types.specs.Tables.{entry_at, changed_at}
 use Rattle.gaspi_types.specs.declared.collectives.Coll.TheVariants.{Create, Commit}
 use Rattle.gaspi_types.specs.declared.collectives.Stage.TheVariants.{Building, Committed}
+use Rattle.gaspi_types.specs.declared.calls.Call.{Call}
+use Rattle.gaspi_types.specs.declared.calls.Call.TheVariants as calls
+use Rattle.gaspi_types.specs.declared.groups.Args.{Args}
 use Rattle.gaspi_types.specs.declared.groups.Contribution.{Contribution}
 use Rattle.gaspi_types.specs.declared.groups.Group.{Group}
 use Rattle.gaspi_types.specs.declared.groups.Handle.{Handle}
+use Rattle.gaspi_types.specs.declared.groups.Handles.{Handles}
 use Rattle.gaspi_types.specs.declared.groups.Part.{Part}
 use Rattle.gaspi_types.specs.declared.groups.Pending.{Pending}
 use Rattle.gaspi_types.specs.declared.segments.Extent.{Extent}
 use Rattle.gaspi_model.specs.Coherence.{Tables, WasMade, tables_of}
-use Rattle.gaspi_model.specs.Contributions.{IsSoundPart, HasBegun, IsSoundGroup, WasMadeSo, AreSoundCollectives}
+use Rattle.gaspi_model.specs.CollectiveCalls.{staged_at, joining_call}
+use Rattle.gaspi_model.specs.Contributions.{IsSoundPart, HasBegun, IsResumable, IsSoundGroup, WasMadeSo, AreSoundCollectives}
 use Rattle.gaspi_model.specs.declared.states.Posts.{Posts}
 use Rattle.gaspi_model.specs.declared.states.State.{State}
 use Rattle.gaspi_types.proofs.Items.{slice_get-set_same, slice_get-set_other, same-or-not, changed_at-found}
@@ -38,7 +43,24 @@ pub record StaysPosts (before after : Posts) : Type 0 where
   pub building : (id : ℕ) (h : Handle) → handle_at after.groups id ≡ Some h → h.stage ≡ Building
       → ((k : Handle) × (handle_at before.groups id ≡ Some k) × (k.stage ≡ Building)) ⊎ (before.groups.made < id)
   pub committed : (id : ℕ) (h : Handle) → handle_at after.groups id ≡ Some h → h.stage ≡ Committed → handle_at before.groups id ≡ Some h
+  pub held : (id : ℕ) (h : Handle) (p : Pending) → entry_at before.pending id ≡ Some p → id ≤ before.groups.made → handle_at before.groups id ≡ Some h → handle_at after.groups id ≡ Some h
   pub succeeds : Succeeds (tables_of before) (tables_of after)
+
+pub staged-same : (a b : Handles) (me id : ℕ) (call : Call) → handle_at a id ≡ handle_at b id → staged_at a me id call ≡ staged_at b me id call
+staged-same a b me id (calls.Commit x) same = rw same refl
+staged-same a b me id call same = rw same refl
+
+pub resumable-stays : (a b : Handles) (me id : ℕ) (args : Args) → a.made ≤ b.made → IsResumable a me id args → ((h : Handle) → handle_at a id ≡ Some h → handle_at b id ≡ Some h) → IsResumable b me id args
+resumable-stays a b me id args more may kept =
+    let now = kept may.handle may.there in
+    record {
+      handle = may.handle;
+      there = now;
+      made = (let made = may.made in omega arith);
+      elements = may.elements;
+      staged = staged-same b a me id (joining_call id args) (now ∙ sym may.there) ∙ may.staged;
+      own = may.own;
+    }
 
 more-events : (e f : ℕ) (p : Option Pending) (part : Part) → e ≤ f → IsSoundPart e p part → IsSoundPart f p part
 more-events e f p part less sound = record { count = sound.count; last = sound.last; few = (let few = sound.few in omega arith) }
@@ -64,6 +86,11 @@ collectives-stay s t sound limits same from = record {
       subst (λ (p : List (Option Pending)). IsSoundPart posts.events (entry_at p id) (part_of g rank)) (sym b.2.pending)
       (more-events b.0.events posts.events (entry_at b.0.pending id) (part_of g rank) b.2.events (sound.parts id g rank b.0 (there id g at) b.1));
   begun = λ id g rank posts at hp. let b = from rank posts hp in begun-stays b.0 posts id (part_of g rank).completed b.2 (sound.begun id g rank b.0 (there id g at) b.1);
+  resumable = λ id rank posts p hp pends.
+      let b = from rank posts hp in
+      let was : entry_at b.0.pending id ≡ Some p = ap (λ (ps : List (Option Pending)). entry_at ps id) (sym b.2.pending) ∙ pends in
+      let may = sound.resumable id rank b.0 p b.1 was in
+      resumable-stays b.0.groups posts.groups rank id p.args b.2.made may (λ h there. b.2.held id h p was may.made there);
   first = λ id g rank c at other given. sound.first id g rank c (there id g at) other given;
   committed = λ id g rank posts h at hp hh stage. let b = from rank posts hp in sound.committed id g rank b.0 h (there id g at) b.1 (b.2.committed id h hh stage) stage;
   made = λ id g rank posts at hp turn c seg size given coll.
@@ -90,6 +117,7 @@ pub record Meets (s t : State) (me id : ℕ) (posts after : Posts) (g g' : Group
   pub fixed : (mask : ℕ) → g.members ≡ Some mask → g'.members ≡ Some mask
   pub mine : IsSoundPart after.events (entry_at after.pending id) (part_of g' me)
   pub begun : HasBegun after id (part_of g' me).completed
+  pub resumable : (p : Pending) → entry_at after.pending id ≡ Some p → IsResumable after.groups me id p.args
   pub group : IsSoundGroup s.limits.ranks g'
   pub first : (rank : ℕ) (c : Contribution) → (id ≡ 0 → ⊥) → given_in g' 0 rank ≡ Some c → (mask : ℕ) × (c.args.coll ≡ Commit mask)
   pub committed : (h : Handle) → handle_at after.groups id ≡ Some h → h.stage ≡ Committed → (g'.members ≡ Some h.members) × (is_member h.members me ≡ true)
@@ -126,6 +154,19 @@ collectives-meet s t me id posts after g g' sound m = record {
       subst (λ (r : ℕ). HasBegun p k (part_of x r).completed) mine
       (rw is_p (begun-other k (part_of x me).completed apart (sound.begun k x me posts was m.there))))
       (λ was was_p. sound.begun k x rank p was was_p);
+  resumable = λ k rank p q hp pends.
+      of-posts rank p hp {P = IsResumable p.groups rank k q.args}
+      (λ mine is_p.
+      same-or-not id k
+      (λ same.
+      let here : entry_at after.pending id ≡ Some q = subst (λ (n : ℕ). entry_at after.pending n ≡ Some q) (sym same) (rw (sym is_p) pends) in
+      subst (λ (n : ℕ). IsResumable p.groups rank n q.args) same (subst (λ (r : ℕ). IsResumable p.groups r id q.args) mine (rw is_p (m.resumable q here))))
+      (λ apart.
+      let was : entry_at posts.pending k ≡ Some q = sym (m.others k apart) ∙ rw (sym is_p) pends in
+      let may = sound.resumable k me posts q m.there was in
+      subst (λ (r : ℕ). IsResumable p.groups r k q.args) mine
+      (rw is_p (resumable-stays posts.groups after.groups me k q.args (let same = m.made_groups in omega arith) may (λ h there. m.handles k apart ∙ there)))))
+      (λ apart was_p. sound.resumable k rank p q was_p pends);
   first = λ k x rank c at other given.
       of-group k x at {P = (mask : ℕ) × (c.args.coll ≡ Commit mask)}
       (λ same is. m.first rank c (λ zero_is. other (sym same ∙ zero_is)) (rw (sym is) given))

@@ -22,7 +22,7 @@ use Rattle.gaspi_types.specs.declared.replies.Refusal.TheVariants.{GroupMismatch
 use Rattle.gaspi_types.specs.declared.segments.Extent.{Extent}
 use Rattle.gaspi_model.specs.Coherence.{tables_of}
 use Rattle.gaspi_model.specs.CollectiveCalls.{staged_at, plain_args, args_of, segment_checks, meeting_checks, joining_call, made_posts, contribution_of, made_generation, joined_posts}
-use Rattle.gaspi_model.specs.Contributions.{IsOneOf, IsSoundPart, HasBegun, IsSoundGroup, WasMadeSo}
+use Rattle.gaspi_model.specs.Contributions.{IsOneOf, IsSoundPart, HasBegun, IsResumable, IsSoundGroup, WasMadeSo}
 use Rattle.gaspi_model.specs.Posting.{counted}
 use Rattle.gaspi_model.specs.SegmentCalls.{with_own}
 use Rattle.gaspi_model.specs.Sound.{IsSound}
@@ -32,10 +32,10 @@ use Rattle.gaspi_types.proofs.Chains.{check_then, check_holds, absent_then}
 use Rattle.gaspi_types.proofs.Extents.{extent-set, generation-set}
 use Rattle.gaspi_model.proofs.CollectiveFinds.{MayJoin}
 use Rattle.gaspi_model.proofs.MetPosts.{KeepsRank}
-use Rattle.gaspi_model.proofs.Sound.Completions.{IsBuilt, built-there, committed-there, stage-apart, IsThere}
+use Rattle.gaspi_model.proofs.Sound.Completions.{IsBuilt, built-there, committed-there, staged-there, stage-apart, IsThere}
 use Rattle.gaspi_model.proofs.Sound.Contributions.{Meets, made-so-stays, part-changed, part-there, part-other}
 use Rattle.gaspi_model.proofs.Sound.GroupPosts.{joined-groups}
-use Rattle.gaspi_model.proofs.Sound.GroupTables.{entry-set_other, entry-set_same}
+use Rattle.gaspi_model.proofs.Sound.GroupTables.{entry-set_other, entry-set_same, made-there}
 use Rattle.gaspi_model.proofs.Sound.Successors.{Succeeds, succeeds-itself, alloc-succeeds}
 use Rattle.gaspi_model.proofs.Sound.Turns.{Brings, turn-fits, giver-ranked, given-joined, joined-group, joined-part, fixed-stays}
 
@@ -209,6 +209,20 @@ join-meets s t posts g part me thread id args h few sound hp there may limits po
   fixed = λ mask is. fixed-stays g.members args.coll mask is;
   mine = rw (entry-set_same (made_posts posts args.coll).pending id _ many, new_part) (joined-part posts.events (counted (joined_posts posts thread id args)).events thread (contribution_of posts args) part keeps.events mine);
   begun = rw new_part (begun-same (subst (λ (q : Part). HasBegun posts id q.completed) (part-there g me part there.part_there) (sound.collectives.begun id g me posts there.there hp)));
+  resumable = λ p pends.
+      let some : ◌≡◌ {A = Option Pending} (Some (record { thread = thread; args = args })) (Some p) = sym (entry-set_same (made_posts posts args.coll).pending id (Some (record { thread = thread; args = args })) many) ∙ pends in
+      let same : args ≡ p.args = (let one : ◌≡◌ {A = Pending} (record { thread = thread; args = args }) p = cc in ap (λ (q : Pending). q.args) one) in
+      let groups = (sound.posts me posts hp).groups in
+      let at = staged-there posts.groups me id (joining_call id args) h may.staged in
+      let now : IsResumable posts.groups me id args = record {
+        handle = h;
+        there = at;
+        made = made-there s.limits.ranks posts.groups id h groups at;
+        elements = may.elements;
+        staged = may.staged;
+        own = may.args_is;
+      } in
+      subst (λ (a : Args). IsResumable (made_posts posts args.coll).groups me id a) same (subst (λ (gs : Handles). IsResumable gs me id args) (sym (joined-groups posts args.coll)) now);
   group = joined-group s.limits.ranks g me (contribution_of posts args) part there.part_there (join-brings s posts g part me thread id args h few sound hp there may mine) (sound.collectives.groups id g there.there);
   first = λ rank c other given.
       given-joined {P = (mask : ℕ) × (c.args.coll ≡ colls.Commit mask)} g me 0 rank (contribution_of posts args) c part there.part_there given

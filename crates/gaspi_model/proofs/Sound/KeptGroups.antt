@@ -6,6 +6,7 @@ use Rattle.gaspi_types.specs.CallRows.{row_of}
 use Rattle.gaspi_types.specs.Groups.{is_building, new_handle, handle_at}
 use Rattle.gaspi_types.specs.Masks.{with_member}
 use Rattle.gaspi_types.specs.Replies.{is_idle}
+use Rattle.gaspi_types.specs.Tables.{entry_at}
 use Rattle.gaspi_types.specs.declared.call_rows.Posting.{Posting}
 use Rattle.gaspi_types.specs.declared.calls.Call.{Call}
 use Rattle.gaspi_types.specs.declared.calls.Call.TheVariants.{GroupCreate, GroupAdd, GroupDelete}
@@ -17,6 +18,7 @@ use Rattle.gaspi_types.specs.declared.events.Outcome.TheVariants.{Applied, Faile
 use Rattle.gaspi_types.specs.declared.events.Event.TheVariants.{Called, Take, Put}
 use Rattle.gaspi_types.specs.declared.groups.Handle.{Handle}
 use Rattle.gaspi_types.specs.declared.groups.Handles.{Handles}
+use Rattle.gaspi_types.specs.declared.groups.Pending.{Pending}
 use Rattle.gaspi_types.specs.declared.replies.Refusal.{Refusal}
 use Rattle.gaspi_types.specs.declared.replies.Reply.{Reply}
 use Rattle.gaspi_types.specs.declared.segments.Extent.{Extent}
@@ -31,15 +33,16 @@ use Rattle.gaspi_model.specs.Transfers.{Found, Worked}
 use Rattle.gaspi_model.specs.declared.states.Posts.{Posts}
 use Rattle.gaspi_model.specs.declared.states.Memory.{Memory}
 use Rattle.gaspi_model.specs.declared.states.State.{State}
+use Rattle.gaspi_types.proofs.Items.{same-or-not}
 use Rattle.gaspi_model.proofs.FoundReplies.{found-reply}
-use Rattle.gaspi_model.proofs.GroupFinds.{add-found}
+use Rattle.gaspi_model.proofs.GroupFinds.{add-found, drop-found}
 use Rattle.gaspi_model.proofs.Made.{IsTake, IsPut}
 use Rattle.gaspi_model.proofs.Same.{same_reply-same}
 use Rattle.gaspi_model.proofs.Worked.{sound-called, sound-take, sound-put}
 use Rattle.gaspi_model.specs.Changes.{IsOnlyCounted}
 use Rattle.gaspi_model.proofs.Sound.CoherentSteps.{ComesFrom, called-from, take-from, put-from, idle-from}
 use Rattle.gaspi_model.proofs.Sound.Contributions.{StaysPosts, collectives-stay, at-set}
-use Rattle.gaspi_model.proofs.Sound.GroupTables.{entry-set}
+use Rattle.gaspi_model.proofs.Sound.GroupTables.{entry-set, entry-set_other}
 use Rattle.gaspi_model.specs.Coherence.{tables_of}
 use Rattle.gaspi_model.proofs.Sound.Successors.{Succeeds}
 use Rattle.gaspi_model.proofs.Sound.Told.{told, told-from}
@@ -52,6 +55,7 @@ pub record KeepsGroups (before after : Posts) : Type 0 where
   pub building : (id : ℕ) (h : Handle) → handle_at after.groups id ≡ Some h → h.stage ≡ Building
       → ((k : Handle) × (handle_at before.groups id ≡ Some k) × (k.stage ≡ Building)) ⊎ (before.groups.made < id)
   pub committed : (id : ℕ) (h : Handle) → handle_at after.groups id ≡ Some h → h.stage ≡ Committed → handle_at before.groups id ≡ Some h
+  pub held : (id : ℕ) (h : Handle) (p : Pending) → entry_at before.pending id ≡ Some p → id ≤ before.groups.made → handle_at before.groups id ≡ Some h → handle_at after.groups id ≡ Some h
 
 -- the same groups
 pub same-groups : (before after : Posts) → after.pending ≡ before.pending → before.events ≤ after.events → after.groups ≡ before.groups → KeepsGroups before after
@@ -61,7 +65,16 @@ same-groups before after pending events groups = record {
   made = (let same = ap (λ (g : Handles). g.made) groups in omega arith);
   building = λ id h at stage. inl (h, sym (ap (λ (g : Handles). handle_at g id) groups) ∙ at, stage);
   committed = λ id h at stage. sym (ap (λ (g : Handles). handle_at g id) groups) ∙ at;
+  held = λ id h p pends made there. ap (λ (g : Handles). handle_at g id) groups ∙ there;
 }
+
+-- a group on which nothing is pending may change
+other-held : (posts : Posts) (place : ℕ) (x : Option Handle) → entry_at posts.pending place ≡ None → (id : ℕ) (h : Handle) (p : Pending) → entry_at posts.pending id ≡ Some p → handle_at posts.groups id ≡ Some h
+    → entry_at (slice_set posts.groups.table place x) id ≡ Some h
+other-held posts place x idle id h p pends there = same-or-not place id
+    (λ same.
+    absurd (let none : ◌≡◌ {A = Option Pending} None (Some p) = sym (subst (λ (n : ℕ). entry_at posts.pending n ≡ None) same idle) ∙ pends in let no : ⊥ = cc in no))
+    (λ apart. entry-set_other posts.groups.table place id x apart ∙ there)
 
 building-not : (s : Stage) → s ≡ Committed → is_building s ≡ true → ⊥
 building-not s committed building = (let is : is_building Committed ≡ true = subst (λ (x : Stage). is_building x ≡ true) committed building in let no : ⊥ = cc in no)
@@ -77,6 +90,7 @@ plain-keeps limits me posts memory thread GroupCreate reply finds = record {
   made = omega arith;
   building = λ id h at stage. building id h stage (entry-set posts.groups.table (posts.groups.made + 1) id (Some new_handle) h at);
   committed = λ id h at stage. committed id h stage (entry-set posts.groups.table (posts.groups.made + 1) id (Some new_handle) h at);
+  held = λ id h p pends within there. entry-set_other posts.groups.table (posts.groups.made + 1) id (Some new_handle) (λ same. omega arith) ∙ there;
 }
   where
     building : (id : ℕ) (h : Handle) → h.stage ≡ Building → ((id ≡ posts.groups.made + 1) × (◌≡◌ {A = Option Handle} (Some new_handle) (Some h))) ⊎ (handle_at posts.groups id ≡ Some h)
@@ -95,6 +109,7 @@ plain-keeps limits me posts memory thread (GroupAdd call) reply finds =
       made = omega arith;
       building = λ id h at stage. building found.handle found.there (is-building found.handle.stage found.building) id h stage (entry-set posts.groups.table call.group id _ h at);
       committed = λ id h at stage. committed found.handle found.there found.building id h stage (entry-set posts.groups.table call.group id _ h at);
+      held = λ id h p pends within there. other-held posts call.group _ found.idle id h p pends there;
     }
   where
     added : Handle → Handle
@@ -115,6 +130,7 @@ plain-keeps limits me posts memory thread (GroupAdd call) reply finds =
         building-not k.stage (ap (λ (x : Handle). x.stage) same ∙ stage) building)
     committed k there building id h stage (inr was) = was
 plain-keeps limits me posts memory thread (GroupDelete call) reply finds = record {
+  held = λ id h p pends within there. other-held posts call.group None (drop-found posts call reply finds).idle id h p pends there;
   pending = refl;
   events = omega arith;
   made = omega arith;
@@ -132,7 +148,7 @@ post-keeps posts queue target (Ok kinds) = same-groups posts (with_post posts qu
 post-keeps posts queue target (Err refusal) = same-groups posts posts refl (omega arith) refl
 
 counted-keeps : (before after : Posts) → KeepsGroups before after → KeepsGroups before (counted after)
-counted-keeps before after keeps = record { pending = keeps.pending; events = (let more = keeps.events in omega arith); made = keeps.made; building = keeps.building; committed = keeps.committed }
+counted-keeps before after keeps = record { pending = keeps.pending; events = (let more = keeps.events in omega arith); made = keeps.made; building = keeps.building; committed = keeps.committed; held = keeps.held }
 
 called-keeps : (limits : Limits) (me : ℕ) (posts : Posts) (memory : Memory) (thread : ℕ) (call : Call) (reply : Reply) → reply ≡ recorded_reply (answer limits me posts memory thread call)
     → KeepsGroups posts (posts_after limits me posts thread call reply)
@@ -161,7 +177,7 @@ one-keeps table me posts new there keeps rank after at =
     (λ apart was. (after, was, itself after))
 
 known-keeps : (before x : Posts) (known : List (List (Option Extent))) → KeepsGroups before x → KeepsGroups before (record x { segments = record x.segments { known = known } })
-known-keeps before x known keeps = record { pending = keeps.pending; events = keeps.events; made = keeps.made; building = keeps.building; committed = keeps.committed }
+known-keeps before x known keeps = record { pending = keeps.pending; events = keeps.events; made = keeps.made; building = keeps.building; committed = keeps.committed; held = keeps.held }
 
 pub plain-collectives : (s t : State) → AreSoundCollectives s → ComesFrom s t → t.groups ≡ s.groups → KeepAll s t → AreSoundCollectives t
 plain-collectives s t sound from groups keeps = collectives-stay s t sound from.limits groups (λ rank after at.
@@ -177,6 +193,7 @@ plain-collectives s t sound from groups keeps = collectives-stay s t sound from.
       made = keeps.made;
       building = keeps.building;
       committed = keeps.committed;
+      held = keeps.held;
       succeeds = subst (λ (x : Posts). Succeeds (tables_of x) (tables_of after)) same succeeds;
     }
 

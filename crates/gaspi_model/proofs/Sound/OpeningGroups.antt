@@ -77,6 +77,9 @@ opens-collectives w = record {
         building = λ h there stage. refl;
         committed = λ h there stage other. absurd (other (only-all w.limits.ranks id h (ap (λ (p : Posts). handle_at p.groups id) (sym from.2) ∙ there)));
       });
+  resumable = λ id rank posts p hp pends.
+      let from = map-at (opening_posts w) (range_with_len 0 w.limits.ranks) rank posts hp in
+      absurd (let none : ◌≡◌ {A = Option Pending} None (Some p) = sym (none-pending id) ∙ rw from.2 at pends in let no : ⊥ = cc in no);
   first = λ id g rank c at other given. absurd (none-given w.limits.ranks id 0 rank c (ap (λ (x : Group). given_in x 0 rank) (sym (group-is id g at)) ∙ given));
   committed = λ id g rank posts h at hp there stage.
       let is = group-is id g at in
