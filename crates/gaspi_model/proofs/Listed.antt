@@ -2,4 +2,5 @@
 pub mod Enabled
 pub mod Joining
 pub mod Order
+pub mod Readiness
 pub mod Steps

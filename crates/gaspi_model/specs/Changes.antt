@@ -34,6 +34,8 @@ use Rattle.gaspi_model.specs.Transfers.{carried_bytes}
 use Rattle.gaspi_types.specs.declared.entries.Queue.{Queue}
 use Rattle.gaspi_model.specs.declared.states.Posts.{Posts}
 use Rattle.gaspi_types.specs.declared.segments.Segment.{Segment}
+use Rattle.gaspi_types.specs.declared.shapes.CallerId.{CallerId}
+use Rattle.gaspi_model.specs.declared.states.ThreadState.TheVariants.{Running, Ended}
 use Rattle.gaspi_model.specs.declared.states.Memory.{Memory}
 use Rattle.gaspi_model.specs.declared.states.State.{State}
 
@@ -441,3 +443,10 @@ pub record IsGroupDropped (s t : State) (me id : ℕ) : Type 0 where
   pub after : t ≡ record s {
     posts = slice_set s.posts me (record (counted posts) { groups = record posts.groups { table = slice_set posts.groups.table id None } });
   }
+
+-- An end: its caller was running and has ended, and nothing else has changed but the count of events. (own choice)
+pub record IsEnded (s t : State) (c : CallerId) : Type 0 where
+  pub posts : Posts
+  pub posts_there : slice_get s.posts c.rank ≡ Some posts
+  pub running : slice_get posts.threads c.thread ≡ Some Running
+  pub after : t ≡ record s { posts = slice_set s.posts c.rank (record (counted posts) { threads = slice_set posts.threads c.thread Ended }) }

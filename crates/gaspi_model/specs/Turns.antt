@@ -1,10 +1,13 @@
 -- Joins and completions of a rank on a group in a history, and what a collective finds of its turn. (GASPI: collectives)
-use Rattle.std.specs.Prelude.{◌≡◌, ℕ, ◌<◌, ◌==◌, ◌&&◌, Bool, false, not, List, count_by, Option, None, Some, slice_get, slice_set, length}
+use Rattle.std.specs.Prelude.{◌≡◌, ℕ, ◌+◌, ◌<◌, ◌==◌, ◌&&◌, Bool, false, not, List, count_by, Option, None, Some, slice_get, slice_set, length, replicate}
+use Rattle.std.specs.Option.{option_and_then}
 use Rattle.gaspi_types.specs.CallRows.{row_of}
 use Rattle.gaspi_types.specs.Collectives.{given_in, turn_of, turn_fold, with_joined, with_completed}
 use Rattle.gaspi_types.specs.NumberTypes.{TypedNumbers}
 use Rattle.gaspi_types.specs.Replies.{is_idle}
+use Rattle.gaspi_types.specs.SegmentTables.{extent_in}
 use Rattle.gaspi_types.specs.Tables.{entry_at}
+use Rattle.gaspi_types.specs.declared.calls.Call.{Call}
 use Rattle.gaspi_types.specs.declared.calls.collectives.Allreduce as allreduce
 use Rattle.gaspi_types.specs.declared.collectives.Coll.TheVariants as colls
 use Rattle.gaspi_types.specs.declared.events.Event.{Event}
@@ -13,9 +16,11 @@ use Rattle.gaspi_types.specs.declared.groups.Args.{Args}
 use Rattle.gaspi_types.specs.declared.groups.Contribution.{Contribution}
 use Rattle.gaspi_types.specs.declared.groups.Group.{Group}
 use Rattle.gaspi_types.specs.declared.groups.Pending.{Pending}
+use Rattle.gaspi_types.specs.declared.segments.Extent.{Extent}
 use Rattle.gaspi_types.specs.declared.shapes.CallerId.{CallerId}
-use Rattle.gaspi_model.specs.CollectiveCalls.{made_memory, contribution_of, joined_posts, with_pending}
+use Rattle.gaspi_model.specs.CollectiveCalls.{joining_call, with_pending}
 use Rattle.gaspi_model.specs.Contributions.{IsOneOf}
+use Rattle.gaspi_model.specs.State.{segment_at}
 use Rattle.gaspi_model.specs.Posting.{counted}
 use Rattle.gaspi_model.specs.declared.states.Posts.{Posts}
 use Rattle.gaspi_model.specs.declared.states.Memory.{Memory}
@@ -46,25 +51,12 @@ pub record Grows (g g' : Group) : Type 0 where
   pub given : (turn rank : ℕ) (c : Contribution) → given_in g turn rank ≡ Some c → given_in g' turn rank ≡ Some c
   pub members : (mask : ℕ) → g.members ≡ Some mask → g'.members ≡ Some mask
 
--- A join: none of its rank was pending on the group. It gives to its rank's turn and is pending for its caller; a segment_create
--- makes its segment; and nothing else has changed but the count of events.
-pub record IsJoinDone (s t : State) (c : CallerId) (id : ℕ) (args : Args) : Type 0 where
-  pub posts : Posts
-  pub memory : Memory
-  pub group : Group
-  pub posts_there : slice_get s.posts c.rank ≡ Some posts
-  pub memory_there : slice_get s.memories c.rank ≡ Some memory
-  pub group_there : slice_get s.groups id ≡ Some group
-  pub none : entry_at posts.pending id ≡ None
-  pub after : t ≡ record s {
-    posts = slice_set s.posts c.rank (counted (joined_posts posts c.thread id args));
-    memories = slice_set s.memories c.rank (made_memory s.limits posts memory args.coll);
-    groups = slice_set s.groups id (with_joined group c.rank (contribution_of posts args));
-  }
+-- Every member has given to the turn of a rank.
+abbrev pub HaveAllGiven : ℕ → Group → ℕ → Type 0
+HaveAllGiven ranks group me = (rank : ℕ) → rank < ranks → IsOneOf group.members rank → (given : Contribution) × (given_in group (turn_of group me) rank ≡ Some given)
 
--- A collective that is done: it was pending for its caller, and every member has given to its turn. None is pending then, its rank
--- has completed its turn, the posts of its rank are changed so, and nothing else has changed but the count of events.
-pub record IsCompletionDone (s t : State) (c : CallerId) (id : ℕ) (change : Group → Posts → Posts) : Type 0 where
+-- A collective is pending for its caller, with its very arguments.
+pub record IsPendingAs (s : State) (c : CallerId) (id : ℕ) (call : Call) : Type 0 where
   pub posts : Posts
   pub group : Group
   pub pending : Pending
@@ -72,11 +64,85 @@ pub record IsCompletionDone (s t : State) (c : CallerId) (id : ℕ) (change : Gr
   pub group_there : slice_get s.groups id ≡ Some group
   pub pending_there : entry_at posts.pending id ≡ Some pending
   pub mine : pending.thread ≡ c.thread
-  pub full : (rank : ℕ) → rank < s.limits.ranks → IsOneOf group.members rank → (given : Contribution) × (given_in group (turn_of group c.rank) rank ≡ Some given)
+  pub same : joining_call id pending.args ≡ call
+
+-- It waits: a member has not given to its rank's turn.
+pub record IsWaiting (s : State) (c : CallerId) (id : ℕ) (call : Call) : Type 0 where
+  pub pends : IsPendingAs s c id call
+  pub late : ℕ
+  pub member : IsOneOf pends.group.members late
+  pub missing : given_in pends.group (turn_of pends.group c.rank) late ≡ None
+
+-- A join of any collective but a segment_create: none of its rank was pending on the group. It gives to its rank's turn and is
+-- pending for its caller; and nothing else has changed but the count of events.
+pub record IsJoinDone (s t : State) (c : CallerId) (id : ℕ) (args : Args) : Type 0 where
+  pub posts : Posts
+  pub group : Group
+  pub posts_there : slice_get s.posts c.rank ≡ Some posts
+  pub group_there : slice_get s.groups id ≡ Some group
+  pub none : entry_at posts.pending id ≡ None
   pub after : t ≡ record s {
-    posts = slice_set s.posts c.rank (counted (with_pending id None (change group posts)));
-    groups = slice_set s.groups id (with_completed group c.rank);
+    posts = slice_set s.posts c.rank (record (counted posts) { pending = slice_set posts.pending id (Some (record { thread = c.thread; args = args })) });
+    groups = slice_set s.groups id (with_joined group c.rank (record { args = args; generation = 0 }));
   }
+
+-- A join of a segment_create: besides, its segment, which was not there, is made, all zero, in the next generation of its number; and
+-- that is the generation that it gives. (segment_create)
+pub record IsCreateJoined (s t : State) (c : CallerId) (id : ℕ) (args : Args) (segment size : ℕ) : Type 0 where
+  pub posts : Posts
+  pub memory : Memory
+  pub group : Group
+  pub generation : ℕ
+  pub posts_there : slice_get s.posts c.rank ≡ Some posts
+  pub memory_there : slice_get s.memories c.rank ≡ Some memory
+  pub group_there : slice_get s.groups id ≡ Some group
+  pub none : entry_at posts.pending id ≡ None
+  pub next : slice_get posts.segments.next_generations segment ≡ Some generation
+  pub free : segment_at memory segment ≡ None
+  pub after : t ≡ record s {
+    posts = slice_set s.posts c.rank (record (counted posts) {
+      segments = record posts.segments {
+        own = slice_set posts.segments.own segment (Some (record { generation = generation; size = size }));
+        next_generations = slice_set posts.segments.next_generations segment (generation + 1);
+      };
+      pending = slice_set posts.pending id (Some (record { thread = c.thread; args = args }));
+    });
+    memories = slice_set s.memories c.rank (record memory {
+      segments = slice_set memory.segments segment (Some (record { generation = generation; bytes = replicate size 0 }));
+      slots = slice_set memory.slots segment (Some (replicate s.limits.notes 0));
+    });
+    groups = slice_set s.groups id (with_joined group c.rank (record { args = args; generation = generation }));
+  }
+
+-- A collective that is done: it was pending for its caller, with its arguments, and every member has given to its turn. None is
+-- pending then, its rank has completed its turn, the posts of its rank are changed so, and nothing else has changed but the count of
+-- events.
+pub record IsCompletionDone (s t : State) (c : CallerId) (id : ℕ) (call : Call) (change : Group → Posts → Posts) : Type 0 where
+  pub pends : IsPendingAs s c id call
+  pub full : HaveAllGiven s.limits.ranks pends.group c.rank
+  pub after : t ≡ record s {
+    posts = slice_set s.posts c.rank (counted (with_pending id None (change pends.group pends.posts)));
+    groups = slice_set s.groups id (with_completed pends.group c.rank);
+  }
+
+-- what a rank knows of a segment of a rank
+abbrev pub known_of : Posts → ℕ → ℕ → Option Extent
+known_of posts rank segment = option_and_then (λ table. extent_in table segment) (slice_get posts.segments.known rank)
+
+-- The segments of all members are known after a segment_create that is done, in the generations in which they have given them and in
+-- its size; and what else is known has not changed. (segment_create)
+pub record AreMadeKnown (s t : State) (c : CallerId) (id segment size : ℕ) : Type 0 where
+  pub posts : Posts
+  pub new : Posts
+  pub group : Group
+  pub posts_there : slice_get s.posts c.rank ≡ Some posts
+  pub new_there : slice_get t.posts c.rank ≡ Some new
+  pub group_there : slice_get s.groups id ≡ Some group
+  pub members : (rank : ℕ) → rank < s.limits.ranks → IsOneOf group.members rank → (given : Contribution) × (given_in group (turn_of group c.rank) rank ≡ Some given)
+      × (known_of new rank segment ≡ Some (record { generation = given.generation; size = size }))
+  pub others : (rank : ℕ) → (IsOneOf group.members rank → ⊥) → (other : ℕ) → known_of new rank other ≡ known_of posts rank other
+  pub segments : (rank other : ℕ) → (other ≡ segment → ⊥) → known_of new rank other ≡ known_of posts rank other
+  pub kept : new ≡ record (counted (with_pending id None posts)) { segments = record posts.segments { known = new.segments.known } }
 
 -- An allreduce that is done answers the fold of what exactly the members have given to its turn, its caller's own values among them.
 pub record IsFolded (s : State) (c : CallerId) (call : allreduce.Allreduce) (answer : TypedNumbers) : Type 0 where

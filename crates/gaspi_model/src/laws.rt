@@ -54,7 +54,7 @@ ghost use Rattle.gaspi_types.specs.Collectives.{given_in, turn_of, turn_made};
 ghost use Rattle.gaspi_types.specs.NumberTypes.{TypedNumbers};
 ghost use Rattle.gaspi_types.specs.Tables.{entry_at};
 ghost use Rattle.gaspi_model.specs.Contributions.{IsOneOf, waits};
-ghost use Rattle.gaspi_model.specs.Turns.{Grows, IsCompletionDone, IsFolded, IsJoinDone, completions_on, joins_on};
+ghost use Rattle.gaspi_model.specs.Turns.{AreMadeKnown, Grows, HaveAllGiven, IsCompletionDone, IsCreateJoined, IsFolded, IsJoinDone, IsPendingAs, IsWaiting, completions_on, joins_on};
 ghost use Rattle.gaspi_types.specs.declared.events.Outcome.TheVariants.{Applied, Failed};
 ghost use Rattle.gaspi_types.specs.declared.events.Outcome.{Outcome};
 ghost use Rattle.gaspi_types.specs.declared.events.Transfer.{Transfer};
@@ -63,7 +63,7 @@ ghost use Rattle.gaspi_types.specs.declared.replies.Reply.{Reply};
 ghost use Rattle.gaspi_types.specs.declared.replies.Reply.TheVariants as replies;
 ghost use Rattle.gaspi_types.specs.declared.shapes.CallerId.{CallerId};
 ghost use Rattle.gaspi_model.specs.Calls.{recorded_reply};
-ghost use Rattle.gaspi_model.specs.Changes.{IsOnlyCounted, IsAnswered, IsRead, AreSlotsRead, IsReset, IsWaited, IsPurged, IsSizeAnswered, IsStateAnswered, IsMade, IsGone, IsPutDone, IsFailed, IsTaken, IsRegistered, IsWritten, IsPosted, IsSent, IsReceived, IsGroupMade, IsGroupAdded, IsGroupDropped, is_corrupt, may_take_fail, may_put_fail};
+ghost use Rattle.gaspi_model.specs.Changes.{IsOnlyCounted, IsAnswered, IsRead, AreSlotsRead, IsReset, IsWaited, IsPurged, IsSizeAnswered, IsStateAnswered, IsMade, IsGone, IsPutDone, IsFailed, IsTaken, IsRegistered, IsWritten, IsPosted, IsSent, IsReceived, IsGroupMade, IsGroupAdded, IsGroupDropped, IsEnded, is_corrupt, may_take_fail, may_put_fail};
 ghost use Rattle.gaspi_types.specs.Lanes.{is_write, is_read};
 ghost use Rattle.gaspi_model.specs.Messages.{IsEarliest, inbox_of, sent_in, received_in};
 ghost use Rattle.gaspi_model.specs.Order.{AreStanding, IsNotificationStanding, IsReadNoteStanding, IsReadStanding, IsWriteStanding, is_purge_of};
@@ -75,7 +75,9 @@ ghost use Rattle.gaspi_model.specs.Settled.{AreLanesEmpty, IsSettled};
 ghost use Rattle.gaspi_model.specs.State.{opening};
 ghost use Rattle.gaspi_model.specs.Step.{step, owner_of, after, reached, own_calls, is_legal, ends_caller, answer_in, is_active, is_pending, room_taken, transfer_event};
 ghost use Rattle.gaspi_model.specs.CollectiveCalls.{is_joining, joining_call, with_made_known};
+ghost use Rattle.gaspi_types.specs.declared.collectives.Coll.TheVariants.{Create};
 ghost use Rattle.gaspi_types.specs.declared.replies.Ready.TheVariants.{Join};
+ghost use Rattle.gaspi_types.specs.declared.replies.Ready.TheVariants as ready;
 ghost use Rattle.gaspi_model.specs.Sound.{IsSound, events_left};
 ghost use Rattle.gaspi_model.specs.Transfers.{transfers, is_earlier};
 ghost use Rattle.gaspi_model.specs.declared.states.Posts.{Posts};
@@ -93,7 +95,8 @@ ghost use Rattle.gaspi_model.specs.declared.states.State.{State};
 /// Group 0 of a rank is committed and has every rank; its other groups have the first numbers from 1 on, up to 7, and ranks
 /// of the world alone; and an inbox has at most INBOX messages, each from a rank of the world and of 1 to 4,096 bytes. A rank has
 /// given to one turn of a group more than it has completed where a collective of it is pending there, which is the one that it has
-/// given last, and else to as many; what is given to one turn agrees in all but values and generation, and its givers are members.
+/// given last, and else to as many; what is pending may be looked at again: its rank has the group, as the collective wants it; what
+/// is given to one turn agrees in all but values and generation, and its givers are members.
 pub fn soundness()
     ensures opens { (w : World) → IsWorld w → IsSound (opening w) }
     ensures steps { (s t : State) (e : Event) → IsSound s → step s e ≡ Ok t → IsSound t }
@@ -148,10 +151,11 @@ pub fn enabled()
 /// range, at the end of the inbox of the rank that it names, which may be its own; a receive takes the first message of its
 /// rank's inbox, writes its bytes, no more, into its range, and answers who sent it. A group that is made has the next number of its rank, is built yet
 /// and empty; one rank is added to a group that is built yet; and a group that is dropped, not group 0, is gone. A join
-/// gives one contribution to its rank's turn, makes the segment of a segment_create, and is pending; a collective that is done was
-/// pending for its caller, every member has given to its turn, and it is pending no more: a commit marks its group committed, a
-/// segment_create makes the segments of all members known, and an allreduce answers the fold of what the members have given. A refusal or a
-/// timeout changes nothing; and in each case nothing else has changed but the count of events. (GASPI: one-sided
+/// gives one contribution to its rank's turn and is pending; that of a segment_create makes its segment besides, as an alloc does, and
+/// gives its generation; a collective that is done was pending for its caller with its arguments, every member has given to its turn,
+/// and it is pending no more: a commit marks its group committed, a segment_create makes the segments of all members known, in the
+/// generations that they gave and in its size, and an allreduce answers the fold of what the members have given. An end ends its
+/// caller. A refusal or a timeout changes nothing; and in each case nothing else has changed but the count of events. (GASPI: one-sided
 /// communication, notifications, state vector, segments, atomics, passive communication, groups, timeouts)
 pub fn changes()
     ensures put { (s t : State) (origin queue target number : ℕ) → IsSound s → step s (Put origin queue target number Applied) ≡ Ok t
@@ -208,17 +212,22 @@ pub fn changes()
         → IsGroupAdded s t c.rank call.group call.rank }
     ensures group_dropped { (s t : State) (c : CallerId) (call : group_delete.GroupDelete) → IsSound s → step s (Called c (GroupDelete call) replies.Done) ≡ Ok t
         → IsGroupDropped s t c.rank call.group }
-    ensures joined { (s t : State) (c : CallerId) (id : ℕ) (args : Args) → IsSound s → step s (Joined c id args) ≡ Ok t → IsJoinDone s t c id args }
+    ensures joined { (s t : State) (c : CallerId) (id : ℕ) (args : Args) → IsSound s → is_create args.coll ≡ false → step s (Joined c id args) ≡ Ok t → IsJoinDone s t c id args }
+    ensures create_joined { (s t : State) (c : CallerId) (id : ℕ) (args : Args) (segment size : ℕ) → IsSound s → args.coll ≡ Create segment size → step s (Joined c id args) ≡ Ok t
+        → IsCreateJoined s t c id args segment size }
     ensures committed { (s t : State) (c : CallerId) (call : commit.Commit) → IsSound s → step s (Called c (calls.Commit call) replies.Done) ≡ Ok t
-        → IsCompletionDone s t c call.group (λ g posts. record posts { groups = with_committed posts.groups call.group }) }
+        → IsCompletionDone s t c call.group (calls.Commit call) (λ g posts. record posts { groups = with_committed posts.groups call.group }) }
     ensures barrier { (s t : State) (c : CallerId) (call : barrier.Barrier) → IsSound s → step s (Called c (calls.Barrier call) replies.Done) ≡ Ok t
-        → IsCompletionDone s t c call.group (λ g posts. posts) }
+        → IsCompletionDone s t c call.group (calls.Barrier call) (λ g posts. posts) }
     ensures created { (s t : State) (c : CallerId) (call : create.Create) → IsSound s → step s (Called c (calls.Create call) replies.Done) ≡ Ok t
-        → IsCompletionDone s t c call.group (λ g posts. with_made_known call.seg call.size (turn_made g c.rank) posts) }
+        → IsCompletionDone s t c call.group (calls.Create call) (λ g posts. with_made_known call.seg call.size (turn_made g c.rank) posts) }
+    ensures known { (s t : State) (c : CallerId) (call : create.Create) → IsSound s → step s (Called c (calls.Create call) replies.Done) ≡ Ok t
+        → AreMadeKnown s t c call.group call.seg call.size }
     ensures reduced { (s t : State) (c : CallerId) (call : allreduce.Allreduce) (answer : TypedNumbers) → IsSound s
-        → step s (Called c (calls.Allreduce call) (replies.List answer)) ≡ Ok t → IsCompletionDone s t c call.group (λ g posts. posts) }
+        → step s (Called c (calls.Allreduce call) (replies.List answer)) ≡ Ok t → IsCompletionDone s t c call.group (calls.Allreduce call) (λ g posts. posts) }
     ensures folded { (s t : State) (c : CallerId) (call : allreduce.Allreduce) (answer : TypedNumbers) → IsSound s
         → step s (Called c (calls.Allreduce call) (replies.List answer)) ≡ Ok t → IsFolded s c call answer }
+    ensures ended { (s t : State) (c : CallerId) → step s (Called c End replies.Done) ≡ Ok t → IsEnded s t c }
 {}
 
 /// A rank that is once corrupt in the state vector of a rank stays so. (GASPI: state vector)
@@ -400,7 +409,9 @@ pub fn replies()
 /// Collectives over legal histories. A rank has joined a group once for each collective that it has completed there, and once
 /// more where one is pending: no contribution counts twice. What is given to one turn agrees in all but values and generation, and
 /// stays given. Two members that complete the same turn of an allreduce get the same list, which is (as `changes` says) the fold of
-/// what exactly the members have given to that turn. A barrier that is done was joined by each member more often than its caller had
+/// what exactly the members have given to that turn. A collective that is pending for its caller, with its arguments, answers where
+/// every member has given to its turn, and is not ready where one has not; one that is not ready, or times out, is so pending, and a
+/// member has not given. A barrier that is done was joined by each member more often than its caller had
 /// completed collectives of the group before. (GASPI: collectives, allreduce, barrier)
 pub fn collectives()
     ensures counted { (w : World) (history : List Event) (s : State) (rank id : ℕ) (posts : Posts) → IsWorld w → reached w history ≡ Ok s → slice_get s.posts rank ≡ Some posts → id < 8
@@ -412,6 +423,14 @@ pub fn collectives()
     ensures same { (s t u v : State) (between : List Event) (c d : CallerId) (a b : allreduce.Allreduce) (x y : TypedNumbers) (g k : Group) → IsSound s
         → step s (Called c (calls.Allreduce a) (replies.List x)) ≡ Ok t → after t between ≡ Ok u → step u (Called d (calls.Allreduce b) (replies.List y)) ≡ Ok v
         → a.group ≡ b.group → slice_get s.groups a.group ≡ Some g → slice_get u.groups b.group ≡ Some k → turn_of g c.rank ≡ turn_of k d.rank → x ≡ y }
+    ensures ready { (s : State) (c : CallerId) (id : ℕ) (call : Call) (p : IsPendingAs s c id call) → IsSound s → is_active s c.rank c.thread ≡ true
+        → HaveAllGiven s.limits.ranks p.group c.rank → (reply : Reply) × (answer_in s c.rank c.thread call ≡ Some (ready.Reply reply)) × (is_idle reply ≡ false) }
+    ensures waits { (s : State) (c : CallerId) (id : ℕ) (call : Call) → IsSound s → is_active s c.rank c.thread ≡ true → IsWaiting s c id call
+        → answer_in s c.rank c.thread call ≡ Some ready.NotReady }
+    ensures not_ready { (s : State) (c : CallerId) (id : ℕ) (call : Call) → IsSound s → (row_of call).group ≡ Some id → answer_in s c.rank c.thread call ≡ Some ready.NotReady
+        → IsWaiting s c id call }
+    ensures timed_out { (s t : State) (c : CallerId) (id : ℕ) (call : Call) → IsSound s → (row_of call).group ≡ Some id → step s (Called c call replies.Timeout) ≡ Ok t
+        → IsWaiting s c id call }
     ensures barrier { (w : World) (history : List Event) (s t : State) (c : CallerId) (call : barrier.Barrier) (g : Group) (rank : ℕ) → IsWorld w → reached w history ≡ Ok s
         → step s (Called c (calls.Barrier call) replies.Done) ≡ Ok t → slice_get s.groups call.group ≡ Some g → rank < s.limits.ranks → IsOneOf g.members rank
         → completions_on c.rank call.group history < joins_on rank call.group history }

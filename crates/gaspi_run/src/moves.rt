@@ -3,12 +3,12 @@
 ghost use Rattle.std.specs.Prelude.{◌≡◌, ℕ, ◌+◌, ◌<◌, ◌≤◌, ◌++◌, ◌∷◌, [], OnOk, Ok, Some, true, false, length, slice_get};
 ghost use Rattle.gaspi_types.specs.declared.replies.Ready.{Ready};
 ghost use Rattle.gaspi_types.specs.declared.replies.Ready.TheVariants.{Join, NotReady};
+ghost use Rattle.gaspi_model.specs.CollectiveCalls.{is_joining};
 ghost use Rattle.gaspi_model.specs.Calls.{recorded_reply};
 ghost use Rattle.gaspi_model.specs.Step.{answer_in, transfer_event};
 ghost use Rattle.gaspi_model.specs.Transfers.{transfers};
 ghost use Rattle.gaspi_run.specs.Generator.{drawn, picked};
 ghost use Rattle.gaspi_run.specs.Schedule.{made, looks_of, recorded, looked, join_args, joined, joined_turn, is_full, going_turn, ending_turn, caller_turn, candidate_turn, candidates, turn, AreActive};
-ghost use Rattle.plain_calls.specs.Looks.{is_join};
 ghost use Rattle.plain_machine.specs.Looking.{IsFindingIn};
 ghost use Rattle.rank_script.specs.Runs.{advanced};
 ghost use Rattle.rank_script.specs.declared.scripts.ScriptLine.{ScriptLine};
@@ -87,7 +87,7 @@ fn record_call(
     requires place { place < length turns.old.waiting }
     requires active { AreActive turns.old }
     requires look { (w : Waiting) → slice_get turns.old.waiting place ≡ Some w → IsFindingIn look turns.old.state w.caller call.now }
-    requires unjoined { is_join look.ready ≡ false }
+    requires unjoined { is_joining look.ready ≡ false }
     ensures { (w : Waiting) → slice_get turns.old.waiting place ≡ Some w → OnOk result (turns.new ≡ recorded turns.old place w call.now (recorded_reply look.ready)) }
 {
     let call = call.copy(alloc)?;

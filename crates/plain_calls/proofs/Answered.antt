@@ -26,14 +26,13 @@ use Rattle.gaspi_types.specs.declared.replies.Reply.TheVariants as replies
 use Rattle.gaspi_types.specs.declared.shapes.Limits.{Limits}
 use Rattle.gaspi_types.proofs.Chains.{bind_then, found_there, both}
 use Rattle.gaspi_model.specs.Calls.{recorded_reply}
-use Rattle.gaspi_model.specs.CollectiveCalls.{element_checks, staged_at, plain_args, args_of, segment_checks, meeting_checks, fresh_finds, full_reply, met_finds, collective_finds, collective_ready, collective_answer, is_reply_of, is_join_of, joining_call}
+use Rattle.gaspi_model.specs.CollectiveCalls.{element_checks, staged_at, plain_args, args_of, segment_checks, meeting_checks, fresh_finds, full_reply, met_finds, collective_finds, collective_ready, collective_answer, is_reply_of, is_join_of, joining_call, is_joining}
 use Rattle.gaspi_model.specs.Sound.{IsSoundPosts}
 use Rattle.gaspi_model.specs.State.{thread_at, is_running, owed}
 use Rattle.gaspi_model.specs.Step.{completed, is_there}
 use Rattle.gaspi_model.specs.declared.states.Posts.{Posts}
 use Rattle.gaspi_model.specs.declared.states.Why.TheVariants as whys
 use Rattle.gaspi_model.proofs.Listed.Enabled.{same_reply-refl}
-use Rattle.plain_calls.specs.Looks.{is_join}
 use Rattle.plain_calls.specs.Room.{HasMakingRoom, HasTellingRoom}
 use Rattle.plain_calls.specs.Turns.{posts_met, group_met}
 use Rattle.plain_calls.proofs.CallRoom.{alloc_room}
@@ -153,7 +152,7 @@ telling_by posts g me thread id (calls.Create call) reply met = by_resumed met.r
     by_resumed Same resumes finds = create_fits (entry_at posts.pending id) thread call.seg call.size (nat_lt call.seg 4294967296 && nat_lt call.size 4294967296) refl resumes
 telling_by posts g me thread id call reply met = tt
 
-pub telling_room : (posts : Posts) (g : Group) (me thread id : ℕ) (call : Call) (found : Ready) → found ≡ collective_answer posts g me thread id call → is_join found ≡ false
+pub telling_room : (posts : Posts) (g : Group) (me thread id : ℕ) (call : Call) (found : Ready) → found ≡ collective_answer posts g me thread id call → is_joining found ≡ false
     → is_idle (recorded_reply found) ≡ false → HasTellingRoom call
 telling_room posts g me thread id call (ready.Reply reply) is unjoined busy =
     telling_by posts g me thread id call reply (answer_met posts g me thread id call (ready.Reply reply) (sym is) (rw busy refl))
@@ -162,21 +161,21 @@ telling_room posts g me thread id call ready.NotReady is unjoined busy = absurd 
 
 -- The step, where the rank has room and where it has none.
 
-pub records : (found : Ready) → is_join found ≡ false → is_reply_of found (recorded_reply found) ≡ true
+pub records : (found : Ready) → is_joining found ≡ false → is_reply_of found (recorded_reply found) ≡ true
 records (ready.Reply reply) unjoined = same_reply-refl reply
 records (ready.Join args) unjoined = absurd (let no : ⊥ = cc in no)
 records ready.NotReady unjoined = refl
 
-answered : (posts : Posts) (g : Group) (me thread id : ℕ) (call : Call) (found : Ready) → found ≡ collective_answer posts g me thread id call → is_join found ≡ false
+answered : (posts : Posts) (g : Group) (me thread id : ℕ) (call : Call) (found : Ready) → found ≡ collective_answer posts g me thread id call → is_joining found ≡ false
     → is_reply_of (collective_answer posts g me thread id call) (recorded_reply found) ≡ true
 answered posts g me thread id call found is unjoined = subst (λ (r : Ready). is_reply_of r (recorded_reply found) ≡ true) is (records found unjoined)
 
 pub met_limit : (limits : Limits) (me : ℕ) (posts : Posts) (g : Group) (thread id : ℕ) (call : Call) (found : Ready) → is_there (thread_at posts thread) ≡ true
-    → found ≡ collective_answer posts g me thread id call → is_join found ≡ false → nat_le (posts.events + owed posts + 1) limits.events ≡ false
+    → found ≡ collective_answer posts g me thread id call → is_joining found ≡ false → nat_le (posts.events + owed posts + 1) limits.events ≡ false
     → completed limits me posts g thread id call (recorded_reply found) ≡ Err whys.Limit
 met_limit limits me posts g thread id call found there is unjoined full = rw (there, answered posts g me thread id call found is unjoined, full) refl
 
 pub met_steps : (limits : Limits) (me : ℕ) (posts : Posts) (g : Group) (thread id : ℕ) (call : Call) (found : Ready) → is_there (thread_at posts thread) ≡ true
-    → found ≡ collective_answer posts g me thread id call → is_join found ≡ false → nat_le (posts.events + owed posts + 1) limits.events ≡ true
+    → found ≡ collective_answer posts g me thread id call → is_joining found ≡ false → nat_le (posts.events + owed posts + 1) limits.events ≡ true
     → completed limits me posts g thread id call (recorded_reply found) ≡ Ok (record { posts = posts_met posts g me id call (recorded_reply found); group = group_met g me (recorded_reply found) })
 met_steps limits me posts g thread id call found there is unjoined room = rw (there, answered posts g me thread id call found is unjoined, room) refl

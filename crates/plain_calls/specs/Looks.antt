@@ -65,12 +65,6 @@ abbrev pub found_after : Posts → ℕ → Call → Finding → Posts
 found_after posts thread call look =
     counted (if is_idle (recorded_reply look.ready) then posts else found_done posts thread call (kinds_of look.kinds))
 
--- whether a look found that a collective may join
-abbrev pub is_join : Ready → Bool
-is_join (ready.Reply reply) = false
-is_join (ready.Join args) = true
-is_join ready.NotReady = false
-
 -- whether a step that gives something was made, or why not
 abbrev pub made_of : {A : Type 0} → Result A StepFault → Result (Unit {0}) StepFault
 made_of (Ok given) = Ok tt

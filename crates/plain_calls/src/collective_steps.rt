@@ -8,13 +8,13 @@ ghost use Rattle.gaspi_types.specs.Replies.{is_idle};
 ghost use Rattle.gaspi_types.specs.Tables.{entry_at};
 ghost use Rattle.gaspi_types.specs.World.{are_limits};
 ghost use Rattle.gaspi_model.specs.Calls.{recorded_reply};
-ghost use Rattle.gaspi_model.specs.CollectiveCalls.{collective_answer, is_join_of, joining_call, contribution_of, made_generation, made_posts, made_memory, with_pending, joined_posts, told_posts, completed_posts};
+ghost use Rattle.gaspi_model.specs.CollectiveCalls.{collective_answer, is_join_of, joining_call, contribution_of, made_generation, made_posts, made_memory, with_pending, joined_posts, told_posts, completed_posts, is_joining};
 ghost use Rattle.gaspi_model.specs.Contributions.{IsSoundPart};
 ghost use Rattle.gaspi_model.specs.Posting.{counted};
 ghost use Rattle.gaspi_model.specs.Sound.{IsSoundPosts};
 ghost use Rattle.gaspi_model.specs.State.{owed, thread_at};
 ghost use Rattle.gaspi_model.specs.Step.{Met, completed, joined, Steps, is_there};
-ghost use Rattle.plain_calls.specs.Looks.{is_join, made_of};
+ghost use Rattle.plain_calls.specs.Looks.{made_of};
 ghost use Rattle.plain_calls.specs.Room.{HasMakingRoom, HasTellingRoom};
 ghost use Rattle.plain_calls.specs.Turns.{posts_met, group_met};
 
@@ -108,7 +108,7 @@ pub fn complete(
     requires taken { taken.old ≡ posts.old.events + owed posts.old }
     requires there { is_there (thread_at posts.old thread) ≡ true }
     requires look { ready ≡ collective_answer posts.old group.old me thread id call.now }
-    requires unjoined { is_join ready ≡ false }
+    requires unjoined { is_joining ready ≡ false }
     ensures reply { IfOk result (λ reply. reply ≡ recorded_reply ready) }
     ensures step { Steps {S = Met} (made_of result) (record { posts = posts.old; group = group.old }) (record { posts = posts.new; group = group.new }) (completed limits.now me posts.old group.old thread id call.now (recorded_reply ready)) }
     ensures taken { taken.new ≡ posts.new.events + owed posts.new }

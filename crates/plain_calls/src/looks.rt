@@ -4,8 +4,7 @@ ghost use Rattle.std.specs.Prelude.{◌≡◌, None};
 ghost use Rattle.segment_tables.specs.declared.kinds.Kinds.TheVariants as kinds;
 ghost use Rattle.gaspi_types.specs.Replies.{is_idle};
 ghost use Rattle.gaspi_model.specs.Calls.{recorded_reply};
-ghost use Rattle.gaspi_model.specs.CollectiveCalls.{is_reply_of};
-ghost use Rattle.plain_calls.specs.Looks.{is_join};
+ghost use Rattle.gaspi_model.specs.CollectiveCalls.{is_reply_of, is_joining};
 
 use crate::replies::is_idle_ready;
 use gaspi_types::{Message, Ready, Reply};
@@ -42,7 +41,7 @@ impl Finding {
 
     /// Whether the call is a collective that may join its group. (GASPI: collectives)
     pub fn is_join(&self) -> bool
-        ensures { result ≡ is_join self.now.ready }
+        ensures { result ≡ is_joining self.now.ready }
     {
         matches!(&self.ready, Ready::Join(_))
     }

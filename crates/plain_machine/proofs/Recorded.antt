@@ -13,7 +13,7 @@ use Rattle.gaspi_types.specs.declared.shapes.CallerId.{CallerId}
 use Rattle.gaspi_types.specs.declared.shapes.Limits.{Limits}
 use Rattle.gaspi_types.specs.declared.touches.Reach.{Reach}
 use Rattle.gaspi_model.specs.Calls.{answer, recorded_reply}
-use Rattle.gaspi_model.specs.CollectiveCalls.{collective_answer, is_reply_of}
+use Rattle.gaspi_model.specs.CollectiveCalls.{collective_answer, is_reply_of, is_joining}
 use Rattle.gaspi_model.specs.State.{thread_at}
 use Rattle.gaspi_model.specs.Step.{answer_in, group_in, step, Steps, called, call_brought, is_declared, is_there}
 use Rattle.gaspi_model.specs.Transfers.{Worked}
@@ -21,7 +21,7 @@ use Rattle.gaspi_types.specs.Checks.{◌>>=◌}
 use Rattle.gaspi_types.specs.declared.groups.Group.{Group}
 use Rattle.gaspi_types.specs.declared.inboxes.Message.{Message}
 use Rattle.gaspi_model.proofs.Same.{same_reply-same}
-use Rattle.plain_calls.specs.Looks.{BringsMessage, is_join}
+use Rattle.plain_calls.specs.Looks.{BringsMessage}
 use Rattle.plain_calls.proofs.Looked.{brought_same}
 use Rattle.gaspi_model.specs.declared.states.Posts.{Posts}
 use Rattle.gaspi_model.specs.declared.states.Memory.{Memory}
@@ -138,7 +138,7 @@ called_ranks ranks ranks' memories c call look reach result m m' plain declared 
     (lent_same look ranks.limits ranks.posts (call_brought (state_in ranks memories) c.rank call) m c call finds.message) steps))
 
 -- a reply with which a look may be recorded is the one that it has, and it found no join
-pub recorded_by : (found : Ready) (reply : Reply) → is_reply_of found reply ≡ true → (is_join found ≡ false) × (reply ≡ recorded_reply found)
+pub recorded_by : (found : Ready) (reply : Reply) → is_reply_of found reply ≡ true → (is_joining found ≡ false) × (reply ≡ recorded_reply found)
 recorded_by (ready.Reply x) reply same = (refl, same_reply-same reply x same)
 recorded_by (ready.Join args) reply same = absurd (let no : ⊥ = cc in no)
 recorded_by ready.NotReady reply same = (refl, same_reply-same reply replies.Timeout same)

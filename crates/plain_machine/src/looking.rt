@@ -9,11 +9,11 @@ ghost use Rattle.gaspi_types.specs.declared.replies.Ready.{Ready};
 ghost use Rattle.gaspi_types.specs.declared.replies.Ready.TheVariants.{Join};
 ghost use Rattle.gaspi_types.specs.declared.touches.Reach.TheVariants.{PeerPosts};
 ghost use Rattle.gaspi_model.specs.Calls.{recorded_reply};
-ghost use Rattle.gaspi_model.specs.CollectiveCalls.{collective_answer, is_join_of, joining_call};
+ghost use Rattle.gaspi_model.specs.CollectiveCalls.{collective_answer, is_join_of, joining_call, is_joining};
 ghost use Rattle.gaspi_model.specs.Step.{answer_in, group_in, step, Steps, is_declared, is_pending, is_pending_of};
 ghost use Rattle.gaspi_model.specs.declared.states.Memory.{Memory};
 ghost use Rattle.gaspi_model.specs.declared.states.Posts.{Posts};
-ghost use Rattle.plain_calls.specs.Looks.{is_join, made_of};
+ghost use Rattle.plain_calls.specs.Looks.{made_of};
 ghost use Rattle.plain_calls.specs.Memory.{is_send, is_allreduce, looks_with_memory, keeps_memory};
 ghost use Rattle.plain_machine.specs.Looking.{IsFindingIn, IsFindingOn, MayJoin, join_event, look_purge};
 ghost use Rattle.plain_machine.specs.Machine.{AreWhole, IsMachine, state_in, taken_of};
@@ -284,7 +284,7 @@ fn record_collective(
     requires there { caller.rank < length ranks.old.posts }
     requires group { (row_of call.now).group ≡ Some id }
     requires look { (posts : Posts) → slice_get ranks.old.posts caller.rank ≡ Some posts → ready ≡ collective_answer posts (group_in (state_in ranks.old memories.now) id) caller.rank caller.thread id call.now }
-    requires unjoined { is_join ready ≡ false }
+    requires unjoined { is_joining ready ≡ false }
     ensures reply { IfOk result (λ reply. reply ≡ recorded_reply ready) }
     ensures step { Steps (made_of result) (state_in ranks.old memories.now) (state_in ranks.new memories.now) (step (state_in ranks.old memories.now) (Called caller call.now (recorded_reply ready))) }
     ensures taken { ranks.new.taken ≡ map taken_of ranks.new.posts }
@@ -373,7 +373,7 @@ pub fn record_named(
     requires machine { IsMachine (state_in ranks.old memories.old) ranks.old.taken standing.old.items }
     requires declared { is_declared (state_in ranks.old memories.old) caller.rank caller.thread ≡ true }
     requires look { IsFindingIn look (state_in ranks.old memories.old) caller call.now }
-    requires unjoined { is_join look.ready ≡ false }
+    requires unjoined { is_joining look.ready ≡ false }
     ensures reply { IfOk result (λ reply. reply ≡ recorded_reply look.ready) }
     ensures step { Steps (made_of result) (state_in ranks.old memories.old) (state_in ranks.new memories.new) (step (state_in ranks.old memories.old) (Called caller call.now (recorded_reply look.ready))) }
     ensures taken { ranks.new.taken ≡ map taken_of ranks.new.posts }

@@ -2,6 +2,7 @@
 
 ghost use Rattle.std.specs.Prelude.{◌≡◌, ◌≢◌, ◌+◌, ◌<◌, ◌↔◌, IfOk, IsOk, IsTrue, Some, None, Err, if◌then◌else◌, true, false, not, length, slice_get};
 ghost use Rattle.gaspi_types.specs.CallRows.{need_of};
+ghost use Rattle.gaspi_model.specs.CollectiveCalls.{is_joining};
 ghost use Rattle.gaspi_model.specs.State.{opening};
 ghost use Rattle.gaspi_model.specs.Step.{step, Steps, answer_in, is_declared, is_active, is_pending, room_taken, transfer_event};
 ghost use Rattle.gaspi_model.specs.Transfers.{transfers};
@@ -10,7 +11,7 @@ ghost use Rattle.gaspi_types.specs.declared.events.Event.TheVariants.{Called};
 ghost use Rattle.gaspi_types.specs.declared.replies.Ready.{Ready};
 ghost use Rattle.gaspi_types.specs.declared.replies.Ready.TheVariants.{Join};
 ghost use Rattle.gaspi_model.specs.Calls.{recorded_reply};
-ghost use Rattle.plain_calls.specs.Looks.{is_join, made_of};
+ghost use Rattle.plain_calls.specs.Looks.{made_of};
 ghost use Rattle.plain_calls.specs.Memory.{is_send, looks_with_memory, keeps_memory, takes_memory};
 ghost use Rattle.plain_machine.specs.Looking.{IsFindingIn, join_event};
 ghost use Rattle.plain_machine.specs.Machine.{is_still};
@@ -140,7 +141,7 @@ impl Machine {
     ) -> Result<Reply, StepFault>
         requires declared { is_declared self.old caller.rank caller.thread ≡ true }
         requires look { IsFindingIn look self.old caller call.now }
-        requires unjoined { is_join look.ready ≡ false }
+        requires unjoined { is_joining look.ready ≡ false }
         ensures reply { IfOk result (λ reply. reply ≡ recorded_reply look.ready) }
         ensures step { Steps (made_of result) self.old self.new (step self.old (Called caller call.now (recorded_reply look.ready))) }
         ensures ample { keeps_memory call.now ≡ false → result ≢ Err StepFault.NoMemory }

@@ -171,7 +171,7 @@ reset-found limits posts memory call value h =
     check_then (nat_lt call.note limits.notes) _ _ (Some (replies.Value value)) h1 (λ noted h2.
     record { mine = mine; there = hm; noted = noted; value_is = same-value _ value (same_Ok _ _ h2) }))
 
-index-there : (xs : List ℕ) (i x : ℕ) → slice_get xs i ≡ Some x → slice_index xs i ≡ x
+pub index-there : (xs : List ℕ) (i x : ℕ) → slice_get xs i ≡ Some x → slice_index xs i ≡ x
 index-there [] i x h = absurd (let no : ⊥ = cc in no)
 index-there (y ∷ ys) zero x h = (let is : y ≡ x = cc in is)
 index-there (y ∷ ys) (suc i) x h = index-there ys i x h
@@ -240,11 +240,22 @@ waited s t c call sound h =
           ∙ ap (λ (p : Posts). record s { posts = slice_set s.posts c.rank p }) after;
     }
 
-alloc-found : (posts : Posts) (call : alloc.Alloc) → alloc_finds posts call ≡ Ok (Some replies.Done) → (nat_lt call.seg 32 ≡ true) × (extent_in posts.segments.own call.seg ≡ None)
+pub alloc-found : (posts : Posts) (call : alloc.Alloc) → alloc_finds posts call ≡ Ok (Some replies.Done) → (nat_lt call.seg 32 ≡ true) × (extent_in posts.segments.own call.seg ≡ None)
 alloc-found posts call h =
     bind_then (alloc_checks posts.segments.own call.seg call.size) _ (Some replies.Done) h (λ fits hc h1.
     check_then (nat_lt call.seg 32) _ _ fits hc (λ numbered h2.
     absent_then (extent_in posts.segments.own call.seg) _ _ fits h2 (λ free h3. (numbered, free))))
+
+-- a segment that a rank has not is not in its memory
+pub segment-absent : (s : State) (me : ℕ) (posts : Posts) (memory : Memory) (seg : ℕ) → IsSound s → slice_get s.posts me ≡ Some posts → slice_get s.memories me ≡ Some memory → nat_lt seg 32 ≡ true
+    → extent_in posts.segments.own seg ≡ None → segment_at memory seg ≡ None
+segment-absent s me posts memory seg sound hp hm numbered absent = go (segment_at memory seg) refl
+  where
+    go : (o : Option Segment) → segment_at memory seg ≡ o → segment_at memory seg ≡ None
+    go None at = at
+    go (Some x) at =
+        let here : extent_in posts.segments.own seg ≡ Some (extent_of x) = rw (sound.coherent.own me posts memory hp hm) (extent-there memory.segments seg x numbered at) in
+        absurd (let both : ◌≡◌ {A = Option Extent} None (Some (extent_of x)) = sym absent ∙ here in let no : ⊥ = cc in no)
 
 pub segment-made : (s t : State) (c : CallerId) (call : alloc.Alloc) → IsSound s → step s (Called c (calls.Alloc call) replies.Done) ≡ Ok t → IsMade s t c.rank call.seg call.size
 segment-made s t c call sound h =
@@ -260,7 +271,7 @@ segment-made s t c call sound h =
       posts_there = m.posts_there;
       memory_there = m.memory_there;
       next = next.1;
-      free = free made.0 made.1 m.posts_there m.memory_there found.0 found.1 (segment_at made.1 call.seg) refl;
+      free = segment-absent s c.rank made.0 made.1 call.seg sound m.posts_there m.memory_there found.0 found.1;
       after = m.leaves ∙ ap (λ (n : ℕ). record s {
         posts = slice_set s.posts c.rank (record (counted made.0) {
           segments = record made.0.segments {
@@ -274,13 +285,6 @@ segment-made s t c call sound h =
         });
       }) (index-there made.0.segments.next_generations call.seg next.0 next.1);
     }
-  where
-    free : (posts : Posts) (memory : Memory) → slice_get s.posts c.rank ≡ Some posts → slice_get s.memories c.rank ≡ Some memory → nat_lt call.seg 32 ≡ true → extent_in posts.segments.own call.seg ≡ None
-        → (o : Option Segment) → segment_at memory call.seg ≡ o → segment_at memory call.seg ≡ None
-    free posts memory hp hm numbered absent None at = at
-    free posts memory hp hm numbered absent (Some x) at =
-        let here : extent_in posts.segments.own call.seg ≡ Some (extent_of x) = rw (sound.coherent.own c.rank posts memory hp hm) (extent-there memory.segments call.seg x numbered at) in
-        absurd (let both : ◌≡◌ {A = Option Extent} None (Some (extent_of x)) = sym absent ∙ here in let no : ⊥ = cc in no)
 
 delete-found : (posts : Posts) (call : delete.Delete) → delete_finds posts call ≡ Ok (Some replies.Done)
     → (mine : Extent) × (extent_in posts.segments.own call.seg ≡ Some mine) × (user_of posts.queues call.seg ≡ None)

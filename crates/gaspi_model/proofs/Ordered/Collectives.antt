@@ -38,13 +38,14 @@ use Rattle.gaspi_model.specs.Posting as posting
 use Rattle.gaspi_model.specs.Sound.{IsSound}
 use Rattle.gaspi_model.specs.State.{opening, opening_group}
 use Rattle.gaspi_model.specs.Step.{step, after, reached}
-use Rattle.gaspi_model.specs.Turns.{is_join_on, is_completion_on, joins_on, completions_on, Grows, IsJoinDone, IsCompletionDone, IsFolded}
+use Rattle.gaspi_model.specs.Turns.{is_join_on, is_completion_on, joins_on, completions_on, Grows, IsCompletionDone, IsFolded}
 use Rattle.gaspi_model.specs.declared.states.Posts.{Posts}
 use Rattle.gaspi_model.specs.declared.states.State.{State}
 use Rattle.gaspi_types.proofs.Items.{slice_get-set_same, slice_get-set_other, front-of-joined}
 use Rattle.gaspi_model.proofs.GroupEffects.{done-step, join-step}
 use Rattle.gaspi_model.proofs.Histories.{after-first, reached-sound}
 use Rattle.gaspi_model.proofs.IdleSteps.{only-counted}
+use Rattle.gaspi_model.proofs.Listed.Joining.{join-call}
 use Rattle.gaspi_model.proofs.Made.{step-called, step-take, step-put}
 use Rattle.gaspi_model.proofs.Sound.GroupEvents.{ranks-few}
 use Rattle.gaspi_model.proofs.Sound.Contributions.{part-changed, part-there, part-other}
@@ -301,7 +302,7 @@ and-second : (a b : Bool) → (a && b) ≡ true → b ≡ true
 and-second true b h = h
 and-second false b h = absurd (let no : ⊥ = cc in no)
 
-all-given : (p : ℕ → Bool) (xs : List ℕ) (k m : ℕ) (test : ℕ → Bool) → slice_get xs k ≡ Some m → p m ≡ true → list_all test (filter p xs) ≡ true → test m ≡ true
+pub all-given : (p : ℕ → Bool) (xs : List ℕ) (k m : ℕ) (test : ℕ → Bool) → slice_get xs k ≡ Some m → p m ≡ true → list_all test (filter p xs) ≡ true → test m ≡ true
 all-given p [] k m test at passes all = absurd (let no : ⊥ = cc in no)
 all-given p (x ∷ xs) zero m test at passes all =
     let same : x ≡ m = cc in
@@ -316,7 +317,7 @@ all-given p (x ∷ xs) (suc k) m test at passes all = by-first (p x) refl (λ re
         let all' : list_all test (x ∷ filter p xs) ≡ true = rw is at all in
         rest (and-second (test x) (list_all test (filter p xs)) all')
 
-member-given : (g : Group) (me rank : ℕ) → is_turn_full g me ≡ true → IsOneOf g.members rank → rank < 16 → (c : Contribution) × (given_in g (turn_of g me) rank ≡ Some c)
+pub member-given : (g : Group) (me rank : ℕ) → is_turn_full g me ≡ true → IsOneOf g.members rank → rank < 16 → (c : Contribution) × (given_in g (turn_of g me) rank ≡ Some c)
 member-given g me rank full one less = go (given_in g (turn_of g me) rank) refl
   where
     full-of : list_all (λ m. is_some (given_in g (turn_of g me) m)) (members_of one.mask) ≡ true
@@ -330,52 +331,41 @@ member-given g me rank full one less = go (given_in g (turn_of g me) rank) refl
 
 -- What a collective that is done changes, by its call.
 done-changes : (s t : State) (c : CallerId) (id : ℕ) (call : Call) (reply : Reply) (change : Group → Posts → Posts) → (row_of call).group ≡ Some id → is_idle reply ≡ false → ((g : Group) (posts : Posts) → told_posts g c.rank id call posts ≡ change g posts)
-    → IsSound s → step s (Called c call reply) ≡ Ok t → IsCompletionDone s t c id change
+    → IsSound s → step s (Called c call reply) ≡ Ok t → IsCompletionDone s t c id call change
 done-changes s t c id call reply change named awake is sound h =
     let made = done-step s t c id call reply named awake sound h in
     let m = made.5 in
     record {
-      posts = made.0;
-      group = made.1;
-      pending = made.4;
-      posts_there = m.posts_there;
-      group_there = m.there.there;
-      pending_there = m.done.resumed.there;
-      mine = m.done.resumed.mine;
+      pends = record {
+        posts = made.0;
+        group = made.1;
+        pending = made.4;
+        posts_there = m.posts_there;
+        group_there = m.there.there;
+        pending_there = m.done.resumed.there;
+        mine = m.done.resumed.mine;
+        same = join-call made.3.members id call made.4.args m.done.resumed.same named;
+      };
       full = λ rank less one. member-given made.1 c.rank rank m.done.full one (let few = ranks-few s.limits sound.limits in omega arith);
       after = m.leaves ∙ ap (λ (p : Posts). record s { posts = slice_set s.posts c.rank (posting.counted (with_pending id None p)); groups = slice_set s.groups id (with_completed made.1 c.rank) }) (is made.1 made.0);
     }
 
 pub commit-done : (s t : State) (c : CallerId) (call : commit.Commit) → IsSound s → step s (Called c (calls.Commit call) replies.Done) ≡ Ok t
-    → IsCompletionDone s t c call.group (λ g posts. record posts { groups = with_committed posts.groups call.group })
+    → IsCompletionDone s t c call.group (calls.Commit call) (λ g posts. record posts { groups = with_committed posts.groups call.group })
 commit-done s t c call sound h = done-changes s t c call.group (calls.Commit call) replies.Done (λ g posts. record posts { groups = with_committed posts.groups call.group }) refl refl (λ g posts. refl) sound h
 
-pub barrier-done : (s t : State) (c : CallerId) (call : barrier.Barrier) → IsSound s → step s (Called c (calls.Barrier call) replies.Done) ≡ Ok t → IsCompletionDone s t c call.group (λ g posts. posts)
+pub barrier-done : (s t : State) (c : CallerId) (call : barrier.Barrier) → IsSound s → step s (Called c (calls.Barrier call) replies.Done) ≡ Ok t
+    → IsCompletionDone s t c call.group (calls.Barrier call) (λ g posts. posts)
 barrier-done s t c call sound h = done-changes s t c call.group (calls.Barrier call) replies.Done (λ g posts. posts) refl refl (λ g posts. refl) sound h
 
 pub create-done : (s t : State) (c : CallerId) (call : create.Create) → IsSound s → step s (Called c (calls.Create call) replies.Done) ≡ Ok t
-    → IsCompletionDone s t c call.group (λ g posts. with_made_known call.seg call.size (turn_made g c.rank) posts)
+    → IsCompletionDone s t c call.group (calls.Create call) (λ g posts. with_made_known call.seg call.size (turn_made g c.rank) posts)
 create-done s t c call sound h =
     done-changes s t c call.group (calls.Create call) replies.Done (λ g posts. with_made_known call.seg call.size (turn_made g c.rank) posts) refl refl (λ g posts. refl) sound h
 
 pub allreduce-done : (s t : State) (c : CallerId) (call : allreduce.Allreduce) (answer : TypedNumbers) → IsSound s → step s (Called c (calls.Allreduce call) (replies.List answer)) ≡ Ok t
-    → IsCompletionDone s t c call.group (λ g posts. posts)
+    → IsCompletionDone s t c call.group (calls.Allreduce call) (λ g posts. posts)
 allreduce-done s t c call answer sound h = done-changes s t c call.group (calls.Allreduce call) (replies.List answer) (λ g posts. posts) refl refl (λ g posts. refl) sound h
-
-pub join-done : (s t : State) (c : CallerId) (id : ℕ) (args : Args) → IsSound s → step s (Joined c id args) ≡ Ok t → IsJoinDone s t c id args
-join-done s t c id args sound h =
-    let made = join-step s t c id args sound h in
-    let m = made.5 in
-    record {
-      posts = made.0;
-      memory = made.3;
-      group = made.1;
-      posts_there = m.posts_there;
-      memory_there = m.memory_there;
-      group_there = m.there.there;
-      none = m.may.none;
-      after = m.leaves;
-    }
 
 -- An allreduce that is done.
 same-list : (a b : TypedNumbers) → replies.List a ≡ replies.List b → a ≡ b
@@ -467,7 +457,7 @@ barrier-joined w history s t c call g rank world h made at less one =
     let done = barrier-done s t c call sound made in
     let step = done-step s t c call.group (calls.Barrier call) replies.Done refl refl sound made in
     let count = counted w history s call.group world h step.5.there.within in
-    let same : done.group ≡ g = (let some : ◌≡◌ {A = Option Group} (Some done.group) (Some g) = sym done.group_there ∙ at in cc) in
+    let same : done.pends.group ≡ g = (let some : ◌≡◌ {A = Option Group} (Some done.pends.group) (Some g) = sym done.pends.group_there ∙ at in cc) in
     let same' : count.group ≡ g = (let some : ◌≡◌ {A = Option Group} (Some count.group) (Some g) = sym count.there ∙ at in cc) in
     let given = done.full rank less (subst (λ (z : Group). IsOneOf z.members rank) (sym same) one) in
     let given' : given_in g (turn_of g c.rank) rank ≡ Some given.0 = subst (λ (z : Group). given_in z (turn_of z c.rank) rank ≡ Some given.0) same given.1 in

@@ -125,14 +125,14 @@ committed-set : (groups : Handles) (id : ℕ) (h : Handle) → handle_at groups 
 committed-set groups id h at within = entry-set_same groups.table id _ within ∙ ap (option_map (λ (x : Handle). record x { stage = Committed })) at
 
 -- the contribution of a collective that is done
-create-args : (members : ℕ) (call : create.Create) (args : Args) → args_of members (calls.Create call) ≡ Some args → args.coll ≡ colls.Create call.seg call.size
+pub create-args : (members : ℕ) (call : create.Create) (args : Args) → args_of members (calls.Create call) ≡ Some args → args.coll ≡ colls.Create call.seg call.size
 create-args members call args is = go (nat_lt call.seg 4294967296 && nat_lt call.size 4294967296) is
   where
     go : (b : Bool) → (if b then Some (plain_args (colls.Create call.seg call.size)) else None) ≡ Some args → args.coll ≡ colls.Create call.seg call.size
     go false is = absurd (let no : ⊥ = cc in no)
     go true is = (let same : plain_args (colls.Create call.seg call.size) ≡ args = cc in ap (λ (a : Args). a.coll) (sym same))
 
-commit-args : (members : ℕ) (call : commit.Commit) (args : Args) → args_of members (calls.Commit call) ≡ Some args → args.coll ≡ colls.Commit members
+pub commit-args : (members : ℕ) (call : commit.Commit) (args : Args) → args_of members (calls.Commit call) ≡ Some args → args.coll ≡ colls.Commit members
 commit-args members call args is = (let same : plain_args (colls.Commit members) ≡ args = cc in ap (λ (a : Args). a.coll) (sym same))
 
 -- the segments of members were made so

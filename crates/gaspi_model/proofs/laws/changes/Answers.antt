@@ -8,7 +8,10 @@ use Rattle.gaspi_model.proofs.Changed.QueueCalls.{purge-done, sized, state-answe
 use Rattle.gaspi_model.proofs.Changed.Messages.{message-sent, message-received}
 use Rattle.gaspi_model.proofs.Changed.GroupCalls.{group-made, group-added, group-dropped}
 use Rattle.gaspi_model.proofs.Changed.Posted.{post-done}
-use Rattle.gaspi_model.proofs.Ordered.Collectives.{join-done, commit-done, barrier-done, create-done, allreduce-done, allreduce-folded}
+use Rattle.gaspi_model.proofs.Changed.Ends.{ended}
+use Rattle.gaspi_model.proofs.Changed.Joins.{join-done, create-joined}
+use Rattle.gaspi_model.proofs.Changed.Known.{create-known}
+use Rattle.gaspi_model.proofs.Ordered.Collectives.{commit-done, barrier-done, create-done, allreduce-done, allreduce-folded}
 use Rattle.gaspi_model.proofs.laws.changes.Goals as goal
 
 pub returns-clause-load : goal.returns-clause-load
@@ -95,6 +98,9 @@ returns-clause-posted c = post-done
 pub returns-clause-joined : goal.returns-clause-joined
 returns-clause-joined c = join-done
 
+pub returns-clause-create_joined : goal.returns-clause-create_joined
+returns-clause-create_joined c = create-joined
+
 pub returns-clause-committed : goal.returns-clause-committed
 returns-clause-committed c = commit-done
 
@@ -103,6 +109,12 @@ returns-clause-barrier c = barrier-done
 
 pub returns-clause-created : goal.returns-clause-created
 returns-clause-created c = create-done
+
+pub returns-clause-known : goal.returns-clause-known
+returns-clause-known c = create-known
+
+pub returns-clause-ended : goal.returns-clause-ended
+returns-clause-ended c = ended
 
 pub returns-clause-reduced : goal.returns-clause-reduced
 returns-clause-reduced c = allreduce-done

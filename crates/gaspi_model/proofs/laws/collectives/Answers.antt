@@ -1,4 +1,5 @@
 use Rattle.gaspi_model.proofs.Ordered.Collectives.{joins-counted, turns-agree, group-grows, same-fold, barrier-joined}
+use Rattle.gaspi_model.proofs.Listed.Readiness.{ready-where-full, waits-where-late, unready-waits, timeout-waits}
 use Rattle.gaspi_model.proofs.laws.collectives.Goals as goal
 
 pub returns-clause-counted : goal.returns-clause-counted
@@ -15,3 +16,15 @@ returns-clause-same c = same-fold
 
 pub returns-clause-barrier : goal.returns-clause-barrier
 returns-clause-barrier c = barrier-joined
+
+pub returns-clause-ready : goal.returns-clause-ready
+returns-clause-ready c = ready-where-full
+
+pub returns-clause-waits : goal.returns-clause-waits
+returns-clause-waits c = waits-where-late
+
+pub returns-clause-not_ready : goal.returns-clause-not_ready
+returns-clause-not_ready c = unready-waits
+
+pub returns-clause-timed_out : goal.returns-clause-timed_out
+returns-clause-timed_out c = timeout-waits
