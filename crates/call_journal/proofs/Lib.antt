@@ -1,6 +1,1 @@
-pub mod JournalLines
-pub mod RangesSoFar
-pub mod ReadJournals
-pub mod ReadLines
 pub mod Replays
-pub mod WrittenLines

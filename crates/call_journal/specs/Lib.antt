@@ -1,3 +1,1 @@
-pub mod Additions
-pub mod JournalText
 pub mod Verdicts

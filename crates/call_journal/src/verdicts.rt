@@ -3,9 +3,9 @@
 ghost use Rattle.std.specs.Prelude.{IfOk};
 ghost use Rattle.call_journal.specs.Verdicts.{IsVerdict};
 
-use crate::Journal;
 use gaspi_model::{StepFault, Why};
 use gaspi_types::{NoMemory, Shape};
+use journal_texts::Journal;
 use plain_machine::Machine;
 use std::alloc::Global;
 

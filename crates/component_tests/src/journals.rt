@@ -1,11 +1,11 @@
 //! Journals: made of events, as a text, and their verdict.
 
 use crate::one_rank::{notified, shape, taken};
-use call_journal::{
-    Journal, JournalFault, ReservedJournal, Verdict, check, have_own_values,
-    journals_differ_in_text, read, write,
-};
+use call_journal::{Verdict, check};
 use gaspi_types::Bytes;
+use journal_texts::{
+    Journal, JournalFault, ReservedJournal, have_own_values, journals_differ_in_text, read, write,
+};
 use std::alloc::Global;
 use std::process::Abort;
 use std::test::Fail;

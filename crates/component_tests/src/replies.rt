@@ -1,7 +1,7 @@
 //! Replies compared.
 
-use gaspi_types::{Coll, NoMemory, NumType, Numbers, Refusal, Reply, Rows, are_in_type};
 use call_rules::same_reply;
+use gaspi_types::{Coll, NoMemory, NumType, Numbers, Refusal, Reply, Rows, are_in_type};
 use std::alloc::Global;
 use std::test::Fail;
 

@@ -8,7 +8,7 @@ use Rattle.gaspi_types.specs.declared.events.Event.TheVariants.{Called, Joined, 
 use Rattle.gaspi_types.specs.declared.groups.Args.{Args}
 use Rattle.gaspi_types.specs.NumberTypes.{TypedNumbers}
 use Rattle.gaspi_texts.specs.EventText.{HasOwnValues}
-use Rattle.call_journal.specs.JournalText.{HaveOwnValues}
+use Rattle.journal_texts.specs.JournalText.{HaveOwnValues}
 use Rattle.gaspi_model.specs.CollectiveCalls.{plain_args, args_of, joining_call}
 use Rattle.gaspi_model.specs.Step.{step, group_in}
 use Rattle.gaspi_model.specs.declared.states.State.{State}

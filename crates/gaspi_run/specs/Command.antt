@@ -12,7 +12,7 @@ use Rattle.gaspi_io.specs.Source.{without, TakesAtMost}
 use Rattle.gaspi_model.specs.Step.{is_legal}
 use Rattle.gaspi_model.specs.declared.states.Why.{Why}
 use Rattle.gaspi_model.specs.declared.states.Why.TheVariants as whys
-use Rattle.call_journal.specs.JournalText.{journal_text, AreInRange, IsFaultyAt}
+use Rattle.journal_texts.specs.JournalText.{journal_text, AreInRange, IsFaultyAt}
 use Rattle.call_journal.specs.Verdicts.{IsVerdict}
 use Rattle.call_journal.specs.declared.verdicts.Verdict.{Verdict}
 use Rattle.call_journal.specs.declared.verdicts.Verdict.TheVariants.{Legal, Illegal}

@@ -8,11 +8,11 @@ ghost use Rattle.command_line.specs.declared.words.Command.{Command};
 ghost use Rattle.gaspi_run.specs.Command.{fault_text, HasLimit, Refuses, Answers};
 
 use crate::telling::tell;
-use call_journal::Journal;
 use command_line::{Command, read_words};
 use gaspi_io::{Failed, ReadStop, Sink, Source, read_all, write_all};
 use gaspi_texts::write_number;
 use gaspi_types::{Bytes, NoMemory, Rows};
+use journal_texts::Journal;
 use rank_script::{MOST_INPUT_BYTES, ScriptFault};
 use std::alloc::Global;
 use std::sync::Wait;

@@ -1,16 +1,16 @@
 //! The schedule of a world's scripts on one thread.
 
 ghost use Rattle.std.specs.Prelude.{◌≡◌, ℕ, ◌<◌, ◌≤◌, ◌++◌, OnOk, IfOk, true};
-ghost use Rattle.call_journal.specs.JournalText.{AreInRange, HaveOwnValues};
+ghost use Rattle.journal_texts.specs.JournalText.{AreInRange, HaveOwnValues};
 ghost use Rattle.gaspi_model.specs.Step.{is_legal};
 ghost use Rattle.rank_script.specs.WorldText.{AreScriptsOf};
 ghost use Rattle.gaspi_run.specs.Schedule.{starts, rank_starts, thread_starts, started, IsScheduled, HasSettled, HaveEnded};
 
 use crate::moves::turn;
 use crate::turns::{Finished, Turns, Waiting};
-use call_journal::{Journal, journal_is_in_range};
 use gaspi_model::{enabled, endings, settling, soundness};
 use gaspi_types::{CallerId, NoMemory, RankId, Rows, Shape, ThreadId};
+use journal_texts::{Journal, journal_is_in_range};
 use plain_machine::Machine;
 use rank_script::{Cursor, Scripts, runs};
 use std::alloc::Global;

@@ -1,7 +1,7 @@
 //! What the commands tell of their inputs.
 
 ghost use Rattle.std.specs.Prelude.{◌≡◌, ◌<◌, ◌≤◌, ◌+◌, ◌^◌, ℕ, length, [], IfOk, IsErrOf, Err, true, false};
-ghost use Rattle.call_journal.specs.JournalText.{HaveOwnValues};
+ghost use Rattle.journal_texts.specs.JournalText.{HaveOwnValues};
 ghost use Rattle.rank_script.specs.WorldText.{world_text, checked_world};
 ghost use Rattle.rank_script.specs.declared.scripts.ScriptFault.TheVariants as script_faults;
 ghost use Rattle.text_lines.specs.Lines.{fed_lines};
@@ -10,11 +10,12 @@ ghost use Rattle.gaspi_run.specs.Command.{is_any_wrong, is_any_limit, run_status
 use crate::scheduling::schedule;
 use crate::transcripts::write_transcripts;
 use crate::turns::Finished;
-use call_journal::{Journal, JournalFault, Verdict, check, read, write};
+use call_journal::{Verdict, check};
 use command_line::Command;
 use gaspi_model::Why;
 use gaspi_texts::write_number;
 use gaspi_types::{Bytes, NoMemory, Rows, Shape};
+use journal_texts::{Journal, JournalFault, read, write};
 use rank_script::{RunOutcome, ScriptFault, Scripts, read_input, read_world};
 use std::alloc::Global;
 use text_lines::first_line;

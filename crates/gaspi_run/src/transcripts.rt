@@ -10,9 +10,9 @@ ghost use Rattle.rank_script.specs.Runs.{going_on, outcome_of};
 ghost use Rattle.gaspi_run.specs.Transcripts.{call_line, ended_line, outcome_line, transcript, thread_transcript, rank_transcripts, transcripts};
 
 use crate::own_calls::{CallTable, OwnCall, own_calls};
-use call_journal::Journal;
 use gaspi_texts::{write_number, write_reply};
 use gaspi_types::{Bytes, Call, CallerId, NoMemory, RankId, Reply, Shape, ThreadId};
+use journal_texts::Journal;
 use rank_script::{Cursor, RunOutcome, Script, Scripts};
 
 /// Adds a caller as its rank and thread.

@@ -1,0 +1,5 @@
+pub mod JournalLines
+pub mod RangesSoFar
+pub mod ReadJournals
+pub mod ReadLines
+pub mod WrittenLines
