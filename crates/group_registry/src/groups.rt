@@ -3,7 +3,6 @@
 ghost use Rattle.std.specs.Prelude.{◌≡◌, ◌≤◌, ◌<◌, None, IfOk, OnOk, OnErr, IsOk};
 ghost use Rattle.gaspi_types.specs.Groups.{opening_handles, handle_at, next_group, with_group, stage_of, building_at, with_added, drop_checks, without_group, commit_list, with_committed};
 
-use crate::handles::{building_at, handle_at, opening_handles, put};
 use gaspi_types::{
     GroupId, Handle, Handles, NoMemory, RankId, Refusal, Stage, is_member, with_member,
 };
@@ -43,7 +42,7 @@ impl Groups {
     {
         Ok(Groups {
             me: rank,
-            handles: opening_handles(alloc, ranks)?,
+            handles: Handles::opening(alloc, ranks)?,
         })
     }
 
@@ -71,7 +70,7 @@ impl Groups {
             stage: Stage::Building,
             members: 0,
         };
-        put(&mut self.handles, id.index(), Some(handle));
+        self.handles.set(u64::from(id.number()), Some(handle));
         self.handles.made = id.number();
         Ok(id)
     }
@@ -84,13 +83,9 @@ impl Groups {
         ensures alone { OnOk result (AddsRank self.old.groups self.new.groups group rank) }
         ensures refused { OnErr result (self.new ≡ self.old) }
     {
-        let handle = building_at(&self.handles, group)?;
+        let handle = self.handles.building(group)?;
         let members = with_member(handle.members, rank);
-        put(
-            &mut self.handles,
-            group as usize,
-            Some(Handle { members, ..handle }),
-        );
+        self.handles.set(group, Some(Handle { members, ..handle }));
         Ok(())
     }
 
@@ -100,13 +95,13 @@ impl Groups {
         ensures dropped { OnOk result (self.new ≡ with_groups self.old (without_group self.old.groups group)) }
         ensures refused { OnErr result (self.new ≡ self.old) }
     {
-        handle_at(&self.handles, group).ok_or(Refusal::NoGroup)?;
+        self.handles.handle(group).ok_or(Refusal::NoGroup)?;
         if group == 0 {
             return Err(Refusal::GroupStage {
                 stage: Stage::Committed,
             });
         }
-        put(&mut self.handles, group as usize, None);
+        self.handles.set(group, None);
         Ok(())
     }
 
@@ -114,7 +109,7 @@ impl Groups {
     pub fn stage(&self, group: u64) -> Result<Stage, Refusal>
         ensures { result ≡ stage_of self.now.groups group }
     {
-        let handle = handle_at(&self.handles, group).ok_or(Refusal::NoGroup)?;
+        let handle = self.handles.handle(group).ok_or(Refusal::NoGroup)?;
         Ok(handle.stage)
     }
 
@@ -124,7 +119,7 @@ impl Groups {
         ensures answer { result ≡ commit_list self.now.groups self.now.me group }
         ensures built { OnOk result (IsOk (building_at self.now.groups group)) }
     {
-        let members = building_at(&self.handles, group)?.members;
+        let members = self.handles.building(group)?.members;
         if !is_member(members, self.me) {
             return Err(Refusal::NotMember);
         }
@@ -136,11 +131,11 @@ impl Groups {
         requires { IsOk (building_at self.old.groups group) }
         ensures { self.new ≡ with_groups self.old (with_committed self.old.groups group) }
     {
-        let handle = building_at(&self.handles, group).unwrap();
+        let handle = self.handles.building(group).unwrap();
         let handle = Handle {
             stage: Stage::Committed,
             ..handle
         };
-        put(&mut self.handles, group as usize, Some(handle));
+        self.handles.set(group, Some(handle));
     }
 }

@@ -7,7 +7,6 @@
 #![tactic(auto)]
 
 mod groups;
-mod handles;
 mod laws;
 mod meetings;
 
