@@ -155,3 +155,45 @@ fn a_barrier_joins_and_completes(rt: HostRuntime) -> Result<(), Fail> {
     assert!(rt; !machine.is_pending(caller(), &barrier()));
     Ok(())
 }
+
+/// A look at a barrier of a caller finds that it may join, and it does.
+fn joins(rt: &impl Abort, alloc: Global, machine: &mut Machine, call: &Call) -> Result<(), Fail> {
+    let me = caller();
+    assert!(rt; machine.is_declared(me));
+    let joined = match machine.answer(alloc, me, call)? {
+        Ready::Join(args) => machine.join(alloc, me, call, args).is_ok(),
+        Ready::Reply(_) | Ready::NotReady => false,
+    };
+    assert!(rt; joined);
+    Ok(())
+}
+
+/// A look at it finds its reply, and that is recorded.
+fn completes(
+    rt: &impl Abort,
+    alloc: Global,
+    machine: &mut Machine,
+    call: &Call,
+) -> Result<(), Fail> {
+    let me = caller();
+    assert!(rt; machine.is_declared(me));
+    let look = machine.look(alloc, me, call)?;
+    assert!(rt; !look.is_join());
+    let recorded = machine.record(alloc, me, call, look);
+    assert!(rt; recorded.is_ok());
+    Ok(())
+}
+
+#[test]
+fn a_barrier_is_looked_at_joined_and_recorded(rt: HostRuntime) -> Result<(), Fail> {
+    let alloc = rt.alloc();
+    let mut machine = start(alloc)?;
+    let call = barrier();
+    has_room(&rt, &machine, 999);
+    joins(&rt, alloc, &mut machine, &call)?;
+    assert!(rt; machine.is_pending(caller(), &call));
+    completes(&rt, alloc, &mut machine, &call)?;
+    assert!(rt; !machine.is_pending(caller(), &call));
+    has_room(&rt, &machine, 997);
+    Ok(())
+}
