@@ -7,8 +7,8 @@ ghost use Rattle.gaspi_model.specs.Calls.{recorded_reply};
 ghost use Rattle.gaspi_model.specs.CollectiveCalls.{is_reply_of, is_joining};
 
 use crate::replies::is_idle_ready;
-use gaspi_types::{Message, Ready, Reply};
 use call_rules::same_reply;
+use gaspi_types::{Message, Ready, Reply};
 use segment_tables::Kinds;
 
 /// What a look at a call found: what it answers, and, where it is done, the kinds of the entries that it appends, or the
