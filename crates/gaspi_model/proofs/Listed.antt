@@ -3,4 +3,5 @@ pub mod Enabled
 pub mod Joining
 pub mod Order
 pub mod Readiness
+pub mod Recorded
 pub mod Steps

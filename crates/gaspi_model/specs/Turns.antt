@@ -3,19 +3,25 @@ use Rattle.std.specs.Prelude.{◌≡◌, ℕ, ◌+◌, ◌<◌, ◌==◌, ◌&&�
 use Rattle.std.specs.Option.{option_and_then}
 use Rattle.gaspi_types.specs.CallRows.{row_of}
 use Rattle.gaspi_types.specs.Collectives.{given_in, turn_of, turn_fold, with_joined, with_completed}
+use Rattle.gaspi_types.specs.Groups.{handle_at}
 use Rattle.gaspi_types.specs.NumberTypes.{TypedNumbers}
 use Rattle.gaspi_types.specs.Replies.{is_idle}
 use Rattle.gaspi_types.specs.SegmentTables.{extent_in}
 use Rattle.gaspi_types.specs.Tables.{entry_at}
 use Rattle.gaspi_types.specs.declared.calls.Call.{Call}
+use Rattle.gaspi_types.specs.declared.calls.Call.TheVariants as calls
 use Rattle.gaspi_types.specs.declared.calls.collectives.Allreduce as allreduce
 use Rattle.gaspi_types.specs.declared.collectives.Coll.TheVariants as colls
+use Rattle.gaspi_types.specs.declared.collectives.Stage.TheVariants.{Building, Committed}
 use Rattle.gaspi_types.specs.declared.events.Event.{Event}
 use Rattle.gaspi_types.specs.declared.events.Event.TheVariants.{Called, Joined}
 use Rattle.gaspi_types.specs.declared.groups.Args.{Args}
 use Rattle.gaspi_types.specs.declared.groups.Contribution.{Contribution}
 use Rattle.gaspi_types.specs.declared.groups.Group.{Group}
+use Rattle.gaspi_types.specs.declared.groups.Handle.{Handle}
 use Rattle.gaspi_types.specs.declared.groups.Pending.{Pending}
+use Rattle.gaspi_types.specs.declared.replies.Reply.{Reply}
+use Rattle.gaspi_types.specs.declared.replies.Reply.TheVariants as replies
 use Rattle.gaspi_types.specs.declared.segments.Extent.{Extent}
 use Rattle.gaspi_types.specs.declared.shapes.CallerId.{CallerId}
 use Rattle.gaspi_model.specs.CollectiveCalls.{joining_call, with_pending}
@@ -25,6 +31,7 @@ use Rattle.gaspi_model.specs.Posting.{counted}
 use Rattle.gaspi_model.specs.declared.states.Posts.{Posts}
 use Rattle.gaspi_model.specs.declared.states.Memory.{Memory}
 use Rattle.gaspi_model.specs.declared.states.State.{State}
+use Rattle.gaspi_model.specs.declared.states.ThreadState.TheVariants.{Running}
 
 -- a join of a rank on a group
 abbrev pub is_join_on : ℕ → ℕ → Event → Bool
@@ -66,21 +73,29 @@ pub record IsPendingAs (s : State) (c : CallerId) (id : ℕ) (call : Call) : Typ
   pub mine : pending.thread ≡ c.thread
   pub same : joining_call id pending.args ≡ call
 
--- It waits: a member has not given to its rank's turn.
+-- It waits: its caller has not ended, and a member has not given to its rank's turn.
 pub record IsWaiting (s : State) (c : CallerId) (id : ℕ) (call : Call) : Type 0 where
   pub pends : IsPendingAs s c id call
+  pub running : slice_get pends.posts.threads c.thread ≡ Some Running
   pub late : ℕ
+  pub ranked : late < s.limits.ranks
   pub member : IsOneOf pends.group.members late
   pub missing : given_in pends.group (turn_of pends.group c.rank) late ≡ None
 
--- A join of any collective but a segment_create: none of its rank was pending on the group. It gives to its rank's turn and is
--- pending for its caller; and nothing else has changed but the count of events.
+-- what a rank gives to its turn stands there afterwards
+abbrev pub Gives : State → ℕ → Group → ℕ → Contribution → Type 0
+Gives t id group me c = (new : Group) × (slice_get t.groups id ≡ Some new) × (given_in new (turn_of group me) me ≡ Some c)
+
+-- A join of any collective but a segment_create: its caller has not ended, and none of its rank was pending on the group. It gives to
+-- its rank's turn and is pending for its caller; and nothing else has changed but the count of events.
 pub record IsJoinDone (s t : State) (c : CallerId) (id : ℕ) (args : Args) : Type 0 where
   pub posts : Posts
   pub group : Group
   pub posts_there : slice_get s.posts c.rank ≡ Some posts
   pub group_there : slice_get s.groups id ≡ Some group
+  pub running : slice_get posts.threads c.thread ≡ Some Running
   pub none : entry_at posts.pending id ≡ None
+  pub gives : Gives t id group c.rank (record { args = args; generation = 0 })
   pub after : t ≡ record s {
     posts = slice_set s.posts c.rank (record (counted posts) { pending = slice_set posts.pending id (Some (record { thread = c.thread; args = args })) });
     groups = slice_set s.groups id (with_joined group c.rank (record { args = args; generation = 0 }));
@@ -96,7 +111,9 @@ pub record IsCreateJoined (s t : State) (c : CallerId) (id : ℕ) (args : Args) 
   pub posts_there : slice_get s.posts c.rank ≡ Some posts
   pub memory_there : slice_get s.memories c.rank ≡ Some memory
   pub group_there : slice_get s.groups id ≡ Some group
+  pub running : slice_get posts.threads c.thread ≡ Some Running
   pub none : entry_at posts.pending id ≡ None
+  pub gives : Gives t id group c.rank (record { args = args; generation = generation })
   pub next : slice_get posts.segments.next_generations segment ≡ Some generation
   pub free : segment_at memory segment ≡ None
   pub after : t ≡ record s {
@@ -114,16 +131,31 @@ pub record IsCreateJoined (s t : State) (c : CallerId) (id : ℕ) (args : Args) 
     groups = slice_set s.groups id (with_joined group c.rank (record { args = args; generation = generation }));
   }
 
--- A collective that is done: it was pending for its caller, with its arguments, and every member has given to its turn. None is
--- pending then, its rank has completed its turn, the posts of its rank are changed so, and nothing else has changed but the count of
+-- A collective that is done: it was pending for its caller, which has not ended, with its arguments, and every member has given to its
+-- turn. None is pending then, its rank has completed its turn, the posts of its rank are changed so, and nothing else has changed but the count of
 -- events.
 pub record IsCompletionDone (s t : State) (c : CallerId) (id : ℕ) (call : Call) (change : Group → Posts → Posts) : Type 0 where
   pub pends : IsPendingAs s c id call
+  pub running : slice_get pends.posts.threads c.thread ≡ Some Running
   pub full : HaveAllGiven s.limits.ranks pends.group c.rank
   pub after : t ≡ record s {
     posts = slice_set s.posts c.rank (counted (with_pending id None (change pends.group pends.posts)));
     groups = slice_set s.groups id (with_completed pends.group c.rank);
   }
+
+-- A commit that is done: the group was built yet, with just the ranks that are fixed for it, and is committed. (groups)
+pub record IsCommitDone (s t : State) (c : CallerId) (id : ℕ) : Type 0 where
+  pub old : Handle
+  pub done : IsCompletionDone s t c id (calls.Commit (record { group = id }))
+      (λ g posts. record posts { groups = record posts.groups { table = slice_set posts.groups.table id (Some (record old { stage = Committed })) } })
+  pub old_there : handle_at done.pends.posts.groups id ≡ Some old
+  pub building : old.stage ≡ Building
+  pub fixed : done.pends.group.members ≡ Some old.members
+
+-- the replies of collectives that are done: of an allreduce numbers, and of each other that it is done
+abbrev pub IsReplyFor : Call → Reply → Type 0
+IsReplyFor (calls.Allreduce call) reply = (numbers : TypedNumbers) × (reply ≡ replies.List numbers)
+IsReplyFor call reply = reply ≡ replies.Done
 
 -- what a rank knows of a segment of a rank
 abbrev pub known_of : Posts → ℕ → ℕ → Option Extent

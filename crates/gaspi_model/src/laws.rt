@@ -4,7 +4,7 @@ ghost use Rattle.std.specs.Prelude.{◌==◌, ◌≡◌, ◌≢◌, ℕ, ◌+◌
 ghost use Rattle.byteorder.specs.Endian.{little_bytes};
 ghost use Rattle.gaspi_types.specs.CallRows.{need_of, row_of};
 ghost use Rattle.gaspi_types.specs.declared.call_rows.Posting.{Posting};
-ghost use Rattle.gaspi_types.specs.Groups.{handle_of_all, with_committed};
+ghost use Rattle.gaspi_types.specs.Groups.{handle_of_all};
 ghost use Rattle.gaspi_types.specs.declared.collectives.Stage.TheVariants.{Committed};
 ghost use Rattle.gaspi_types.specs.declared.groups.Handle.{Handle};
 ghost use Rattle.gaspi_types.specs.Replies.{is_idle, same_reply};
@@ -50,11 +50,11 @@ ghost use Rattle.gaspi_types.specs.declared.calls.collectives.Commit as commit;
 ghost use Rattle.gaspi_types.specs.declared.calls.collectives.Create as create;
 ghost use Rattle.gaspi_types.specs.declared.groups.Contribution.{Contribution};
 ghost use Rattle.gaspi_types.specs.declared.groups.Group.{Group};
-ghost use Rattle.gaspi_types.specs.Collectives.{given_in, turn_of, turn_made};
+ghost use Rattle.gaspi_types.specs.Collectives.{given_in, part_of, turn_of, turn_made};
 ghost use Rattle.gaspi_types.specs.NumberTypes.{TypedNumbers};
 ghost use Rattle.gaspi_types.specs.Tables.{entry_at};
 ghost use Rattle.gaspi_model.specs.Contributions.{IsOneOf, waits};
-ghost use Rattle.gaspi_model.specs.Turns.{AreMadeKnown, Grows, HaveAllGiven, IsCompletionDone, IsCreateJoined, IsFolded, IsJoinDone, IsPendingAs, IsWaiting, completions_on, joins_on};
+ghost use Rattle.gaspi_model.specs.Turns.{AreMadeKnown, Grows, HaveAllGiven, IsCommitDone, IsCompletionDone, IsCreateJoined, IsFolded, IsJoinDone, IsPendingAs, IsReplyFor, IsWaiting, completions_on, joins_on};
 ghost use Rattle.gaspi_types.specs.declared.events.Outcome.TheVariants.{Applied, Failed};
 ghost use Rattle.gaspi_types.specs.declared.events.Outcome.{Outcome};
 ghost use Rattle.gaspi_types.specs.declared.events.Transfer.{Transfer};
@@ -216,7 +216,7 @@ pub fn changes()
     ensures create_joined { (s t : State) (c : CallerId) (id : ℕ) (args : Args) (segment size : ℕ) → IsSound s → args.coll ≡ Create segment size → step s (Joined c id args) ≡ Ok t
         → IsCreateJoined s t c id args segment size }
     ensures committed { (s t : State) (c : CallerId) (call : commit.Commit) → IsSound s → step s (Called c (calls.Commit call) replies.Done) ≡ Ok t
-        → IsCompletionDone s t c call.group (calls.Commit call) (λ g posts. record posts { groups = with_committed posts.groups call.group }) }
+        → IsCommitDone s t c call.group }
     ensures barrier { (s t : State) (c : CallerId) (call : barrier.Barrier) → IsSound s → step s (Called c (calls.Barrier call) replies.Done) ≡ Ok t
         → IsCompletionDone s t c call.group (calls.Barrier call) (λ g posts. posts) }
     ensures created { (s t : State) (c : CallerId) (call : create.Create) → IsSound s → step s (Called c (calls.Create call) replies.Done) ≡ Ok t
@@ -399,23 +399,32 @@ pub fn endings()
         × ((k : ℕ) (reply : Reply) → slice_get (own_calls rank thread history) k ≡ Some (End, reply) → ⊥) }
 {}
 
-/// An event stands in a history with the very reply that its call has: replies that compare as the same are equal, and each
-/// compares as the same as itself.
+/// An event stands in a history with the very reply that a look at its call answers then, or with a timeout where the call is not
+/// ready; and a join stands there where a look at its collective finds that it may join with those arguments. Replies that compare as
+/// the same are equal, and each compares as the same as itself. (GASPI: timeouts)
 pub fn replies()
+    ensures recorded { (s t : State) (c : CallerId) (call : Call) (reply : Reply) → step s (Called c call reply) ≡ Ok t
+        → (found : Ready) × (answer_in s c.rank c.thread call ≡ Some found) × (is_joining found ≡ false) × (reply ≡ recorded_reply found) }
+    ensures joined { (s t : State) (c : CallerId) (id : ℕ) (args : Args) → step s (Joined c id args) ≡ Ok t
+        → answer_in s c.rank c.thread (joining_call id args) ≡ Some (Join args) }
     ensures same { (a b : Reply) → same_reply a b ≡ true → a ≡ b }
     ensures itself { (a : Reply) → same_reply a a ≡ true }
 {}
 
 /// Collectives over legal histories. A rank has joined a group once for each collective that it has completed there, and once
-/// more where one is pending: no contribution counts twice. What is given to one turn agrees in all but values and generation, and
+/// more where one is pending; it has given to as many turns as it has joined, and completed as many as it has completed collectives: no
+/// contribution counts twice. What is given to one turn agrees in all but values and generation, and
 /// stays given. Two members that complete the same turn of an allreduce get the same list, which is (as `changes` says) the fold of
-/// what exactly the members have given to that turn. A collective that is pending for its caller, with its arguments, answers where
-/// every member has given to its turn, and is not ready where one has not; one that is not ready, or times out, is so pending, and a
+/// what exactly the members have given to that turn. A collective that is pending for its caller, which has not ended, with its
+/// arguments, answers where every member has given to its turn, an allreduce with numbers and each other that it is done, and is not
+/// ready where one has not; one that is not ready, or times out, is so pending, and a
 /// member has not given. A barrier that is done was joined by each member more often than its caller had
 /// completed collectives of the group before. (GASPI: collectives, allreduce, barrier)
 pub fn collectives()
     ensures counted { (w : World) (history : List Event) (s : State) (rank id : ℕ) (posts : Posts) → IsWorld w → reached w history ≡ Ok s → slice_get s.posts rank ≡ Some posts → id < 8
         → joins_on rank id history ≡ completions_on rank id history + waits (entry_at posts.pending id) }
+    ensures turns { (w : World) (history : List Event) (s : State) (rank id : ℕ) (g : Group) → IsWorld w → reached w history ≡ Ok s → slice_get s.groups id ≡ Some g
+        → (turn_of g rank ≡ completions_on rank id history) × (length (part_of g rank).contributions ≡ joins_on rank id history) }
     ensures agree { (w : World) (history : List Event) (s : State) (id turn rank other : ℕ) (g : Group) (c d : Contribution) → IsWorld w → reached w history ≡ Ok s
         → slice_get s.groups id ≡ Some g → given_in g turn rank ≡ Some c → given_in g turn other ≡ Some d → c.args.coll ≡ d.args.coll }
     ensures grows { (s t : State) (e : Event) (id : ℕ) (g : Group) → IsSound s → step s e ≡ Ok t → slice_get s.groups id ≡ Some g
@@ -424,11 +433,13 @@ pub fn collectives()
         → step s (Called c (calls.Allreduce a) (replies.List x)) ≡ Ok t → after t between ≡ Ok u → step u (Called d (calls.Allreduce b) (replies.List y)) ≡ Ok v
         → a.group ≡ b.group → slice_get s.groups a.group ≡ Some g → slice_get u.groups b.group ≡ Some k → turn_of g c.rank ≡ turn_of k d.rank → x ≡ y }
     ensures ready { (s : State) (c : CallerId) (id : ℕ) (call : Call) (p : IsPendingAs s c id call) → IsSound s → is_active s c.rank c.thread ≡ true
-        → HaveAllGiven s.limits.ranks p.group c.rank → (reply : Reply) × (answer_in s c.rank c.thread call ≡ Some (ready.Reply reply)) × (is_idle reply ≡ false) }
+        → HaveAllGiven s.limits.ranks p.group c.rank → (reply : Reply) × (answer_in s c.rank c.thread call ≡ Some (ready.Reply reply)) × IsReplyFor call reply }
     ensures waits { (s : State) (c : CallerId) (id : ℕ) (call : Call) → IsSound s → is_active s c.rank c.thread ≡ true → IsWaiting s c id call
         → answer_in s c.rank c.thread call ≡ Some ready.NotReady }
     ensures not_ready { (s : State) (c : CallerId) (id : ℕ) (call : Call) → IsSound s → (row_of call).group ≡ Some id → answer_in s c.rank c.thread call ≡ Some ready.NotReady
         → IsWaiting s c id call }
+    ensures answers { (s t : State) (c : CallerId) (id : ℕ) (call : Call) (reply : Reply) → IsSound s → (row_of call).group ≡ Some id → is_idle reply ≡ false
+        → step s (Called c call reply) ≡ Ok t → IsReplyFor call reply }
     ensures timed_out { (s t : State) (c : CallerId) (id : ℕ) (call : Call) → IsSound s → (row_of call).group ≡ Some id → step s (Called c call replies.Timeout) ≡ Ok t
         → IsWaiting s c id call }
     ensures barrier { (w : World) (history : List Event) (s t : State) (c : CallerId) (call : barrier.Barrier) (g : Group) (rank : ℕ) → IsWorld w → reached w history ≡ Ok s

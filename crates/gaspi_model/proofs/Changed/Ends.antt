@@ -19,7 +19,7 @@ use Rattle.gaspi_model.specs.declared.states.Memory.{Memory}
 use Rattle.gaspi_model.proofs.Made.{step-called}
 use Rattle.gaspi_model.proofs.Same.{same_reply-same}
 
-is-running : (posts : Posts) (thread : ℕ) → is_running (thread_at posts thread) ≡ true → slice_get posts.threads thread ≡ Some Running
+pub is-running : (posts : Posts) (thread : ℕ) → is_running (thread_at posts thread) ≡ true → slice_get posts.threads thread ≡ Some Running
 is-running posts thread runs = go (slice_get posts.threads thread) refl
   where
     go : (o : Option ThreadState) → slice_get posts.threads thread ≡ o → slice_get posts.threads thread ≡ Some Running

@@ -5,7 +5,6 @@ use Rattle.std.proofs.lemmas.Bool.{eq-eqb}
 use Rattle.gaspi_types.specs.CallRows.{row_of}
 use Rattle.gaspi_types.specs.Collectives.{given_in, turn_of, is_turn_full, resume}
 use Rattle.gaspi_types.specs.Masks.{is_member}
-use Rattle.gaspi_types.specs.Replies.{is_idle}
 use Rattle.gaspi_types.specs.Tables.{entry_at}
 use Rattle.gaspi_types.specs.declared.calls.Call.{Call}
 use Rattle.gaspi_types.specs.declared.calls.Call.TheVariants as calls
@@ -32,20 +31,21 @@ use Rattle.gaspi_model.specs.Contributions.{IsOneOf, IsResumable}
 use Rattle.gaspi_model.specs.Sound.{IsSound}
 use Rattle.gaspi_model.specs.State.{thread_at, is_running}
 use Rattle.gaspi_model.specs.Step.{step, group_in, answer_in, is_active}
-use Rattle.gaspi_model.specs.Turns.{HaveAllGiven, IsPendingAs, IsWaiting}
+use Rattle.gaspi_model.specs.Turns.{HaveAllGiven, IsPendingAs, IsReplyFor, IsWaiting}
 use Rattle.gaspi_model.specs.declared.states.Posts.{Posts}
 use Rattle.gaspi_model.specs.declared.states.State.{State}
 use Rattle.gaspi_types.proofs.Chains.{bind_then, found_then, same_Ok}
+use Rattle.gaspi_model.proofs.Changed.Ends.{is-running}
 use Rattle.gaspi_model.proofs.CollectiveFinds.{IsResumed, resumed}
 use Rattle.gaspi_model.proofs.GroupSteps.{step-completed}
 use Rattle.gaspi_model.proofs.Listed.Enabled.{active-posts}
 use Rattle.gaspi_model.proofs.Listed.Joining.{same_args-refl, join-call}
-use Rattle.gaspi_model.proofs.Ordered.Collectives.{member-given}
+use Rattle.gaspi_model.proofs.Ordered.Collectives.{member-given, replied}
 use Rattle.gaspi_model.proofs.Sound.Completions.{group-there, staged-there, staged-cases, commit-args}
 use Rattle.gaspi_model.proofs.Sound.GroupEvents.{ranks-few}
 
 -- the group that a collective names
-joining-names : (id : ℕ) (args : Args) → (row_of (joining_call id args)).group ≡ Some id
+pub joining-names : (id : ℕ) (args : Args) → (row_of (joining_call id args)).group ≡ Some id
 joining-names id args = go args.coll
   where
     go : (coll : Coll) → (row_of (joining_call id (record { coll = coll; values = args.values }))).group ≡ Some id
@@ -138,16 +138,12 @@ late-member g me none = go g.members refl
         let late = filter-late (is_member mask) (λ m. is_some (given_in g (turn_of g me) m)) (range_with_len 0 16) (rw fixed at none) in
         (late.0, record { mask = mask; fixed = fixed; member = late.1 }, none-given (given_in g (turn_of g me) late.0) late.2)
 
-awake : (g : Group) (me : ℕ) (call : Call) → is_idle (full_reply g me call) ≡ false
-awake g me (calls.Allreduce x) = refl
-awake g me call = refl
-
 pub ready-where-full : (s : State) (c : CallerId) (id : ℕ) (call : Call) (p : IsPendingAs s c id call) → IsSound s → is_active s c.rank c.thread ≡ true → HaveAllGiven s.limits.ranks p.group c.rank
-    → (reply : Reply) × (answer_in s c.rank c.thread call ≡ Some (ready.Reply reply)) × (is_idle reply ≡ false)
+    → (reply : Reply) × (answer_in s c.rank c.thread call ≡ Some (ready.Reply reply)) × IsReplyFor call reply
 ready-where-full s c id call p sound active every =
     let full = full-turn p.group c.rank (λ rank one. every rank (pending-members s p.posts p.group c.rank id p.pending sound p.posts_there p.group_there p.pending_there rank one) one) in
     let answers = pending-answer s c id call p sound active in
-    (full_reply p.group c.rank call, answers ∙ rw full refl, awake p.group c.rank call)
+    (full_reply p.group c.rank call, answers ∙ rw full refl, replied p.group c.rank call)
 
 pub waits-where-late : (s : State) (c : CallerId) (id : ℕ) (call : Call) → IsSound s → is_active s c.rank c.thread ≡ true → IsWaiting s c id call → answer_in s c.rank c.thread call ≡ Some ready.NotReady
 waits-where-late s c id call sound active waits = pending-answer s c id call p sound active ∙ go (is_turn_full p.group c.rank) refl
@@ -158,42 +154,43 @@ waits-where-late s c id call sound active waits = pending-answer s c id call p s
     go : (b : Bool) → is_turn_full p.group c.rank ≡ b → ◌≡◌ {A = Option Ready} (Some (resumed_finds p.group c.rank call)) (Some ready.NotReady)
     go false late = rw late refl
     go true full =
-        let ranked = pending-members s p.posts p.group c.rank id p.pending sound p.posts_there p.group_there p.pending_there waits.late waits.member in
+        let ranked = waits.ranked in
         let given = member-given p.group c.rank waits.late full waits.member (let few = ranks-few s.limits sound.limits in omega arith) in
         absurd (let both : ◌≡◌ {A = Option Contribution} None (Some given.0) = sym waits.missing ∙ given.1 in let no : ⊥ = cc in no)
 
 -- What a look at a collective may answer: a refusal, what is said of the one that is pending with its arguments, or that it may join.
 answer-cases : {P : Type 0} (posts : Posts) (g : Group) (me thread id : ℕ) (call : Call) (found : Ready) → collective_answer posts g me thread id call ≡ found
     → ((refusal : Refusal) → found ≡ ready.Reply (replies.Refused refusal) → P)
-    → ((h : Handle) (p : Pending) → staged_at posts.groups me id call ≡ Ok h → IsResumed (entry_at posts.pending id) thread (args_of h.members call) p → found ≡ resumed_finds g me call → P)
+    → ((h : Handle) (p : Pending) → is_running (thread_at posts thread) ≡ true → staged_at posts.groups me id call ≡ Ok h → IsResumed (entry_at posts.pending id) thread (args_of h.members call) p → found ≡ resumed_finds g me call → P)
     → ((args : Args) → found ≡ ready.Join args → P) → P
 answer-cases {P} posts g me thread id call found is refused pends joins = by-running (is_running (thread_at posts thread)) refl
   where
-    by-resume : (r : Resume) (h : Handle) → staged_at posts.groups me id call ≡ Ok h → resume (entry_at posts.pending id) thread (args_of h.members call) ≡ Ok r → met_finds r posts g me h.members call ≡ Ok found → P
-    by-resume Same h staged resumes finds =
+    by-resume : (r : Resume) (h : Handle) → is_running (thread_at posts thread) ≡ true → staged_at posts.groups me id call ≡ Ok h → resume (entry_at posts.pending id) thread (args_of h.members call) ≡ Ok r → met_finds r posts g me h.members call ≡ Ok found → P
+    by-resume Same h runs staged resumes finds =
         let p = resumed (entry_at posts.pending id) thread (args_of h.members call) resumes in
-        pends h p.0 staged p.1 (sym (same_Ok _ _ finds))
-    by-resume Fresh h staged resumes finds =
+        pends h p.0 runs staged p.1 (sym (same_Ok _ _ finds))
+    by-resume Fresh h runs staged resumes finds =
         bind_then (segment_checks posts call) _ found finds (λ free _ h1.
         found_then (args_of h.members call) BadSize _ found h1 (λ args hargs h2.
         bind_then (meeting_checks g me args.coll) _ found h2 (λ meets _ h3. joins args (sym (same_Ok _ _ h3)))))
 
-    by-result : (r : Result Ready Refusal) → collective_finds posts g me thread id call ≡ r → collective_ready r ≡ found → P
-    by-result (Err refusal) finds answers = refused refusal (sym answers)
-    by-result (Ok x) finds answers =
+    by-result : (r : Result Ready Refusal) → is_running (thread_at posts thread) ≡ true → collective_finds posts g me thread id call ≡ r → collective_ready r ≡ found → P
+    by-result (Err refusal) runs finds answers = refused refusal (sym answers)
+    by-result (Ok x) runs finds answers =
         let finds' : collective_finds posts g me thread id call ≡ Ok found = finds ∙ ap (λ (y : Ready). Ok y) answers in
         bind_then (element_checks call) _ found finds' (λ u elements h1.
         bind_then (staged_at posts.groups me id call) _ found h1 (λ h staged h2.
-        bind_then (resume (entry_at posts.pending id) thread (args_of h.members call)) _ found h2 (λ r resumes h3. by-resume r h staged resumes h3)))
+        bind_then (resume (entry_at posts.pending id) thread (args_of h.members call)) _ found h2 (λ r resumes h3. by-resume r h runs staged resumes h3)))
 
     by-running : (b : Bool) → is_running (thread_at posts thread) ≡ b → P
-    by-running true runs = by-result (collective_finds posts g me thread id call) refl (rw runs at is)
+    by-running true runs = by-result (collective_finds posts g me thread id call) runs refl (rw runs at is)
     by-running false ended = refused CallerEnded (sym (rw ended at is))
 
 -- a collective that is pending and whose turn is not full waits
 waiting : (s : State) (c : CallerId) (id : ℕ) (call : Call) (posts : Posts) (h : Handle) (p : Pending) → IsSound s → slice_get s.posts c.rank ≡ Some posts → (row_of call).group ≡ Some id
-    → staged_at posts.groups c.rank id call ≡ Ok h → IsResumed (entry_at posts.pending id) c.thread (args_of h.members call) p → is_turn_full (group_in s id) c.rank ≡ false → IsWaiting s c id call
-waiting s c id call posts h p sound hp named staged pends none =
+    → is_running (thread_at posts c.thread) ≡ true → staged_at posts.groups c.rank id call ≡ Ok h → IsResumed (entry_at posts.pending id) c.thread (args_of h.members call) p
+    → is_turn_full (group_in s id) c.rank ≡ false → IsWaiting s c id call
+waiting s c id call posts h p sound hp named runs staged pends none =
     let there = group-there s posts c.rank id h sound hp (staged-there posts.groups c.rank id call h staged) in
     let late = late-member there.0 c.rank (subst (λ (g : Group). is_turn_full g c.rank ≡ false) there.2.is none) in
     record {
@@ -207,7 +204,9 @@ waiting s c id call posts h p sound hp named staged pends none =
         mine = pends.mine;
         same = join-call h.members id call p.args pends.same named;
       };
+      running = is-running posts c.thread runs;
       late = late.0;
+      ranked = pending-members s posts there.0 c.rank id p sound hp there.2.there pends.there late.0 late.1;
       member = late.1;
       missing = late.2;
     }
@@ -231,7 +230,7 @@ times-out : (s : State) (c : CallerId) (id : ℕ) (call : Call) (posts : Posts) 
 times-out s c id call posts found sound hp named is times =
     answer-cases {P = IsWaiting s c id call} posts (group_in s id) c.rank c.thread id call found is
     (λ refusal refused. absurd (let never : false ≡ true = subst (λ (r : Ready). is_reply_of r replies.Timeout ≡ true) refused times in let no : ⊥ = cc in no))
-    (λ h p staged pends finds. waiting s c id call posts h p sound hp named staged pends (not-full (group_in s id) c.rank call found finds times))
+    (λ h p runs staged pends finds. waiting s c id call posts h p sound hp named runs staged pends (not-full (group_in s id) c.rank call found finds times))
     (λ args joins. absurd (let never : false ≡ true = subst (λ (r : Ready). is_reply_of r replies.Timeout ≡ true) joins times in let no : ⊥ = cc in no))
 
 pub unready-waits : (s : State) (c : CallerId) (id : ℕ) (call : Call) → IsSound s → (row_of call).group ≡ Some id → answer_in s c.rank c.thread call ≡ Some ready.NotReady → IsWaiting s c id call

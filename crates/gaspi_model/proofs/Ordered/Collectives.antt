@@ -1,6 +1,7 @@
 -- Joins and completions: each contribution counts once, and members of a turn get the same.
 use Rattle.std.proofs.Common.{◌≡◌, ℕ, zero, suc, ◌+◌, ◌<◌, Bool, true, false, not, ◌==◌, ◌&&◌, List, [], ◌∷◌, ◌++◌, length, filter, cond, ℤ, Option, None, Some, is_some, Ok, refl, sym, ap, ◌∙◌, subst, arith}
 use Rattle.std.specs.List.{slice_get, slice_set, list_all, range_with_len}
+use Rattle.std.specs.Option.{option_map}
 use Rattle.std.proofs.lemmas.Bool.{eqb-true, eqb-false}
 use Rattle.std.proofs.lemmas.List.Sums.{sum_by-cons}
 use Rattle.std.proofs.lemmas.Option.{slice_get_within}
@@ -19,6 +20,7 @@ use Rattle.gaspi_types.specs.declared.calls.collectives.Barrier as barrier
 use Rattle.gaspi_types.specs.declared.calls.collectives.Commit as commit
 use Rattle.gaspi_types.specs.declared.calls.collectives.Create as create
 use Rattle.gaspi_types.specs.declared.collectives.Coll.TheVariants as colls
+use Rattle.gaspi_types.specs.declared.collectives.Stage.TheVariants.{Committed}
 use Rattle.gaspi_types.specs.declared.collectives.NumType.{NumType}
 use Rattle.gaspi_types.specs.declared.collectives.Op.{Op}
 use Rattle.gaspi_types.specs.declared.events.Event.{Event}
@@ -32,21 +34,23 @@ use Rattle.gaspi_types.specs.declared.groups.Pending.{Pending}
 use Rattle.gaspi_types.specs.declared.replies.Reply.{Reply}
 use Rattle.gaspi_types.specs.declared.replies.Reply.TheVariants as replies
 use Rattle.gaspi_types.specs.declared.shapes.CallerId.{CallerId}
-use Rattle.gaspi_model.specs.CollectiveCalls.{args_of, told_posts, with_pending, with_made_known, contribution_of}
+use Rattle.gaspi_model.specs.CollectiveCalls.{args_of, full_reply, told_posts, with_pending, with_made_known, contribution_of}
 use Rattle.gaspi_model.specs.Contributions.{waits, IsOneOf}
 use Rattle.gaspi_model.specs.Posting as posting
 use Rattle.gaspi_model.specs.Sound.{IsSound}
 use Rattle.gaspi_model.specs.State.{opening, opening_group}
 use Rattle.gaspi_model.specs.Step.{step, after, reached}
-use Rattle.gaspi_model.specs.Turns.{is_join_on, is_completion_on, joins_on, completions_on, Grows, IsCompletionDone, IsFolded}
+use Rattle.gaspi_model.specs.Turns.{is_join_on, is_completion_on, joins_on, completions_on, Grows, IsCommitDone, IsCompletionDone, IsFolded, IsReplyFor}
 use Rattle.gaspi_model.specs.declared.states.Posts.{Posts}
 use Rattle.gaspi_model.specs.declared.states.State.{State}
 use Rattle.gaspi_types.proofs.Items.{slice_get-set_same, slice_get-set_other, front-of-joined}
+use Rattle.gaspi_model.proofs.Changed.Ends.{is-running}
 use Rattle.gaspi_model.proofs.GroupEffects.{done-step, join-step}
 use Rattle.gaspi_model.proofs.Histories.{after-first, reached-sound}
 use Rattle.gaspi_model.proofs.IdleSteps.{only-counted}
 use Rattle.gaspi_model.proofs.Listed.Joining.{join-call}
 use Rattle.gaspi_model.proofs.Made.{step-called, step-take, step-put}
+use Rattle.gaspi_model.proofs.Sound.Completions.{built-there, commit-fixed}
 use Rattle.gaspi_model.proofs.Sound.GroupEvents.{ranks-few}
 use Rattle.gaspi_model.proofs.Sound.Contributions.{part-changed, part-there, part-other}
 use Rattle.gaspi_model.proofs.Sound.Opening.{opens}
@@ -292,6 +296,17 @@ joins-counted w history s rank id posts world h hp less =
     let completes = count.completes rank in
     omega arith
 
+pub turns-counted : (w : World) (history : List Event) (s : State) (rank id : ℕ) (g : Group) → IsWorld w → reached w history ≡ Ok s → slice_get s.groups id ≡ Some g
+    → (turn_of g rank ≡ completions_on rank id history) × (length (part_of g rank).contributions ≡ joins_on rank id history)
+turns-counted w history s rank id g world h at =
+    let eight = (reached-sound w history s world h).collectives.eight in
+    let within = slice_get_within s.groups id g at in
+    let count = counted w history s id world h (omega arith) in
+    let same : count.group ≡ g = (let some : ◌≡◌ {A = Option Group} (Some count.group) (Some g) = sym count.there ∙ at in cc) in (
+      subst (λ (x : Group). (part_of x rank).completed ≡ completions_on rank id history) same (count.completes rank),
+      subst (λ (x : Group). length (part_of x rank).contributions ≡ joins_on rank id history) same (count.joins rank),
+    )
+
 pub turns-agree : (w : World) (history : List Event) (s : State) (id turn rank other : ℕ) (g : Group) (c d : Contribution) → IsWorld w → reached w history ≡ Ok s → slice_get s.groups id ≡ Some g
     → given_in g turn rank ≡ Some c → given_in g turn other ≡ Some d → c.args.coll ≡ d.args.coll
 turns-agree w history s id turn rank other g c d world h at given given' =
@@ -346,13 +361,33 @@ done-changes s t c id call reply change named awake is sound h =
         mine = m.done.resumed.mine;
         same = join-call made.3.members id call made.4.args m.done.resumed.same named;
       };
+      running = is-running made.0 c.thread m.done.running;
       full = λ rank less one. member-given made.1 c.rank rank m.done.full one (let few = ranks-few s.limits sound.limits in omega arith);
       after = m.leaves ∙ ap (λ (p : Posts). record s { posts = slice_set s.posts c.rank (posting.counted (with_pending id None p)); groups = slice_set s.groups id (with_completed made.1 c.rank) }) (is made.1 made.0);
     }
 
-pub commit-done : (s t : State) (c : CallerId) (call : commit.Commit) → IsSound s → step s (Called c (calls.Commit call) replies.Done) ≡ Ok t
-    → IsCompletionDone s t c call.group (calls.Commit call) (λ g posts. record posts { groups = with_committed posts.groups call.group })
-commit-done s t c call sound h = done-changes s t c call.group (calls.Commit call) replies.Done (λ g posts. record posts { groups = with_committed posts.groups call.group }) refl refl (λ g posts. refl) sound h
+pub commit-done : (s t : State) (c : CallerId) (call : commit.Commit) → IsSound s → step s (Called c (calls.Commit call) replies.Done) ≡ Ok t → IsCommitDone s t c call.group
+unfolding done-changes
+commit-done s t c call sound h =
+    let made = done-step s t c call.group (calls.Commit call) replies.Done refl refl sound h in
+    let m = made.5 in
+    let built = built-there made.0.groups c.rank call.group made.3 m.done.staged in
+    let done = done-changes s t c call.group (calls.Commit call) replies.Done (λ g posts. record posts { groups = with_committed posts.groups call.group }) refl refl (λ g posts. refl) sound h in
+    record {
+      old = made.3;
+      done = record {
+        pends = done.pends;
+        running = done.running;
+        full = done.full;
+        after = done.after ∙ ap (λ (o : Option Handle). record s {
+          posts = slice_set s.posts c.rank (posting.counted (with_pending call.group None (record made.0 { groups = record made.0.groups { table = slice_set made.0.groups.table call.group (option_map (λ (h : Handle). record h { stage = Committed }) o) } })));
+          groups = slice_set s.groups call.group (with_completed made.1 c.rank);
+        }) built.there;
+      };
+      old_there = built.there;
+      building = built.building;
+      fixed = commit-fixed s made.0 made.1 made.2 c.rank c.thread call.group call (calls.Commit call) replies.Done made.3 made.4 sound m.posts_there m.there refl m.done;
+    }
 
 pub barrier-done : (s t : State) (c : CallerId) (call : barrier.Barrier) → IsSound s → step s (Called c (calls.Barrier call) replies.Done) ≡ Ok t
     → IsCompletionDone s t c call.group (calls.Barrier call) (λ g posts. posts)
@@ -366,6 +401,16 @@ create-done s t c call sound h =
 pub allreduce-done : (s t : State) (c : CallerId) (call : allreduce.Allreduce) (answer : TypedNumbers) → IsSound s → step s (Called c (calls.Allreduce call) (replies.List answer)) ≡ Ok t
     → IsCompletionDone s t c call.group (calls.Allreduce call) (λ g posts. posts)
 allreduce-done s t c call answer sound h = done-changes s t c call.group (calls.Allreduce call) (replies.List answer) (λ g posts. posts) refl refl (λ g posts. refl) sound h
+
+-- with which reply
+pub replied : (g : Group) (me : ℕ) (call : Call) → IsReplyFor call (full_reply g me call)
+replied g me (calls.Allreduce x) = (turn_fold g me x.op x.values.num_type, refl)
+replied g me call = refl
+
+pub done-answers : (s t : State) (c : CallerId) (id : ℕ) (call : Call) (reply : Reply) → IsSound s → (row_of call).group ≡ Some id → is_idle reply ≡ false → step s (Called c call reply) ≡ Ok t → IsReplyFor call reply
+done-answers s t c id call reply sound named awake h =
+    let made = done-step s t c id call reply named awake sound h in
+    subst (IsReplyFor call) (sym made.5.done.answers) (replied made.1 c.rank call)
 
 -- An allreduce that is done.
 same-list : (a b : TypedNumbers) → replies.List a ≡ replies.List b → a ≡ b

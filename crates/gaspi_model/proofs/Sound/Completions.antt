@@ -180,7 +180,7 @@ done-groups ranks posts g me id call h staged sound =
         subst (λ (z : Handle). is_member z.members rank ≡ true) (sym same) member
 
 -- a commit that was pending has fixed the members
-commit-fixed : (s : State) (posts : Posts) (g : Group) (part : Part) (me thread id : ℕ) (x : commit.Commit) (call : Call) (reply : Reply) (h : Handle) (p : Pending) → IsSound s → slice_get s.posts me ≡ Some posts → IsThere s me id g part
+pub commit-fixed : (s : State) (posts : Posts) (g : Group) (part : Part) (me thread id : ℕ) (x : commit.Commit) (call : Call) (reply : Reply) (h : Handle) (p : Pending) → IsSound s → slice_get s.posts me ≡ Some posts → IsThere s me id g part
     → call ≡ calls.Commit x → IsDone posts g me thread id call reply h p → g.members ≡ Some h.members
 commit-fixed s posts g part me thread id x call reply h p sound hp there same done =
     let mine = sound.collectives.parts id g me posts there.there hp in

@@ -1,4 +1,4 @@
-use Rattle.gaspi_model.proofs.Ordered.Collectives.{joins-counted, turns-agree, group-grows, same-fold, barrier-joined}
+use Rattle.gaspi_model.proofs.Ordered.Collectives.{joins-counted, turns-counted, done-answers, turns-agree, group-grows, same-fold, barrier-joined}
 use Rattle.gaspi_model.proofs.Listed.Readiness.{ready-where-full, waits-where-late, unready-waits, timeout-waits}
 use Rattle.gaspi_model.proofs.laws.collectives.Goals as goal
 
@@ -28,3 +28,9 @@ returns-clause-not_ready c = unready-waits
 
 pub returns-clause-timed_out : goal.returns-clause-timed_out
 returns-clause-timed_out c = timeout-waits
+
+pub returns-clause-turns : goal.returns-clause-turns
+returns-clause-turns c = turns-counted
+
+pub returns-clause-answers : goal.returns-clause-answers
+returns-clause-answers c = done-answers
