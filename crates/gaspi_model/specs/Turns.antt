@@ -11,6 +11,7 @@ use Rattle.gaspi_types.specs.Tables.{entry_at}
 use Rattle.gaspi_types.specs.declared.calls.Call.{Call}
 use Rattle.gaspi_types.specs.declared.calls.Call.TheVariants as calls
 use Rattle.gaspi_types.specs.declared.calls.collectives.Allreduce as allreduce
+use Rattle.gaspi_types.specs.declared.collectives.Coll.{Coll}
 use Rattle.gaspi_types.specs.declared.collectives.Coll.TheVariants as colls
 use Rattle.gaspi_types.specs.declared.collectives.Stage.TheVariants.{Building, Committed}
 use Rattle.gaspi_types.specs.declared.events.Event.{Event}
@@ -81,6 +82,19 @@ pub record IsWaiting (s : State) (c : CallerId) (id : ℕ) (call : Call) : Type 
   pub ranked : late < s.limits.ranks
   pub member : IsOneOf pends.group.members late
   pub missing : given_in pends.group (turn_of pends.group c.rank) late ≡ None
+
+-- A caller's rank has committed a group, none of its collectives is pending there, and what was given to its turn is that collective,
+-- values aside.
+pub record MayMeet (s : State) (c : CallerId) (id : ℕ) (coll : Coll) : Type 0 where
+  pub posts : Posts
+  pub group : Group
+  pub handle : Handle
+  pub posts_there : slice_get s.posts c.rank ≡ Some posts
+  pub group_there : slice_get s.groups id ≡ Some group
+  pub handle_there : handle_at posts.groups id ≡ Some handle
+  pub committed : handle.stage ≡ Committed
+  pub none : entry_at posts.pending id ≡ None
+  pub alike : (rank : ℕ) (given : Contribution) → given_in group (turn_of group c.rank) rank ≡ Some given → given.args.coll ≡ coll
 
 -- what a rank gives to its turn stands there afterwards
 abbrev pub Gives : State → ℕ → Group → ℕ → Contribution → Type 0

@@ -50,11 +50,11 @@ ghost use Rattle.gaspi_types.specs.declared.calls.collectives.Commit as commit;
 ghost use Rattle.gaspi_types.specs.declared.calls.collectives.Create as create;
 ghost use Rattle.gaspi_types.specs.declared.groups.Contribution.{Contribution};
 ghost use Rattle.gaspi_types.specs.declared.groups.Group.{Group};
-ghost use Rattle.gaspi_types.specs.Collectives.{given_in, part_of, turn_of, turn_made};
+ghost use Rattle.gaspi_types.specs.Collectives.{no_values, given_in, part_of, turn_of, turn_made};
 ghost use Rattle.gaspi_types.specs.NumberTypes.{TypedNumbers};
 ghost use Rattle.gaspi_types.specs.Tables.{entry_at};
 ghost use Rattle.gaspi_model.specs.Contributions.{IsOneOf, waits};
-ghost use Rattle.gaspi_model.specs.Turns.{AreMadeKnown, Grows, HaveAllGiven, IsCommitDone, IsCompletionDone, IsCreateJoined, IsFolded, IsJoinDone, IsPendingAs, IsReplyFor, IsWaiting, completions_on, joins_on};
+ghost use Rattle.gaspi_model.specs.Turns.{AreMadeKnown, Grows, HaveAllGiven, IsCommitDone, IsCompletionDone, IsCreateJoined, IsFolded, IsJoinDone, MayMeet, IsPendingAs, IsReplyFor, IsWaiting, completions_on, joins_on};
 ghost use Rattle.gaspi_types.specs.declared.events.Outcome.TheVariants.{Applied, Failed};
 ghost use Rattle.gaspi_types.specs.declared.events.Outcome.{Outcome};
 ghost use Rattle.gaspi_types.specs.declared.events.Transfer.{Transfer};
@@ -74,8 +74,9 @@ ghost use Rattle.gaspi_model.specs.declared.states.Shard.TheVariants as shards;
 ghost use Rattle.gaspi_model.specs.Settled.{AreLanesEmpty, IsSettled};
 ghost use Rattle.gaspi_model.specs.State.{opening};
 ghost use Rattle.gaspi_model.specs.Step.{step, owner_of, after, reached, own_calls, is_legal, ends_caller, answer_in, is_active, is_pending, room_taken, transfer_event};
-ghost use Rattle.gaspi_model.specs.CollectiveCalls.{is_joining, joining_call, with_made_known};
+ghost use Rattle.gaspi_model.specs.CollectiveCalls.{element_checks, is_joining, joining_call, with_made_known};
 ghost use Rattle.gaspi_types.specs.declared.collectives.Coll.TheVariants.{Create};
+ghost use Rattle.gaspi_types.specs.declared.collectives.Coll.TheVariants as colls;
 ghost use Rattle.gaspi_types.specs.declared.replies.Ready.TheVariants.{Join};
 ghost use Rattle.gaspi_types.specs.declared.replies.Ready.TheVariants as ready;
 ghost use Rattle.gaspi_model.specs.Sound.{IsSound, events_left};
@@ -415,7 +416,8 @@ pub fn replies()
 /// more where one is pending; it has given to as many turns as it has joined, and completed as many as it has completed collectives: no
 /// contribution counts twice. What is given to one turn agrees in all but values and generation, and
 /// stays given. Two members that complete the same turn of an allreduce get the same list, which is (as `changes` says) the fold of
-/// what exactly the members have given to that turn. A collective that is pending for its caller, which has not ended, with its
+/// what exactly the members have given to that turn. A barrier, and an allreduce of elements that may be reduced, join where their rank
+/// has committed the group, none is pending there, and what was given to the turn is that collective. A collective that is pending for its caller, which has not ended, with its
 /// arguments, answers where every member has given to its turn, an allreduce with numbers and each other that it is done, and is not
 /// ready where one has not; one that is not ready, or times out, is so pending, and a
 /// member has not given. A barrier that is done was joined by each member more often than its caller had
@@ -438,6 +440,11 @@ pub fn collectives()
         → answer_in s c.rank c.thread call ≡ Some ready.NotReady }
     ensures not_ready { (s : State) (c : CallerId) (id : ℕ) (call : Call) → IsSound s → (row_of call).group ≡ Some id → answer_in s c.rank c.thread call ≡ Some ready.NotReady
         → IsWaiting s c id call }
+    ensures barrier_joins { (s : State) (c : CallerId) (id : ℕ) → IsSound s → is_active s c.rank c.thread ≡ true → MayMeet s c id colls.Barrier
+        → answer_in s c.rank c.thread (calls.Barrier (record { group = id })) ≡ Some (Join (record { coll = colls.Barrier; values = no_values })) }
+    ensures allreduce_joins { (s : State) (c : CallerId) (call : allreduce.Allreduce) → IsSound s → is_active s c.rank c.thread ≡ true → element_checks (calls.Allreduce call) ≡ Ok tt
+        → MayMeet s c call.group (colls.Allreduce call.op call.values.num_type (length call.values.items))
+        → answer_in s c.rank c.thread (calls.Allreduce call) ≡ Some (Join (record { coll = colls.Allreduce call.op call.values.num_type (length call.values.items); values = call.values })) }
     ensures answers { (s t : State) (c : CallerId) (id : ℕ) (call : Call) (reply : Reply) → IsSound s → (row_of call).group ≡ Some id → is_idle reply ≡ false
         → step s (Called c call reply) ≡ Ok t → IsReplyFor call reply }
     ensures timed_out { (s t : State) (c : CallerId) (id : ℕ) (call : Call) → IsSound s → (row_of call).group ≡ Some id → step s (Called c call replies.Timeout) ≡ Ok t

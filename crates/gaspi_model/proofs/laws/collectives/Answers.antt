@@ -1,4 +1,5 @@
 use Rattle.gaspi_model.proofs.Ordered.Collectives.{joins-counted, turns-counted, done-answers, turns-agree, group-grows, same-fold, barrier-joined}
+use Rattle.gaspi_model.proofs.Listed.Joinable.{barrier-joins, allreduce-joins}
 use Rattle.gaspi_model.proofs.Listed.Readiness.{ready-where-full, waits-where-late, unready-waits, timeout-waits}
 use Rattle.gaspi_model.proofs.laws.collectives.Goals as goal
 
@@ -34,3 +35,9 @@ returns-clause-turns c = turns-counted
 
 pub returns-clause-answers : goal.returns-clause-answers
 returns-clause-answers c = done-answers
+
+pub returns-clause-barrier_joins : goal.returns-clause-barrier_joins
+returns-clause-barrier_joins c = barrier-joins
+
+pub returns-clause-allreduce_joins : goal.returns-clause-allreduce_joins
+returns-clause-allreduce_joins c = allreduce-joins
