@@ -5,8 +5,8 @@ ghost use Rattle.std.specs.Option.{option_map};
 ghost use Rattle.rank_script.specs.Runs.{Over, going_on, advanced, stopped, present_of, line_of, outcome_of, is_stuck, is_retried, is_failed, is_timeout};
 
 use crate::scripts::{Halted, RunOutcome, Script, ScriptLine};
-use gaspi_types::{Call, Reply, Timeout};
 use call_rules::same_reply;
+use gaspi_types::{Call, Reply, Timeout};
 use std::marker::Model;
 
 /// How far a run of a script has come: the lines whose calls are still to be made, or how the run ended.
