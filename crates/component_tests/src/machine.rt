@@ -158,10 +158,9 @@ fn a_barrier_joins_and_completes(rt: HostRuntime) -> Result<(), Fail> {
 
 /// A look at a barrier of a caller finds that it may join, and it does.
 fn joins(rt: &impl Abort, alloc: Global, machine: &mut Machine, call: &Call) -> Result<(), Fail> {
-    let me = caller();
-    assert!(rt; machine.is_declared(me));
-    let joined = match machine.answer(alloc, me, call)? {
-        Ready::Join(args) => machine.join(alloc, me, call, args).is_ok(),
+    assert!(rt; machine.is_declared(caller()));
+    let joined = match machine.answer(alloc, caller(), call)? {
+        Ready::Join(args) => machine.join(alloc, caller(), call, args).is_ok(),
         Ready::Reply(_) | Ready::NotReady => false,
     };
     assert!(rt; joined);
@@ -175,11 +174,10 @@ fn completes(
     machine: &mut Machine,
     call: &Call,
 ) -> Result<(), Fail> {
-    let me = caller();
-    assert!(rt; machine.is_declared(me));
-    let look = machine.look(alloc, me, call)?;
+    assert!(rt; machine.is_declared(caller()));
+    let look = machine.look(alloc, caller(), call)?;
     assert!(rt; !look.is_join());
-    let recorded = machine.record(alloc, me, call, look);
+    let recorded = machine.record(alloc, caller(), call, look);
     assert!(rt; recorded.is_ok());
     Ok(())
 }
