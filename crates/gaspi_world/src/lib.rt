@@ -1,0 +1,16 @@
+//! A world of ranks as threads: the whole state of the machine in one shard, and one history that all threads commit to.
+//! (GASPI: ranks)
+//!
+//! A `World` is made with a `Pass` for each caller and each worker. What is committed through the passes of a world is one legal
+//! history of the machine from its start (`world_histories`), which exists in proofs alone.
+#![tactic(auto)]
+
+mod laws;
+mod shards;
+mod starts;
+mod worlds;
+
+pub use laws::world_histories;
+pub use shards::{Placed, WorldShard};
+pub use starts::Start;
+pub use worlds::{Pass, Passes, Started, World};

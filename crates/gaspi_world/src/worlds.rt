@@ -1,0 +1,71 @@
+//! Worlds, and the passes of their threads.
+
+ghost use Rattle.std.specs.Prelude.{◌≡◌, ℕ, ◌+◌, ◌<◌, ◌≤◌, IfOk, Some, [], length, slice_get};
+ghost use Rattle.commit_table.specs.Views.{new_pass};
+
+use crate::shards::WorldShard;
+use crate::starts::Start;
+use buffers::Buffer;
+use commit_table::CommitTable;
+use gaspi_types::{NoMemory, Shape};
+use plain_machine::Machine;
+use std::alloc::Global;
+use std::marker::Model;
+
+/// The right of one caller or of one worker to act in a world, with what it knows of the history.
+pub type Pass = commit_table::Pass<Start>;
+
+/// Passes of a world, in any order.
+pub type Passes = Vec<Pass>;
+
+/// A world of ranks, which threads share by `&`. (GASPI: ranks)
+#[derive(Drop)]
+pub struct World {
+    table: CommitTable<Start>,
+}
+
+impl Model for World {
+    ghost use Rattle.commit_table.specs.Calls.{TableValue};
+    ghost use Rattle.gaspi_world.specs.declared.starts.Start.{Start};
+
+    ghost Value = { TableValue Start };
+
+    ghost view = { λ world. world.table };
+}
+
+/// A world that was made, with all its passes: one for each caller by its rank and thread, and then one for each worker.
+#[derive(Drop)]
+pub struct Started {
+    pub world: World,
+    pub passes: Passes,
+}
+
+impl World {
+    /// The world of a shape, with so many workers. All memory that is wanted for what the ranks record is taken here.
+    pub fn start(alloc: Global, shape: &Shape, workers: u32) -> Result<Started, NoMemory>
+        requires { workers ≤ 4 }
+        ensures start { IfOk result (λ started. started.world.start.shape ≡ shape.now) }
+        ensures count { IfOk result (λ started. length started.passes.items ≡ length shape.now.callers + workers) }
+        ensures passes { IfOk result (λ started. (k : ℕ) → k < length shape.now.callers + workers
+            → slice_get started.passes.items k ≡ Some (record { table = started.world.table; known = new_pass started.world.start (Some k) [] })) }
+    {
+        let limits = shape.limits();
+        let machine = Machine::start(alloc, shape)?;
+        let journal = Buffer::with_room(alloc, limits.ranks as usize * limits.events as usize)?;
+        let shards = vec![in alloc; WorldShard { machine, journal }]?;
+        let passes = shape.callers().len() as u32 + workers;
+        let start = Start::of(alloc, shape)?;
+        let (table, passes) = CommitTable::new(alloc, start, shards, passes)?;
+        Ok(Started {
+            world: World { table },
+            passes,
+        })
+    }
+
+    /// The shape of the start.
+    pub fn shape(&self) -> &Shape
+        ensures { result.now ≡ self.now.start.shape }
+    {
+        &self.table.start().shape
+    }
+}
