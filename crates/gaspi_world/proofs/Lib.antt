@@ -1,2 +1,4 @@
 pub mod Callers
 pub mod Histories
+pub mod Looks
+pub mod Wholes

@@ -1,3 +1,4 @@
+pub mod Passes
 pub mod Shards
 pub mod WorldLaws
 pub mod WorldMachine

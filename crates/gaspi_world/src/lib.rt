@@ -6,11 +6,13 @@
 #![tactic(auto)]
 
 mod laws;
+mod ranks;
 mod shards;
 mod starts;
 mod worlds;
 
 pub use laws::world_histories;
+pub use ranks::{Note, Rank};
 pub use shards::{Placed, WorldShard};
 pub use starts::Start;
 pub use worlds::{Pass, Passes, Started, World};

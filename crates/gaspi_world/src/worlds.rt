@@ -1,7 +1,8 @@
 //! Worlds, and the passes of their threads.
 
-ghost use Rattle.std.specs.Prelude.{◌≡◌, ℕ, ◌+◌, ◌<◌, ◌≤◌, IfOk, Some, [], length, slice_get};
+ghost use Rattle.std.specs.Prelude.{◌≡◌, ℕ, ◌+◌, ◌<◌, ◌≤◌, IfOk, IsTrue, ◌↔◌, Some, [], length, slice_get};
 ghost use Rattle.commit_table.specs.Views.{new_pass};
+ghost use Rattle.gaspi_world.specs.Passes.{has_number, are_all, AreAll};
 
 use crate::shards::WorldShard;
 use crate::starts::Start;
@@ -22,15 +23,19 @@ pub type Passes = Vec<Pass>;
 #[derive(Drop)]
 pub struct World {
     table: CommitTable<Start>,
+    passes: u32,
 }
 
 impl Model for World {
+    ghost use Rattle.std.specs.Prelude.{◌≡◌};
     ghost use Rattle.commit_table.specs.Calls.{TableValue};
     ghost use Rattle.gaspi_world.specs.declared.starts.Start.{Start};
 
     ghost Value = { TableValue Start };
 
     ghost view = { λ world. world.table };
+
+    ghost invariant = { λ world. world.passes ≡ world.table.passes };
 }
 
 /// A world that was made, with all its passes: one for each caller by its rank and thread, and then one for each worker.
@@ -40,11 +45,28 @@ pub struct Started {
     pub passes: Passes,
 }
 
+/// Whether a pass of that number is there.
+fn has_number(passes: &[Pass], number: u32) -> bool
+    ensures { result ≡ has_number passes.now number }
+{
+    passes
+        .iter()
+        .any(|pass| CommitTable::number(pass) == number)
+}
+
+/// Whether there is a pass of each number below a bound.
+fn are_all(count: u32, passes: &[Pass]) -> bool
+    ensures { result ≡ are_all count passes.now }
+{
+    (0..count).all(|number| has_number(passes, number))
+}
+
 impl World {
     /// The world of a shape, with so many workers. All memory that is wanted for what the ranks record is taken here.
     pub fn start(alloc: Global, shape: &Shape, workers: u32) -> Result<Started, NoMemory>
         requires { workers ≤ 4 }
         ensures start { IfOk result (λ started. started.world.start.shape ≡ shape.now) }
+        ensures all { IfOk result (λ started. started.world.passes ≡ length shape.now.callers + workers) }
         ensures count { IfOk result (λ started. length started.passes.items ≡ length shape.now.callers + workers) }
         ensures passes { IfOk result (λ started. (k : ℕ) → k < length shape.now.callers + workers
             → slice_get started.passes.items k ≡ Some (record { table = started.world.table; known = new_pass started.world.start (Some k) [] })) }
@@ -53,13 +75,28 @@ impl World {
         let machine = Machine::start(alloc, shape)?;
         let journal = Buffer::with_room(alloc, limits.ranks as usize * limits.events as usize)?;
         let shards = vec![in alloc; WorldShard { machine, journal }]?;
-        let passes = shape.callers().len() as u32 + workers;
+        let count = shape.callers().len() as u32 + workers;
         let start = Start::of(alloc, shape)?;
-        let (table, passes) = CommitTable::new(alloc, start, shards, passes)?;
-        Ok(Started {
-            world: World { table },
-            passes,
-        })
+        let (table, passes) = CommitTable::new(alloc, start, shards, count)?;
+        let world = World {
+            table,
+            passes: count,
+        };
+        Ok(Started { world, passes })
+    }
+
+    /// Whether these are all passes of the world, where they are passes of it. It takes no memory.
+    pub fn whole(&self, passes: &Passes) -> bool
+        ensures { IsTrue result ↔ AreAll self.now.passes passes.now.items }
+    {
+        are_all(self.passes, passes.as_slice())
+    }
+
+    /// The table of its one shard.
+    pub(crate) fn table(&self) -> &CommitTable<Start>
+        ensures { result.now ≡ self.now }
+    {
+        &self.table
     }
 
     /// The shape of the start.

@@ -1,0 +1,14 @@
+use Rattle.std.proofs.Common.{subst}
+use Rattle.commit_table.specs.Attempts.{LookedOnly}
+use Rattle.commit_table.specs.Calls.{TableValue}
+use Rattle.gaspi_world.specs.Shards.{shard_part}
+use Rattle.gaspi_world.specs.WorldMachine.{world_machine}
+use Rattle.gaspi_world.specs.declared.starts.Start.{Start}
+use Rattle.gaspi_world.proofs.Looks.{looked-only}
+use Rattle.gaspi_world.proofs.ranks.Rank.learn.Goals as goal
+
+pub returns-clause-looked : goal.returns-clause-looked
+returns-clause-looked c =
+    let told = c.learn.ensures.told in
+    subst (λ (t : TableValue Start). LookedOnly (world_machine shard_part t.start.shape) c.args.self.now.pass.now.known c.learn.new.pass.known) c.table.ensures
+    (looked-only (world_machine shard_part c.table.result.now.start.shape) c.args.self.now.pass.now.known _ told.0 c.learn.new.pass.known told.1)

@@ -1,0 +1,55 @@
+//! What a caller does in its world.
+
+ghost use Rattle.std.specs.Prelude.{◌≡◌, ◌<◌};
+ghost use mathlib.Core.List.{IsPrefix};
+ghost use Rattle.commit_table.specs.Attempts.{LookedOnly};
+ghost use Rattle.commit_table.specs.Calls.{IsOf, misses_in};
+ghost use Rattle.commit_table.specs.Views.{noted};
+ghost use Rattle.gaspi_world.specs.Shards.{shard_part};
+ghost use Rattle.gaspi_world.specs.WorldMachine.{world_machine};
+
+use crate::starts::Start;
+use crate::worlds::{Pass, World};
+use commit_table::CommitTable;
+
+/// What a pass has seen, to be told to another pass of its world.
+pub type Note = commit_table::Note<Start>;
+
+/// A caller in its world, by its pass. (GASPI: ranks)
+#[derive(Drop)]
+pub struct Rank<'a> {
+    pub world: &'a World,
+    pub pass: &'a mut Pass,
+}
+
+impl<'a> Rank<'a> {
+    /// Makes a note of what the pass has seen, for another pass to learn.
+    pub fn note(&mut self) -> Note
+        requires { IsOf self.old.world.now self.old.pass.now }
+        ensures same { self.new.pass.now ≡ self.old.pass.now }
+        ensures note { result ≡ record { table = self.old.pass.now.table; known = noted self.old.pass.now.known } }
+    {
+        self.world.table().note(self.pass)
+    }
+
+    /// Sees the history so far, of which what the note tells is a beginning. It is one look.
+    pub fn learn(&mut self, note: Note)
+        requires pass { IsOf self.old.world.now self.old.pass.now }
+        requires note { note.table ≡ self.old.world.now.table }
+        ensures table { self.new.pass.now.table ≡ self.old.pass.now.table }
+        ensures looked { LookedOnly (world_machine shard_part self.old.world.now.start.shape) self.old.pass.now.known self.new.pass.now.known }
+        ensures learned { IsPrefix note.known.seen self.new.pass.now.known.seen }
+    {
+        self.world.table().learn(self.pass, note);
+    }
+
+    /// How often the pass missed a shard. A count that stands at the type's end stays there.
+    pub fn misses(&self, shard: u32) -> u64
+        requires pass { IsOf self.now.world.now self.now.pass.now }
+        requires shard { shard < (world_machine shard_part self.now.world.now.start.shape).shards }
+        ensures { result ≡ misses_in self.now.pass.now.known.missed shard }
+    {
+        self.world.table().start();
+        CommitTable::misses(self.pass, shard)
+    }
+}
