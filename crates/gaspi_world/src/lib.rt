@@ -16,3 +16,6 @@ pub use ranks::{Note, Rank};
 pub use shards::{Placed, WorldShard};
 pub use starts::Start;
 pub use worlds::{Pass, Passes, Started, World};
+
+#[cfg(test)]
+mod tests;
