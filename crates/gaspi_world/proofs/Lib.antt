@@ -1,4 +1,5 @@
-pub mod Callers
+pub mod FewCallers
 pub mod Histories
 pub mod Looks
+pub mod Numbers
 pub mod Wholes

@@ -1,3 +1,4 @@
+pub mod Callers
 pub mod Passes
 pub mod Shards
 pub mod WorldLaws

@@ -5,4 +5,8 @@ use Rattle.gaspi_world.specs.declared.shards.Placed.{Placed}
 use Rattle.gaspi_world.specs.declared.shards.WorldShard.{WorldShard}
 
 abbrev pub shard_part : WorldShard → WorldPart
-shard_part shard = record { state = shard.machine; journal = map (λ (p : Placed). (p.place, p.event)) shard.journal.items }
+shard_part shard = record {
+  state = shard.machine;
+  journal = map (λ (p : Placed). (p.place, p.event)) shard.journal.items;
+  room = shard.journal.room;
+}

@@ -1,5 +1,5 @@
 -- The machine of a world is lawful, and its histories are the legal ones of the machine from the start of the world.
-use Rattle.std.proofs.Common.{◌≡◌, ℕ, suc, ◌+◌, ◌-◌, ◌^◌, ◌<◌, ◌≤◌, true, nat_le, List, [], ◌∷◌, ◌++◌, length, Option, None, Some, Result, Ok, Err, refl, sym, ap, ◌∙◌, arith}
+use Rattle.std.proofs.Common.{◌≡◌, ℕ, suc, ◌+◌, ◌-◌, ◌*◌, ◌^◌, ◌<◌, ◌≤◌, true, nat_le, List, [], ◌∷◌, ◌++◌, length, Option, None, Some, Result, Ok, Err, refl, sym, ap, ◌∙◌, arith}
 use Rattle.std.specs.List.{All}
 use Rattle.std.proofs.Math.Bridge.{le_prop}
 use Rattle.std.proofs.Math.Logic.{∥∥₁_elim}
@@ -31,8 +31,8 @@ placed place [] = []
 placed place (e ∷ events) = (place, e) ∷ placed (suc place) events
 
 -- what lies in the shard where the state is so and these events were recorded, from a place on
-abbrev pub part_after : State → List (ℕ × Event) → ℕ → List Event → WorldPart
-part_after s journal place events = record { state = s; journal = journal ++ placed place events }
+abbrev pub part_after : State → List (ℕ × Event) → ℕ → ℕ → List Event → WorldPart
+part_after s journal room place events = record { state = s; journal = journal ++ placed place events; room = room }
 
 -- the events left of a sound state are fewer by each step
 left-after : (s t : State) (events : List Event) → IsSound s → after s events ≡ Ok t → events_left t + length events ≡ events_left s
@@ -66,24 +66,24 @@ few-left w world =
 
 module _ {X : Type 0} (part : X → WorldPart) (w : World) where
   -- the part after events that are steps
-  pub ran : (place : ℕ) (s t : State) (journal : List (ℕ × Event)) (events : List Event) → after s events ≡ Ok t
-      → run (world_parts part w) place (record { state = s; journal = journal } ∷ []) events ≡ Some (part_after t journal place events ∷ [])
-  ran place s t journal [] h =
+  pub ran : (place : ℕ) (s t : State) (journal : List (ℕ × Event)) (room : ℕ) (events : List Event) → after s events ≡ Ok t
+      → run (world_parts part w) place (record { state = s; journal = journal; room = room } ∷ []) events ≡ Some (part_after t journal room place events ∷ [])
+  ran place s t journal room [] h =
       let same : s ≡ t = same_Ok s t h in
-      ap (λ (x : State). Some (record { state = x; journal = journal } ∷ [])) same ∙ ap (λ (j : List (ℕ × Event)). Some (record { state = t; journal = j } ∷ [])) (sym (append-nil journal))
-  ran place s t journal (e ∷ events) h =
+      ap (λ (x : State). Some (record { state = x; journal = journal; room = room } ∷ [])) same ∙ ap (λ (j : List (ℕ × Event)). Some (record { state = t; journal = j; room = room } ∷ [])) (sym (append-nil journal))
+  ran place s t journal room (e ∷ events) h =
       bind_then (step s e) _ t h (λ next made later.
-      let rest = ran (suc place) next t (journal ++ (place, e) ∷ []) events later in
+      let rest = ran (suc place) next t (journal ++ (place, e) ∷ []) room events later in
       let joined : journal ++ (place, e) ∷ [] ++ placed (suc place) events ≡ journal ++ ((place, e) ∷ placed (suc place) events) = append_assoc journal ((place, e) ∷ []) (placed (suc place) events) in
-      rw made (rest ∙ ap (λ (j : List (ℕ × Event)). Some (record { state = t; journal = j } ∷ [])) joined))
+      rw made (rest ∙ ap (λ (j : List (ℕ × Event)). Some (record { state = t; journal = j; room = room } ∷ [])) joined))
 
   -- and only events that are steps have one
-  pub came : (place : ℕ) (s : State) (journal : List (ℕ × Event)) (events : List Event) (ps : List WorldPart) → run (world_parts part w) place (record { state = s; journal = journal } ∷ []) events ≡ Some ps
+  pub came : (place : ℕ) (s : State) (journal : List (ℕ × Event)) (room : ℕ) (events : List Event) (ps : List WorldPart) → run (world_parts part w) place (record { state = s; journal = journal; room = room } ∷ []) events ≡ Some ps
       → (t : State) × (after s events ≡ Ok t)
-  came place s journal [] ps h = (s, refl)
-  came place s journal (e ∷ events) ps h = go (λ next. came (suc place) next (journal ++ (place, e) ∷ []) events ps) (step s e) refl
+  came place s journal room [] ps h = (s, refl)
+  came place s journal room (e ∷ events) ps h = go (λ next. came (suc place) next (journal ++ (place, e) ∷ []) room events ps) (step s e) refl
     where
-      go : ((next : State) → run (world_parts part w) (suc place) (record { state = next; journal = journal ++ (place, e) ∷ [] } ∷ []) events ≡ Some ps → (t : State) × (after next events ≡ Ok t))
+      go : ((next : State) → run (world_parts part w) (suc place) (record { state = next; journal = journal ++ (place, e) ∷ []; room = room } ∷ []) events ≡ Some ps → (t : State) × (after next events ≡ Ok t))
           → (r : Result State Why) → step s e ≡ r → (t : State) × (after s (e ∷ events) ≡ Ok t)
       go rest (Err why) made = absurd (let none : ◌≡◌ {A = Option (List WorldPart)} None (Some ps) = rw made at h in let no : ⊥ = cc in no)
       go rest (Ok next) made =
@@ -95,7 +95,7 @@ module _ {X : Type 0} (part : X → WorldPart) (w : World) where
 
   bounded : IsWorld w → (h : List Event) (ps : List WorldPart) → parts_of (world_parts part w) h ≡ Some ps → length h < 2 ^ 64
   bounded world h ps is =
-      let t = came 0 (opening w) [] h ps is in
+      let t = came 0 (opening w) [] (w.limits.ranks * w.limits.events) h ps is in
       let left = left-after (opening w) t.0 h (opens w world) t.1 in
       let few = few-left w world in
       omega arith

@@ -12,10 +12,11 @@ use Rattle.gaspi_model.specs.declared.states.Why.{Why}
 use Rattle.commit_table.specs.Machine.{Machine}
 use Rattle.commit_table.specs.Parts.{Parts, machine_of}
 
--- what lies in the one shard
+-- what lies in the one shard: the state, the events that were recorded, and how many events there is room for
 pub record WorldPart : Type 0 where
   pub state : State
   pub journal : List (ℕ × Event)
+  pub room : ℕ
 
 -- callers by rank, and then by thread: the number of a caller is how many declared ones come before it
 abbrev pub comes_before : CallerId → CallerId → Bool
@@ -45,10 +46,11 @@ act_in place e own others = stepped_part own others (step own.state e)
 abbrev pub noted_in : ℕ → Event → WorldPart → WorldPart
 noted_in place e part = record part { journal = part.journal ++ (place, e) ∷ [] }
 
+-- at the start there is room for all that the ranks may record
 abbrev pub opening_part : World → WorldPart
-opening_part w = record { state = opening w; journal = [] }
+opening_part w = record { state = opening w; journal = []; room = w.limits.ranks * w.limits.events }
 
--- an event of a value of the shard, X, that stands for a part
+-- X is what lies in the shard, and stands for a part
 abbrev pub world_parts : {X : Type 0} → (X → WorldPart) → World → Parts WorldPart X Event
 world_parts {X} part w = record {
   first = opening_part w ∷ [];

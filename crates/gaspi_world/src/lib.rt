@@ -5,6 +5,7 @@
 //! history of the machine from its start (`world_histories`), which exists in proofs alone.
 #![tactic(auto)]
 
+mod callers;
 mod laws;
 mod ranks;
 mod shards;

@@ -2,13 +2,16 @@
 
 ghost use Rattle.std.specs.Prelude.{◌≡◌, ℕ, ◌+◌, ◌<◌, ◌≤◌, IfOk, IsTrue, ◌↔◌, Some, [], length, slice_get};
 ghost use Rattle.commit_table.specs.Views.{new_pass};
+ghost use Rattle.gaspi_types.specs.declared.shapes.CallerId.{CallerId};
+ghost use Rattle.gaspi_world.specs.Callers.{IsPassOf};
 ghost use Rattle.gaspi_world.specs.Passes.{has_number, are_all, AreAll};
 
+use crate::callers::all_numbered;
 use crate::shards::WorldShard;
 use crate::starts::Start;
 use buffers::Buffer;
 use commit_table::CommitTable;
-use gaspi_types::{NoMemory, Shape};
+use gaspi_types::{CallerId, NoMemory, Rows, Shape};
 use plain_machine::Machine;
 use std::alloc::Global;
 use std::marker::Model;
@@ -24,6 +27,8 @@ pub type Passes = Vec<Pass>;
 pub struct World {
     table: CommitTable<Start>,
     passes: u32,
+    /// By their numbers.
+    callers: Rows<Option<CallerId>>,
 }
 
 impl Model for World {
@@ -35,7 +40,9 @@ impl Model for World {
 
     ghost view = { λ world. world.table };
 
-    ghost invariant = { λ world. world.passes ≡ world.table.passes };
+    ghost use Rattle.gaspi_world.specs.Callers.{all_numbered};
+
+    ghost invariant = { λ world. (world.passes ≡ world.table.passes) × (world.callers ≡ all_numbered world.table.start.shape.callers) };
 }
 
 /// A world that was made, with all its passes: one for each caller by its rank and thread, and then one for each worker.
@@ -76,11 +83,13 @@ impl World {
         let journal = Buffer::with_room(alloc, limits.ranks as usize * limits.events as usize)?;
         let shards = vec![in alloc; WorldShard { machine, journal }]?;
         let count = shape.callers().len() as u32 + workers;
+        let callers = all_numbered(alloc, shape.callers())?;
         let start = Start::of(alloc, shape)?;
         let (table, passes) = CommitTable::new(alloc, start, shards, count)?;
         let world = World {
             table,
             passes: count,
+            callers,
         };
         Ok(Started { world, passes })
     }
@@ -97,6 +106,16 @@ impl World {
         ensures { result.now ≡ self.now }
     {
         &self.table
+    }
+
+    /// The caller whose pass this is.
+    pub(crate) fn caller_of(&self, pass: &Pass) -> CallerId
+        requires { (c : CallerId) × IsPassOf self.now.start.shape c pass.now.known }
+        ensures is { IsPassOf self.now.start.shape result pass.now.known }
+        ensures only { (c : CallerId) → IsPassOf self.now.start.shape c pass.now.known → result ≡ c }
+    {
+        self.shape().limits();
+        (*self.callers.at(CommitTable::number(pass) as usize)).unwrap()
     }
 
     /// The shape of the start.

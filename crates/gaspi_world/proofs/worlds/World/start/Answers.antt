@@ -1,5 +1,5 @@
 use Rattle.std.proofs.Common.{arith}
-use Rattle.gaspi_world.proofs.Callers.{few-callers}
+use Rattle.gaspi_world.proofs.FewCallers.{few-callers}
 use Rattle.gaspi_world.proofs.worlds.World.start.Goals as goal
 
 pub overflow_cast-count : goal.overflow_cast-count

@@ -1,0 +1,50 @@
+//! Callers by their numbers: in the order of rank and thread, from 0.
+
+ghost use Rattle.std.specs.Prelude.{◌≡◌, IfOk};
+ghost use Rattle.gaspi_world.specs.Callers.{numbered, all_numbered};
+ghost use Rattle.gaspi_world.specs.WorldMachine.{comes_before, number_of};
+
+use gaspi_types::{CallerId, NoMemory, Rows};
+use std::alloc::Global;
+
+/// Whether a caller comes before another.
+fn comes_before(a: &CallerId, b: &CallerId) -> bool
+    ensures { result ≡ comes_before a.now b.now }
+{
+    a.rank.number() * 4 + a.thread.number() < b.rank.number() * 4 + b.thread.number()
+}
+
+/// How many callers come before one.
+fn number_of(callers: &[CallerId], caller: &CallerId) -> usize
+    ensures { result ≡ number_of callers.now caller.now }
+{
+    callers
+        .iter()
+        .filter(|c| comes_before(c, caller))
+        .count()
+}
+
+/// The caller with a number.
+fn numbered(callers: &[CallerId], number: usize) -> Option<CallerId>
+    ensures { result ≡ numbered callers.now number }
+{
+    callers
+        .iter()
+        .copied()
+        .find(|c| number_of(callers, c) == number)
+}
+
+/// The callers by their numbers.
+#[tactic(auto, using(crate::proofs::Numbers::numbered_more))]
+pub fn all_numbered(
+    alloc: Global,
+    callers: &[CallerId],
+) -> Result<Rows<Option<CallerId>>, NoMemory>
+    ensures { IfOk result (λ rows. rows ≡ all_numbered callers.now) }
+{
+    let mut rows = Rows::with_room(alloc, callers.len())?;
+    for number in 0..callers.len() {
+        rows.push(numbered(callers, number))?;
+    }
+    Ok(rows)
+}
