@@ -2,4 +2,6 @@ pub mod FewCallers
 pub mod Histories
 pub mod Looks
 pub mod Numbers
+pub mod Recordable
+pub mod Sections
 pub mod Wholes
