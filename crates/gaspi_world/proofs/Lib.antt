@@ -1,5 +1,6 @@
 pub mod FewCallers
 pub mod Histories
+pub mod Holdings
 pub mod Looks
 pub mod Numbers
 pub mod Recordable

@@ -1,4 +1,6 @@
 pub mod Callers
+pub mod Holds
+pub mod Moves
 pub mod Passes
 pub mod Shards
 pub mod WorldLaws

@@ -35,7 +35,7 @@ abbrev pub part_after : State → List (ℕ × Event) → ℕ → ℕ → List E
 part_after s journal room place events = record { state = s; journal = journal ++ placed place events; room = room }
 
 -- the events left of a sound state are fewer by each step
-left-after : (s t : State) (events : List Event) → IsSound s → after s events ≡ Ok t → events_left t + length events ≡ events_left s
+pub left-after : (s t : State) (events : List Event) → IsSound s → after s events ≡ Ok t → events_left t + length events ≡ events_left s
 left-after s t [] sound h = (let same : s ≡ t = same_Ok s t h in ap (λ (x : State). events_left x + 0) (sym same) ∙ omega arith)
 left-after s t (e ∷ events) sound h =
     bind_then (step s e) _ t h (λ next made later.

@@ -6,13 +6,16 @@
 #![tactic(auto)]
 
 mod callers;
+mod holding;
 mod laws;
+mod moving;
 mod ranks;
 mod shards;
 mod starts;
 mod worlds;
 
 pub use laws::world_histories;
+pub use moving::Moving;
 pub use ranks::{Note, Rank};
 pub use shards::{Placed, WorldShard};
 pub use starts::Start;
