@@ -1,3 +1,4 @@
+pub mod Attempts
 pub mod Callers
 pub mod Holds
 pub mod Moves
@@ -5,3 +6,4 @@ pub mod Passes
 pub mod Shards
 pub mod WorldLaws
 pub mod WorldMachine
+pub mod Works

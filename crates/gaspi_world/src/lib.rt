@@ -5,6 +5,7 @@
 //! history of the machine from its start (`world_histories`), which exists in proofs alone.
 #![tactic(auto)]
 
+mod attempts;
 mod callers;
 mod holding;
 mod laws;
@@ -14,6 +15,7 @@ mod shards;
 mod starts;
 mod worlds;
 
+pub use attempts::Halt;
 pub use laws::world_histories;
 pub use moving::Moving;
 pub use ranks::{Note, Rank};

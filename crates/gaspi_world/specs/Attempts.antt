@@ -1,0 +1,133 @@
+-- What an attempt of a call tells.
+use Rattle.std.specs.Prelude.{◌≡◌, ◌⊎◌, ℕ, ◌+◌, ◌<◌, ◌≤◌, Bool, true, false, not, nat_lt, List, [], ◌∷◌, ◌++◌, length, take, Option, None, Some, Result, Ok, Err}
+use mathlib.Core.List.{IsPrefix}
+use Rattle.gaspi_types.specs.CallRows.{need_of}
+use Rattle.gaspi_types.specs.World.{World}
+use Rattle.gaspi_types.specs.declared.calls.Call.{Call}
+use Rattle.gaspi_types.specs.declared.events.Event.{Event}
+use Rattle.gaspi_types.specs.declared.events.Event.TheVariants.{Called}
+use Rattle.gaspi_types.specs.declared.groups.Args.{Args}
+use Rattle.gaspi_types.specs.declared.replies.Ready.{Ready}
+use Rattle.gaspi_types.specs.declared.replies.Ready.TheVariants as ready
+use Rattle.gaspi_types.specs.declared.replies.Reply.{Reply}
+use Rattle.gaspi_types.specs.declared.replies.Reply.TheVariants.{Timeout}
+use Rattle.gaspi_types.specs.declared.shapes.CallerId.{CallerId}
+use Rattle.gaspi_model.specs.Step.{reached, is_legal, is_active, is_pending, answer_in, room_taken}
+use Rattle.gaspi_model.specs.declared.states.State.{State}
+use Rattle.gaspi_model.specs.declared.states.Why.{Why}
+use Rattle.plain_machine.specs.Looking.{join_event}
+use Rattle.timeout_state.specs.declared.budget.Look.{Look}
+use Rattle.timeout_state.specs.declared.budget.Look.TheVariants.{More, Final}
+use Rattle.commit_table.specs.Attempts.{Missed}
+use Rattle.commit_table.specs.declared.views.Known.{Known}
+use Rattle.gaspi_world.specs.Callers.{events_of}
+use Rattle.gaspi_world.specs.Shards.{shard_part}
+use Rattle.gaspi_world.specs.WorldMachine.{world_machine}
+use Rattle.gaspi_world.specs.declared.attempts.Halt.{Halt}
+use Rattle.gaspi_world.specs.declared.attempts.Halt.TheVariants.{Busy, NotYet, NoMemory, EventLimit}
+
+-- neither refused nor ready: a collective may still join, or it waits
+abbrev pub is_waiting : Option Ready → Bool
+is_waiting None = false
+is_waiting (Some (ready.Reply reply)) = false
+is_waiting (Some (ready.Join args)) = true
+is_waiting (Some ready.NotReady) = true
+
+-- the caller's rank has no room for what the call needs
+abbrev pub is_full_in : State → CallerId → Call → Bool
+is_full_in s c call = nat_lt s.limits.events (room_taken s c.rank + need_of call (is_pending s c.rank c.thread call) (not (is_active s c.rank c.thread)))
+
+module _ (w : World) (c : CallerId) (call : Call) where
+  -- what a look at the call answers after a history
+  abbrev pub found_after : List Event → Option Ready
+  found_after history = found_in (reached w history)
+    where
+      found_in : Result State Why → Option Ready
+      found_in (Err why) = None
+      found_in (Ok s) = answer_in s c.rank c.thread call
+
+  -- the same after a history
+  abbrev pub is_full_after : List Event → Bool
+  is_full_after history = full_in (reached w history)
+    where
+      full_in : Result State Why → Bool
+      full_in (Err why) = false
+      full_in (Ok s) = is_full_in s c call
+
+  -- the call may have joined its group after a history where a look at it found that it may, and none was pending then
+  abbrev pub MayHaveJoined : List Event → List Event → Type 0
+  MayHaveJoined history joins = (joins ≡ []) ⊎ ((args : Args) × (joins ≡ join_event c call args ∷ []) × (found_after history ≡ Some (ready.Join args)))
+
+module _ {S : Type 0} (w : World) (c : CallerId) where
+  -- What a pass has seen goes on from what it had seen, is a legal history, and has of the caller just what the pass did.
+  pub record GoesOn (v n : Known S Event) : Type 0 where
+    pub seen : IsPrefix v.seen n.seen
+    pub legal : is_legal w n.seen ≡ true
+    pub own : events_of c n.seen ≡ n.mine
+    pub party : n.party ≡ v.party
+    pub start : n.start ≡ v.start
+
+  -- One look was made, after a history that goes on from what had been seen, and that what is seen now goes on from.
+  pub record LookedOnce (v n : Known S Event) (history : List Event) : Type 0 where
+    pub looks : n.looks ≡ v.looks ++ length history ∷ []
+    pub later : IsPrefix v.seen history
+    pub earlier : IsPrefix history n.seen
+    pub missed : n.missed ≡ v.missed
+
+  -- The call was recorded with its reply, once, after the one look, and its join before it where it had to join. What is seen ends with
+  -- the call. It is a timeout only at the last look, and where the call was neither refused nor ready.
+  pub record IsRecorded (call : Call) (look : Look) (reply : Reply) (v n : Known S Event) : Type 0 where
+    pub goes_on : GoesOn v n
+    pub history : List Event
+    pub looked : LookedOnce v n history
+    pub before : List Event
+    pub ends : n.seen ≡ before ++ Called c call reply ∷ []
+    pub after_look : IsPrefix history before
+    pub joins : List Event
+    pub joined : MayHaveJoined w c call history joins
+    pub mine : n.mine ≡ (v.mine ++ joins) ++ Called c call reply ∷ []
+    pub room : is_full_after w c call history ≡ false
+    pub last : reply ≡ Timeout → look ≡ Final
+    pub unready : reply ≡ Timeout → is_waiting (found_after w c call history) ≡ true
+
+  -- The call is not ready, at a look that was not the last. It may have joined; a collective is pending then.
+  pub record IsNotYet (call : Call) (look : Look) (v n : Known S Event) : Type 0 where
+    pub goes_on : GoesOn v n
+    pub history : List Event
+    pub looked : LookedOnce v n history
+    pub joins : List Event
+    pub joined : MayHaveJoined w c call history joins
+    pub mine : n.mine ≡ v.mine ++ joins
+    pub room : is_full_after w c call history ≡ false
+    pub more : look ≡ More
+    pub unready : is_waiting (found_after w c call history) ≡ true
+    pub still : found_after w c call n.seen ≡ Some ready.NotReady
+
+  -- The rank had no room for what the call needs.
+  pub record IsAtLimit (call : Call) (v n : Known S Event) : Type 0 where
+    pub goes_on : GoesOn v n
+    pub looked : LookedOnce v n n.seen
+    pub mine : n.mine ≡ v.mine
+    pub full : is_full_after w c call n.seen ≡ true
+
+  -- There was no memory. The call may have joined; it is not recorded.
+  pub record IsOutOfMemory (call : Call) (v n : Known S Event) : Type 0 where
+    pub goes_on : GoesOn v n
+    pub history : List Event
+    pub looked : LookedOnce v n history
+    pub joins : List Event
+    pub joined : MayHaveJoined w c call history joins
+    pub mine : n.mine ≡ v.mine ++ joins
+    pub room : is_full_after w c call history ≡ false
+
+  -- The shard was missed, which another pass held, and no look was made.
+  pub record IsBusy (v n : Known S Event) : Type 0 where
+    pub goes_on : GoesOn v n
+    pub missed : Missed (world_machine shard_part w) v (λ i. i ≡ 0) n
+
+  abbrev pub Attempted : Call → Look → Known S Event → Result Reply Halt → Known S Event → Type 0
+  Attempted call look v (Ok reply) n = IsRecorded call look reply v n
+  Attempted call look v (Err Busy) n = IsBusy v n
+  Attempted call look v (Err NotYet) n = IsNotYet call look v n
+  Attempted call look v (Err EventLimit) n = IsAtLimit call v n
+  Attempted call look v (Err NoMemory) n = IsOutOfMemory call v n
