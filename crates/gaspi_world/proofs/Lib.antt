@@ -5,4 +5,6 @@ pub mod Looks
 pub mod Numbers
 pub mod Recordable
 pub mod Sections
+pub mod Timely
 pub mod Wholes
+pub mod Working

@@ -1,7 +1,9 @@
 //! One attempt to make a call, which never waits.
 
-ghost use Rattle.std.specs.Prelude.{◌≡◌, ◌<◌, ◌+◌, false, true, Some, Err, IfOk, IfErr, IsOk};
+ghost use Rattle.std.specs.Prelude.{◌≡◌, ◌<◌, ◌+◌, false, true, Some, Err, Ok, IfOk, IfErr, IsOk};
+ghost use Rattle.gaspi_types.specs.World.{IsWorld};
 ghost use Rattle.gaspi_types.specs.declared.events.Event.TheVariants.{Called};
+ghost use Rattle.gaspi_types.specs.declared.groups.Args.{Args};
 ghost use Rattle.gaspi_types.specs.declared.replies.Ready.TheVariants.{Join};
 ghost use Rattle.gaspi_model.specs.Calls.{recorded_reply};
 ghost use Rattle.gaspi_model.specs.CollectiveCalls.{is_joining};
@@ -49,18 +51,23 @@ fn recorded_reply(alloc: Global, found: &Finding) -> Result<Reply, gaspi_types::
     }
 }
 
-/// The arguments with which a call that was found so may join its group.
-fn join_args(found: Finding) -> Option<Args>
-    ensures { (args : Args) → found.ready ≡ Join args → result ≡ Some args }
+/// The arguments with which a call that was found so may join its group; where it may not, what was found.
+fn join_args(found: Finding) -> Result<Args, Finding>
+    ensures joins { (args : Args) → found.ready ≡ Join args → result ≡ Ok args }
+    ensures other { is_joining found.ready ≡ false → result ≡ Err found }
 {
     let Finding {
         ready,
-        kinds: _,
-        message: _,
+        kinds,
+        message,
     } = found;
     match ready {
-        Ready::Join(args) => Some(args),
-        Ready::Reply(_) | Ready::NotReady => None,
+        Ready::Join(args) => Ok(args),
+        Ready::Reply(_) | Ready::NotReady => Err(Finding {
+            ready,
+            kinds,
+            message,
+        }),
     }
 }
 
@@ -116,4 +123,147 @@ fn record(
         Err(StepFault::Illegal(_)) => unreachable!(),
         Err(StepFault::NoMemory) => Err(Halt::NoMemory),
     }
+}
+
+/// Records a call as it was found, and commits it; or leaves it for another look, where it is not ready and there may be one.
+fn settle(
+    table: &CommitTable<Start>,
+    pass: &mut Pass,
+    alloc: Global,
+    shard: &mut WorldShard,
+    caller: &CallerId,
+    call: &Call,
+    look: Look,
+    found: Finding,
+) -> Result<Reply, Halt>
+    requires pass { IsOf table.now pass.old }
+    requires caller { IsPassOf table.now.start.shape caller.now pass.old.known }
+    requires held { Holds table.now.start.shape (shard_part shard.old) pass.old.known }
+    requires declared { is_declared shard.old.machine caller.now.rank caller.now.thread ≡ true }
+    requires look { IsFindingIn found shard.old.machine caller.now call.now }
+    requires unjoined { is_joining found.ready ≡ false }
+    requires step { IsOk (step shard.old.machine (Called caller.now call.now (recorded_reply found.ready))) }
+    ensures table { pass.new.table ≡ pass.old.table }
+    ensures held { Holds table.now.start.shape (shard_part shard.new) pass.new.known }
+    ensures settled { Settled table.now.start.shape caller.now call.now found.ready look pass.old.known result pass.new.known }
+{
+    if is_early(&found, look) {
+        return Err(Halt::NotYet);
+    }
+    record(table, pass, alloc, shard, caller, call, found)
+}
+
+/// Joins a collective to its group, where a look found that it may, and commits the join. (GASPI: collectives)
+fn join(
+    table: &CommitTable<Start>,
+    pass: &mut Pass,
+    alloc: Global,
+    shard: &mut WorldShard,
+    caller: &CallerId,
+    call: &Call,
+    args: Args,
+) -> Result<(), Halt>
+    requires pass { IsOf table.now pass.old }
+    requires caller { IsPassOf table.now.start.shape caller.now pass.old.known }
+    requires held { Holds table.now.start.shape (shard_part shard.old) pass.old.known }
+    requires declared { is_declared shard.old.machine caller.now.rank caller.now.thread ≡ true }
+    requires joins { answer_in shard.old.machine caller.now.rank caller.now.thread call.now ≡ Some (Join args) }
+    requires step { IsOk (step shard.old.machine (join_event caller.now call.now args)) }
+    ensures table { pass.new.table ≡ pass.old.table }
+    ensures held { Holds table.now.start.shape (shard_part shard.new) pass.new.known }
+    ensures joined { IfOk result (λ done. step shard.old.machine (join_event caller.now call.now args) ≡ Ok shard.new.machine) }
+    ensures added { IfOk result (λ done. Added table.now.start.shape pass.old.known (join_event caller.now call.now args) pass.new.known) }
+    ensures halt { IfErr result (λ halt. (halt ≡ NoMemory) × (pass.new.known ≡ pass.old.known)) }
+{
+    match shard.machine.join(alloc, *caller, call, args) {
+        Ok(event) => {
+            advance(table, pass, shard, event);
+            Ok(())
+        }
+        Err(StepFault::Illegal(_)) => unreachable!(),
+        Err(StepFault::NoMemory) => Err(Halt::NoMemory),
+    }
+}
+
+/// Joins a collective to its group, looks at it once more, and settles it. (GASPI: collectives)
+fn join_first(
+    table: &CommitTable<Start>,
+    pass: &mut Pass,
+    alloc: Global,
+    shard: &mut WorldShard,
+    caller: &CallerId,
+    call: &Call,
+    look: Look,
+    args: Args,
+) -> Result<Reply, Halt>
+    requires world { IsWorld table.now.start.shape }
+    requires pass { IsOf table.now pass.old }
+    requires caller { IsPassOf table.now.start.shape caller.now pass.old.known }
+    requires held { Holds table.now.start.shape (shard_part shard.old) pass.old.known }
+    requires room { is_full_in shard.old.machine caller.now call.now ≡ false }
+    requires joins { answer_in shard.old.machine caller.now.rank caller.now.thread call.now ≡ Some (Join args) }
+    ensures table { pass.new.table ≡ pass.old.table }
+    ensures held { Holds table.now.start.shape (shard_part shard.new) pass.new.known }
+    ensures worked { WorkedOut table.now.start.shape caller.now call.now look pass.old.known result pass.new.known }
+{
+    join(table, pass, alloc, shard, caller, call, args)?;
+    let Ok(found) = shard.machine.look(alloc, *caller, call) else {
+        return Err(Halt::NoMemory);
+    };
+    settle(table, pass, alloc, shard, caller, call, look, found)
+}
+
+/// Makes a call while the shard is held: tests the room, looks, joins where it must, and settles.
+fn work(
+    table: &CommitTable<Start>,
+    pass: &mut Pass,
+    alloc: Global,
+    shard: &mut WorldShard,
+    caller: &CallerId,
+    call: &Call,
+    look: Look,
+) -> Result<Reply, Halt>
+    requires world { IsWorld table.now.start.shape }
+    requires pass { IsOf table.now pass.old }
+    requires caller { IsPassOf table.now.start.shape caller.now pass.old.known }
+    requires held { Holds table.now.start.shape (shard_part shard.old) pass.old.known }
+    ensures table { pass.new.table ≡ pass.old.table }
+    ensures held { Holds table.now.start.shape (shard_part shard.new) pass.new.known }
+    ensures worked { WorkedOut table.now.start.shape caller.now call.now look pass.old.known result pass.new.known }
+{
+    if is_full(shard, caller, call) {
+        return Err(Halt::EventLimit);
+    }
+    let Ok(found) = shard.machine.look(alloc, *caller, call) else {
+        return Err(Halt::NoMemory);
+    };
+    match join_args(found) {
+        Ok(args) => join_first(table, pass, alloc, shard, caller, call, look, args),
+        Err(found) => settle(table, pass, alloc, shard, caller, call, look, found),
+    }
+}
+
+/// One attempt of a caller to make a call: it takes the shard, looks, does what the look allows, and gives the shard back.
+pub fn attempt(
+    table: &CommitTable<Start>,
+    pass: &mut Pass,
+    alloc: Global,
+    caller: &CallerId,
+    call: &Call,
+    look: Look,
+) -> Result<Reply, Halt>
+    requires world { IsWorld table.now.start.shape }
+    requires pass { IsOf table.now pass.old }
+    requires free { HoldsNone pass.old.known }
+    requires caller { IsPassOf table.now.start.shape caller.now pass.old.known }
+    ensures table { pass.new.table ≡ pass.old.table }
+    ensures free { HoldsNone pass.new.known }
+    ensures attempted { Attempted table.now.start.shape caller.now call.now look pass.old.known result pass.new.known }
+{
+    let Some(mut shard) = open(table, pass) else {
+        return Err(Halt::Busy);
+    };
+    let told = work(table, pass, alloc, &mut shard, caller, call, look);
+    leave(table, pass, shard);
+    told
 }
