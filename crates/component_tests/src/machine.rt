@@ -53,6 +53,7 @@ fn lists(rt: &impl Abort, alloc: Global, machine: &mut Machine, put: bool) -> Re
     assert!(rt; transfers.as_slice() == expected);
     assert_eq!(rt; machine.transfer_count(), 1);
     assert!(rt; machine.transfer_at(0) == Some(transfer(put)));
+    assert!(rt; machine.transfer_of(RankId::of(0)) == Some(transfer(put)));
     Ok(())
 }
 
