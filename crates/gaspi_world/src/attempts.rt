@@ -3,7 +3,6 @@
 ghost use Rattle.std.specs.Prelude.{◌≡◌, ◌<◌, ◌+◌, false, true, Some, Err, Ok, IfOk, IfErr, IsOk};
 ghost use Rattle.gaspi_types.specs.World.{IsWorld};
 ghost use Rattle.gaspi_types.specs.declared.events.Event.TheVariants.{Called};
-ghost use Rattle.gaspi_types.specs.declared.groups.Args.{Args};
 ghost use Rattle.gaspi_types.specs.declared.replies.Ready.TheVariants.{Join};
 ghost use Rattle.gaspi_model.specs.Calls.{recorded_reply};
 ghost use Rattle.gaspi_model.specs.CollectiveCalls.{is_joining};
@@ -53,8 +52,8 @@ fn recorded_reply(alloc: Global, found: &Finding) -> Result<Reply, gaspi_types::
 
 /// The arguments with which a call that was found so may join its group; where it may not, what was found.
 fn join_args(found: Finding) -> Result<Args, Finding>
-    ensures joins { (args : Args) → found.ready ≡ Join args → result ≡ Ok args }
-    ensures other { is_joining found.ready ≡ false → result ≡ Err found }
+    ensures joins { IfOk result (λ args. found.ready ≡ Join args) }
+    ensures other { IfErr result (λ same. (same ≡ found) × (is_joining found.ready ≡ false)) }
 {
     let Finding {
         ready,
