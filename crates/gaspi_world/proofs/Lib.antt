@@ -1,3 +1,4 @@
+pub mod Endings
 pub mod FewCallers
 pub mod Histories
 pub mod Looks

@@ -1,4 +1,5 @@
 pub mod Callers
+pub mod Closing
 pub mod Passes
 pub mod Shards
 pub mod WorldLaws

@@ -6,12 +6,14 @@
 #![tactic(auto)]
 
 mod callers;
+mod closing;
 mod laws;
 mod ranks;
 mod shards;
 mod starts;
 mod worlds;
 
+pub use closing::{Tally, Unclosed};
 pub use laws::world_histories;
 pub use ranks::{Note, Rank};
 pub use shards::{Placed, WorldShard};
