@@ -7,6 +7,7 @@
 
 mod callers;
 mod closing;
+mod launching;
 mod laws;
 mod ranks;
 mod shards;
@@ -14,6 +15,7 @@ mod starts;
 mod worlds;
 
 pub use closing::{Tally, Unclosed};
+pub use launching::{Body, Task, launch};
 pub use laws::world_histories;
 pub use ranks::{Note, Rank};
 pub use shards::{Placed, WorldShard};
