@@ -1,8 +1,10 @@
+pub mod Endings
 pub mod FewCallers
 pub mod Histories
 pub mod Holdings
 pub mod Looks
 pub mod Numbers
+pub mod OwnEvents
 pub mod Recordable
 pub mod Sections
 pub mod Timely

@@ -23,7 +23,7 @@ use Rattle.plain_machine.specs.Looking.{join_event}
 use Rattle.timeout_state.specs.declared.budget.Look.{Look}
 use Rattle.timeout_state.specs.declared.budget.Look.TheVariants.{More, Final}
 use Rattle.commit_table.specs.Attempts.{LookedOnly, Missed}
-use Rattle.commit_table.specs.Views.{mine_after}
+use Rattle.commit_table.specs.Views.{mine_after, gave_back}
 use Rattle.commit_table.specs.declared.views.Known.{Known}
 use Rattle.gaspi_world.specs.Attempts.{is_waiting, is_full_in, found_after, is_full_after, MayHaveJoined, GoesOn, LookedOnce, IsBusy, Attempted}
 use Rattle.gaspi_world.specs.Callers.{IsPassOf}
@@ -139,7 +139,7 @@ seen-more m n joins calls is = subst (IsPrefix m.seen) (sym is) (prefix_more m.s
 
 module _ {S : Type 0} (w : World) (c : CallerId) where
   -- an attempt tells what was done while the shard was held, and the one look before it
-  goes-on : (v m n : Known S Event) (joins calls : List Event) (call : Call) → IsWorld w → IsPassOf w c v → LookedOnly (world_machine shard_part w) v m → (x : WorldPart) → Holds w x n → Worked w c call joins calls m n → GoesOn w c v n
+  goes-on : (v m n : Known S Event) (joins calls : List Event) (call : Call) → IsWorld w → IsPassOf w c v → LookedOnly (world_machine shard_part w) v m → (x : WorldPart) → Holds w x n → Worked w c call joins calls m n → GoesOn w c v (gave_back n 0)
   goes-on v m n joins calls call world pass look x holds worked = record {
     seen = prefix_trans v.seen m.seen n.seen look.goes_on (seen-more m n joins calls worked.seen);
     legal = rw holds.state refl;
@@ -148,7 +148,7 @@ module _ {S : Type 0} (w : World) (c : CallerId) where
     start = worked.start ∙ look.start;
   }
 
-  looked-once : (v m n : Known S Event) (joins calls : List Event) (call : Call) → LookedOnly (world_machine shard_part w) v m → Worked w c call joins calls m n → LookedOnce w c v n m.seen
+  looked-once : (v m n : Known S Event) (joins calls : List Event) (call : Call) → LookedOnly (world_machine shard_part w) v m → Worked w c call joins calls m n → LookedOnce w c v (gave_back n 0) m.seen
   looked-once v m n joins calls call look worked = record {
     looks = worked.looks ∙ look.looks;
     later = look.goes_on;
@@ -156,7 +156,7 @@ module _ {S : Type 0} (w : World) (c : CallerId) where
     missed = worked.missed ∙ look.missed;
   }
 
-  pub attempted : (call : Call) (look : Look) (v m n : Known S Event) (x : WorldPart) (r : Result Reply Halt) → IsWorld w → IsPassOf w c v → LookedOnly (world_machine shard_part w) v m → Holds w x n → WorkedOut w c call look m r n → Attempted w c call look v r n
+  pub attempted : (call : Call) (look : Look) (v m n : Known S Event) (x : WorldPart) (r : Result Reply Halt) → IsWorld w → IsPassOf w c v → LookedOnly (world_machine shard_part w) v m → Holds w x n → WorkedOut w c call look m r n → Attempted w c call look v r (gave_back n 0)
   attempted call look v m n x (Ok reply) world pass looks holds (joins, worked, room, last, unready) = record {
     goes_on = goes-on v m n joins (Called c call reply ∷ []) call world pass looks x holds worked;
     history = m.seen;
@@ -197,7 +197,7 @@ module _ {S : Type 0} (w : World) (c : CallerId) where
       let seen : m.seen ≡ n.seen = ap (λ (k : Known S Event). k.seen) (sym same) in
       record {
         goes_on = goes-on v m n [] [] call world pass looks x holds worked;
-        looked = subst (LookedOnce w c v n) seen (looked-once v m n [] [] call looks worked);
+        looked = subst (LookedOnce w c v (gave_back n 0)) seen (looked-once v m n [] [] call looks worked);
         mine = ap (λ (k : Known S Event). k.mine) same ∙ looks.mine;
         full = ap (is_full_after w c call) (sym seen) ∙ full;
       }

@@ -1,9 +1,10 @@
 pub mod Attempts
 pub mod Callers
+pub mod Closing
 pub mod Holds
 pub mod Moves
 pub mod Passes
 pub mod Shards
+pub mod Works
 pub mod WorldLaws
 pub mod WorldMachine
-pub mod Works

@@ -18,10 +18,7 @@ fn comes_before(a: &CallerId, b: &CallerId) -> bool
 fn number_of(callers: &[CallerId], caller: &CallerId) -> usize
     ensures { result ≡ number_of callers.now caller.now }
 {
-    callers
-        .iter()
-        .filter(|c| comes_before(c, caller))
-        .count()
+    callers.iter().filter(|c| comes_before(c, caller)).count()
 }
 
 /// The caller with a number.
@@ -36,10 +33,7 @@ fn numbered(callers: &[CallerId], number: usize) -> Option<CallerId>
 
 /// The callers by their numbers.
 #[tactic(auto, using(crate::proofs::Numbers::numbered_more))]
-pub fn all_numbered(
-    alloc: Global,
-    callers: &[CallerId],
-) -> Result<Rows<Option<CallerId>>, NoMemory>
+pub fn all_numbered(alloc: Global, callers: &[CallerId]) -> Result<Rows<Option<CallerId>>, NoMemory>
     ensures { IfOk result (λ rows. rows ≡ all_numbered callers.now) }
 {
     let mut rows = Rows::with_room(alloc, callers.len())?;

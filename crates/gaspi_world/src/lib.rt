@@ -7,7 +7,9 @@
 
 mod attempts;
 mod callers;
+mod closing;
 mod holding;
+mod launching;
 mod laws;
 mod moving;
 mod ranks;
@@ -16,6 +18,8 @@ mod starts;
 mod worlds;
 
 pub use attempts::Halt;
+pub use closing::{Tally, Unclosed};
+pub use launching::{Body, Task, launch};
 pub use laws::world_histories;
 pub use moving::Moving;
 pub use ranks::{Note, Rank};

@@ -38,6 +38,7 @@ impl<'a> Rank<'a> {
         requires note { note.table ≡ self.old.world.now.table }
         ensures table { self.new.pass.now.table ≡ self.old.pass.now.table }
         ensures looked { LookedOnly (world_machine shard_part self.old.world.now.start.shape) self.old.pass.now.known self.new.pass.now.known }
+        ensures held { self.new.pass.now.known.held ≡ self.old.pass.now.known.held }
         ensures learned { IsPrefix note.known.seen self.new.pass.now.known.seen }
     {
         self.world.table().learn(self.pass, note);

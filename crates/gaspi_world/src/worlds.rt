@@ -108,6 +108,14 @@ impl World {
         &self.table
     }
 
+    /// The table alone.
+    pub(crate) fn into_table(self) -> CommitTable<Start>
+        ensures { result ≡ self }
+    {
+        let World { table, .. } = self;
+        table
+    }
+
     /// The caller whose pass this is.
     pub(crate) fn caller_of(&self, pass: &Pass) -> CallerId
         requires { (c : CallerId) × IsPassOf self.now.start.shape c pass.now.known }

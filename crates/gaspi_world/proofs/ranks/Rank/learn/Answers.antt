@@ -1,4 +1,4 @@
-use Rattle.std.proofs.Common.{subst}
+use Rattle.std.proofs.Common.{ap, subst}
 use Rattle.commit_table.specs.Attempts.{LookedOnly}
 use Rattle.commit_table.specs.Calls.{TableValue}
 use Rattle.gaspi_world.specs.Shards.{shard_part}
@@ -12,3 +12,6 @@ returns-clause-looked c =
     let told = c.learn.ensures.told in
     subst (λ (t : TableValue Start). LookedOnly (world_machine shard_part t.start.shape) c.args.self.now.pass.now.known c.learn.new.pass.known) c.table.ensures
     (looked-only (world_machine shard_part c.table.result.now.start.shape) c.args.self.now.pass.now.known _ told.0 c.learn.new.pass.known told.1)
+
+pub returns-clause-held : goal.returns-clause-held
+returns-clause-held c = (let told = c.learn.ensures.told in ap (λ known. known.held) told.1.is)

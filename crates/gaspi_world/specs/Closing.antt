@@ -1,0 +1,17 @@
+-- What is known of a world that was closed.
+use Rattle.std.specs.Prelude.{◌≡◌, ℕ, List, Some, slice_get}
+use mathlib.Core.List.{IsPrefix}
+use Rattle.gaspi_types.specs.World.{World}
+use Rattle.gaspi_types.specs.declared.events.Event.{Event}
+use Rattle.gaspi_types.specs.declared.shapes.CallerId.{CallerId}
+use Rattle.commit_table.specs.Calls.{PassValue}
+use Rattle.gaspi_world.specs.Callers.{IsPassOf, events_of}
+
+module _ {S : Type 0} where
+  -- each pass saw a beginning of the journal
+  abbrev pub HaveSeen : List Event → List (PassValue S Event) → Type 0
+  HaveSeen journal passes = (k : ℕ) (p : PassValue S Event) → slice_get passes k ≡ Some p → IsPrefix p.known.seen journal
+
+  -- what the pass of a caller did are the calls and joins of the caller in the journal, in order
+  abbrev pub HaveDone : World → List Event → List (PassValue S Event) → Type 0
+  HaveDone w journal passes = (c : CallerId) (k : ℕ) (p : PassValue S Event) → slice_get passes k ≡ Some p → IsPassOf w c p.known → events_of c journal ≡ p.known.mine

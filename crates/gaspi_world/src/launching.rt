@@ -1,0 +1,63 @@
+//! Bodies, and the launch of a world's threads. (own choice)
+
+ghost use Rattle.std.specs.Prelude.{◌≡◌, ℕ, ◌<◌, length, slice_index_or};
+ghost use Rattle.std.specs.List.{All};
+
+use crate::starts::Start;
+use crate::worlds::{Pass, World};
+use gaspi_types::Event;
+use std::alloc::Global;
+use std::sync::Wait;
+use std::thread;
+use std::thread::Threads;
+
+/// What a thread of a world does with its pass.
+pub trait Body {
+    ghost use Rattle.commit_table.specs.Calls.{TableValue, PassValue};
+    ghost use Rattle.gaspi_types.specs.declared.events.Event.{Event};
+    ghost use Rattle.gaspi_world.specs.declared.starts.Start.{Start};
+
+    /// What it needs of itself, of the world and of its pass.
+    ghost needs: { Self → TableValue Start → PassValue Start Event → Type 0 };
+
+    /// What it makes of itself and of its pass: of both before, and of both after.
+    ghost did: { Self → PassValue Start Event → Self → PassValue Start Event → Type 0 };
+
+    /// Does it, once.
+    fn run<R: Wait>(&mut self, rt: &R, alloc: Global, world: &World, pass: &mut Pass)
+        requires { needs self.old world.now pass.old }
+        ensures { did self.old pass.old self.new pass.new };
+}
+
+/// A body with its pass.
+#[derive(Drop)]
+pub struct Task<B> {
+    pub body: B,
+    pub pass: Pass,
+}
+
+/// Runs every body once, each on a thread of its own. Where no thread can be had, the bodies run one after another in the
+/// order of the list, so callers stand before workers there.
+pub fn launch<R: Threads + Wait + Sync, B: Body + Send>(
+    rt: &R,
+    alloc: Global,
+    world: &World,
+    tasks: &mut [Task<B>],
+)
+    requires { All (λ t. B.needs t.body world.now t.pass) tasks.old }
+    ensures count { length tasks.new ≡ length tasks.old }
+    ensures did { (i : ℕ) (d : Task B) → i < length tasks.old → B.did (slice_index_or tasks.old i d).body (slice_index_or tasks.old i d).pass (slice_index_or tasks.new i d).body (slice_index_or tasks.new i d).pass }
+{
+    if tasks.is_empty() {
+        return;
+    }
+    thread::for_each_mut(
+        rt,
+        tasks,
+        tasks.len(),
+        &|_, task: &mut Task<B>|
+            requires { B.needs task.now.body world.now task.now.pass }
+            ensures { B.did task.entry.now.body task.entry.now.pass task.exit.now.body task.exit.now.pass }
+        { task.body.run(rt, alloc, world, &mut task.pass) },
+    );
+}
