@@ -7,6 +7,8 @@ pub mod Numbers
 pub mod OwnEvents
 pub mod Recordable
 pub mod Sections
+pub mod StaysPending
 pub mod Timely
+pub mod Waiting
 pub mod Wholes
 pub mod Working

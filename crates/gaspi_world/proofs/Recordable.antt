@@ -90,7 +90,7 @@ join-active s rank thread call args is = go (is_active s rank thread) refl
     go false ended = absurd (let refused = ended-answers s rank thread call (Join args) ended is in let no : ⊥ = cc in no)
 
 -- a call that may join is a collective
-join-group : (s : State) (rank thread : ℕ) (call : Call) (args : Args) → answer_in s rank thread call ≡ Some (Join args) → (id : ℕ) × ((row_of call).group ≡ Some id)
+pub join-group : (s : State) (rank thread : ℕ) (call : Call) (args : Args) → answer_in s rank thread call ≡ Some (Join args) → (id : ℕ) × ((row_of call).group ≡ Some id)
 join-group s rank thread call args is =
     let p = answered-posts s rank thread call (Join args) is in
     go p.0 p.1 (row_of call).group refl

@@ -148,11 +148,14 @@ module _ {S : Type 0} (w : World) (c : CallerId) where
     start = worked.start ∙ look.start;
   }
 
-  looked-once : (v m n : Known S Event) (joins calls : List Event) (call : Call) → LookedOnly (world_machine shard_part w) v m → Worked w c call joins calls m n → LookedOnce w c v (gave_back n 0) m.seen
-  looked-once v m n joins calls call look worked = record {
+  looked-once : (v m n : Known S Event) (joins calls : List Event) (call : Call) → IsWorld w → IsPassOf w c v → LookedOnly (world_machine shard_part w) v m → Worked w c call joins calls m n → LookedOnce w c v (gave_back n 0) m.seen
+  looked-once v m n joins calls call world pass look worked = record {
     looks = worked.looks ∙ look.looks;
-    later = look.goes_on;
-    earlier = seen-more m n joins calls worked.seen;
+    is_look = record {
+      later = look.goes_on;
+      earlier = seen-more m n joins calls worked.seen;
+      own = sym (mine-events w c m.seen world pass.0) ∙ (look.own (number_of w.callers c) (look.party ∙ pass.1) ∙ look.mine);
+    };
     missed = worked.missed ∙ look.missed;
   }
 
@@ -160,7 +163,7 @@ module _ {S : Type 0} (w : World) (c : CallerId) where
   attempted call look v m n x (Ok reply) world pass looks holds (joins, worked, room, last, unready) = record {
     goes_on = goes-on v m n joins (Called c call reply ∷ []) call world pass looks x holds worked;
     history = m.seen;
-    looked = looked-once v m n joins (Called c call reply ∷ []) call looks worked;
+    looked = looked-once v m n joins (Called c call reply ∷ []) call world pass looks worked;
     before = m.seen ++ joins;
     ends = worked.seen;
     after_look = prefix_more m.seen m.seen joins (prefix_self m.seen);
@@ -174,7 +177,7 @@ module _ {S : Type 0} (w : World) (c : CallerId) where
   attempted call look v m n x (Err NotYet) world pass looks holds (joins, worked, room, more, unready, still) = record {
     goes_on = goes-on v m n joins [] call world pass looks x holds worked;
     history = m.seen;
-    looked = looked-once v m n joins [] call looks worked;
+    looked = looked-once v m n joins [] call world pass looks worked;
     joins = joins;
     joined = worked.joined;
     mine = worked.mine ∙ (append-nil (m.mine ++ joins) ∙ ap (λ (es : List Event). es ++ joins) looks.mine);
@@ -186,7 +189,7 @@ module _ {S : Type 0} (w : World) (c : CallerId) where
   attempted call look v m n x (Err NoMemory) world pass looks holds (joins, worked, room) = record {
     goes_on = goes-on v m n joins [] call world pass looks x holds worked;
     history = m.seen;
-    looked = looked-once v m n joins [] call looks worked;
+    looked = looked-once v m n joins [] call world pass looks worked;
     joins = joins;
     joined = worked.joined;
     mine = worked.mine ∙ (append-nil (m.mine ++ joins) ∙ ap (λ (es : List Event). es ++ joins) looks.mine);
@@ -197,7 +200,7 @@ module _ {S : Type 0} (w : World) (c : CallerId) where
       let seen : m.seen ≡ n.seen = ap (λ (k : Known S Event). k.seen) (sym same) in
       record {
         goes_on = goes-on v m n [] [] call world pass looks x holds worked;
-        looked = subst (LookedOnce w c v (gave_back n 0)) seen (looked-once v m n [] [] call looks worked);
+        looked = subst (LookedOnce w c v (gave_back n 0)) seen (looked-once v m n [] [] call world pass looks worked);
         mine = ap (λ (k : Known S Event). k.mine) same ∙ looks.mine;
         full = ap (is_full_after w c call) (sym seen) ∙ full;
       }

@@ -54,6 +54,14 @@ module _ (w : World) (c : CallerId) (call : Call) where
       full_in (Err why) = false
       full_in (Ok s) = is_full_in s c call
 
+  -- a collective is pending for the caller on the group that the call names
+  abbrev pub is_pending_after : List Event → Bool
+  is_pending_after history = pending_in (reached w history)
+    where
+      pending_in : Result State Why → Bool
+      pending_in (Err why) = false
+      pending_in (Ok s) = is_pending s c.rank c.thread call
+
   -- the call may have joined its group after a history where a look at it found that it may, and none was pending then
   abbrev pub MayHaveJoined : List Event → List Event → Type 0
   MayHaveJoined history joins = (joins ≡ []) ⊎ ((args : Args) × (joins ≡ join_event c call args ∷ []) × (found_after history ≡ Some (ready.Join args)))
@@ -67,11 +75,17 @@ module _ {S : Type 0} (w : World) (c : CallerId) where
     pub party : n.party ≡ v.party
     pub start : n.start ≡ v.start
 
-  -- One look was made, after a history that goes on from what had been seen, and that what is seen now goes on from.
-  pub record LookedOnce (v n : Known S Event) (history : List Event) : Type 0 where
-    pub looks : n.looks ≡ v.looks ++ length history ∷ []
+  -- A look was made, after a history that goes on from what had been seen, that what is seen now goes on from, and in which the caller
+  -- had done just what it had.
+  pub record IsLook (v n : Known S Event) (history : List Event) : Type 0 where
     pub later : IsPrefix v.seen history
     pub earlier : IsPrefix history n.seen
+    pub own : events_of c history ≡ v.mine
+
+  -- One look was made, and no shard was missed.
+  pub record LookedOnce (v n : Known S Event) (history : List Event) : Type 0 where
+    pub looks : n.looks ≡ v.looks ++ length history ∷ []
+    pub is_look : IsLook v n history
     pub missed : n.missed ≡ v.missed
 
   -- The call was recorded with its reply, once, after the one look, and its join before it where it had to join. What is seen ends with

@@ -1,5 +1,6 @@
 pub mod Attempts
 pub mod Callers
+pub mod Calling
 pub mod Closing
 pub mod Holds
 pub mod Moves

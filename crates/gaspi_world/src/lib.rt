@@ -7,6 +7,7 @@
 
 mod attempts;
 mod callers;
+mod calling;
 mod closing;
 mod holding;
 mod launching;
@@ -18,6 +19,7 @@ mod starts;
 mod worlds;
 
 pub use attempts::Halt;
+pub use calling::Stop;
 pub use closing::{Tally, Unclosed};
 pub use launching::{Body, Task, launch};
 pub use laws::world_histories;

@@ -1,0 +1,87 @@
+-- What a call tells, which may look more than once.
+use Rattle.std.specs.Prelude.{◌≡◌, ℕ, ◌+◌, Bool, true, false, List, [], ◌∷◌, ◌++◌, map, length, slice_get, Option, Some, Result, Ok, Err}
+use mathlib.Core.List.{IsPrefix}
+use Rattle.gaspi_types.specs.CallRows.{is_collective}
+use Rattle.gaspi_types.specs.World.{World}
+use Rattle.gaspi_types.specs.declared.calls.Call.{Call}
+use Rattle.gaspi_types.specs.declared.calls.Timeout as timeouts
+use Rattle.gaspi_types.specs.declared.events.Event.{Event}
+use Rattle.gaspi_types.specs.declared.events.Event.TheVariants.{Called}
+use Rattle.gaspi_types.specs.declared.replies.Reply.{Reply}
+use Rattle.gaspi_types.specs.declared.replies.Reply.TheVariants.{Timeout}
+use Rattle.gaspi_types.specs.declared.shapes.CallerId.{CallerId}
+use Rattle.timeout_state.specs.Looks.{looks_of}
+use Rattle.commit_table.specs.declared.views.Known.{Known}
+use Rattle.gaspi_world.specs.Attempts.{is_waiting, found_after, is_full_after, is_pending_after, MayHaveJoined, GoesOn}
+use Rattle.gaspi_world.specs.Callers.{events_of}
+use Rattle.gaspi_world.specs.declared.calling.Stop.{Stop}
+use Rattle.gaspi_world.specs.declared.calling.Stop.TheVariants.{NoMemory, EventLimit}
+
+module _ (w : World) (c : CallerId) (call : Call) where
+  -- at each of these looks the call was neither refused nor ready
+  abbrev pub AreUnready : List (List Event) → Type 0
+  AreUnready histories = (k : ℕ) (h : List Event) → slice_get histories k ≡ Some h → is_waiting (found_after w c call h) ≡ true
+
+  -- at each of these looks a collective was pending for its caller
+  abbrev pub ArePending : List (List Event) → Type 0
+  ArePending histories = (k : ℕ) (h : List Event) → slice_get histories k ≡ Some h → is_collective call ≡ true → is_pending_after w c call h ≡ true
+
+  -- it may have joined at the first look; a collective is pending at each later one
+  abbrev pub JoinedFirst : List (List Event) → List Event → Type 0
+  JoinedFirst [] joins = joins ≡ []
+  JoinedFirst (first ∷ others) joins = MayHaveJoined w c call first joins × ArePending others
+
+module _ {S : Type 0} (w : World) (c : CallerId) where
+  -- Looks were made, in order, each after a history that goes on from what had been seen, and that what is seen now goes on from.
+  pub record AreLooks (v n : Known S Event) (histories : List (List Event)) : Type 0 where
+    pub looks : n.looks ≡ v.looks ++ map length histories
+    pub between : (k : ℕ) (h : List Event) → slice_get histories k ≡ Some h → IsPrefix v.seen h × IsPrefix h n.seen
+
+  -- The call was recorded with its reply, once, after its last look, and what is seen ends with it. At the earlier looks it was neither
+  -- refused nor ready. A timeout comes when all looks are spent, and the call is neither refused nor ready at the last one.
+  pub record IsCalled (call : Call) (timeout : timeouts.Timeout) (reply : Reply) (v n : Known S Event) : Type 0 where
+    pub goes_on : GoesOn w c v n
+    pub earlier : List (List Event)
+    pub last : List Event
+    pub looks : AreLooks v n (earlier ++ last ∷ [])
+    pub unready : AreUnready w c call earlier
+    pub joins : List Event
+    pub joined : JoinedFirst w c call (earlier ++ last ∷ []) joins
+    pub before : List Event
+    pub ends : n.seen ≡ before ++ Called c call reply ∷ []
+    pub after_looks : IsPrefix last before
+    pub mine : n.mine ≡ (v.mine ++ joins) ++ Called c call reply ∷ []
+    pub room : is_full_after w c call last ≡ false
+    pub spent : reply ≡ Timeout → looks_of timeout ≡ Some (length earlier + 1)
+    pub timely : reply ≡ Timeout → is_waiting (found_after w c call last) ≡ true
+
+  -- The call was not recorded, after a last look at which its rank had no room for what it needs, or had.
+  pub record IsStopped (call : Call) (full : Bool) (v n : Known S Event) : Type 0 where
+    pub goes_on : GoesOn w c v n
+    pub earlier : List (List Event)
+    pub last : List Event
+    pub looks : AreLooks v n (earlier ++ last ∷ [])
+    pub unready : AreUnready w c call earlier
+    pub joins : List Event
+    pub joined : JoinedFirst w c call (earlier ++ last ∷ []) joins
+    pub mine : n.mine ≡ v.mine ++ joins
+    pub room : is_full_after w c call last ≡ full
+
+  abbrev pub Calls : Call → timeouts.Timeout → Known S Event → Result Reply Stop → Known S Event → Type 0
+  Calls call timeout v (Ok reply) n = IsCalled call timeout reply v n
+  Calls call timeout v (Err EventLimit) n = IsStopped call true v n
+  Calls call timeout v (Err NoMemory) n = IsStopped call false v n
+
+  -- what holds between two looks of a call
+  pub record HasWaited (call : Call) (earlier : List (List Event)) (v n : Known S Event) : Type 0 where
+    pub seen : IsPrefix v.seen n.seen
+    pub party : n.party ≡ v.party
+    pub start : n.start ≡ v.start
+    pub looks : AreLooks v n earlier
+    pub unready : AreUnready w c call earlier
+    pub joins : List Event
+    pub joined : JoinedFirst w c call earlier joins
+    pub mine : n.mine ≡ v.mine ++ joins
+    -- once there was a look
+    pub own : (k : ℕ) (h : List Event) → slice_get earlier k ≡ Some h → events_of c n.seen ≡ n.mine
+    pub pending : (k : ℕ) (h : List Event) → slice_get earlier k ≡ Some h → is_collective call ≡ true → is_pending_after w c call n.seen ≡ true

@@ -1,0 +1,65 @@
+//! A call of a caller, which waits by looking again.
+
+ghost use Rattle.std.specs.Prelude.{◌≡◌};
+ghost use Rattle.gaspi_types.specs.World.{IsWorld};
+ghost use Rattle.timeout_state.specs.Looks.{looks_of, HasLook};
+ghost use Rattle.commit_table.specs.Calls.{IsOf, HoldsNone};
+ghost use Rattle.gaspi_world.specs.Callers.{IsPassOf};
+ghost use Rattle.gaspi_world.specs.Calling.{Calls};
+
+use crate::attempts::{Halt, attempt};
+use crate::starts::Start;
+use crate::worlds::Pass;
+use commit_table::CommitTable;
+use crossbeam_utils::Backoff;
+use gaspi_types::{Call, CallerId, Reply, Timeout};
+use std::alloc::Global;
+use std::sync::Wait;
+use timeout_state::Budget;
+
+/// Why a call was not made. The pass holds no shard then, and its calls are as they were.
+#[derive(Clone, Copy, Debug, PartialEq, Eq)]
+pub enum Stop {
+    /// There was no memory. A collective may have joined its group.
+    NoMemory,
+    /// The caller's rank has no room for the events that the call needs.
+    EventLimit,
+}
+
+/// Makes a call: it looks until the call is recorded, backing off between looks, and never holds the shard meanwhile. A missed shard
+/// is no look. (GASPI: timeouts)
+pub fn call<R: Wait>(
+    rt: &R,
+    table: &CommitTable<Start>,
+    pass: &mut Pass,
+    alloc: Global,
+    caller: &CallerId,
+    call: &Call,
+    timeout: Timeout,
+) -> Result<Reply, Stop>
+    requires world { IsWorld table.now.start.shape }
+    requires pass { IsOf table.now pass.old }
+    requires free { HoldsNone pass.old.known }
+    requires caller { IsPassOf table.now.start.shape caller.now pass.old.known }
+    requires timeout { HasLook (looks_of timeout) }
+    ensures table { pass.new.table ≡ pass.old.table }
+    ensures free { HoldsNone pass.new.known }
+    ensures calls { Calls table.now.start.shape caller.now call.now timeout pass.old.known result pass.new.known }
+{
+    let backoff = Backoff::new();
+    let mut budget = Budget::new(timeout);
+    let mut look = budget.next();
+    for _ in rt.forever() {
+        match attempt(table, pass, alloc, caller, call, look) {
+            Ok(reply) => return Ok(reply),
+            Err(Halt::Busy) => backoff.spin(),
+            Err(Halt::NotYet) => {
+                look = budget.next();
+                backoff.snooze();
+            }
+            Err(Halt::EventLimit) => return Err(Stop::EventLimit),
+            Err(Halt::NoMemory) => return Err(Stop::NoMemory),
+        }
+    }
+    unreachable!()
+}
