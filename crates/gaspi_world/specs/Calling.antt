@@ -13,8 +13,10 @@ use Rattle.gaspi_types.specs.declared.shapes.CallerId.{CallerId}
 use Rattle.timeout_state.specs.Looks.{looks_of}
 use Rattle.commit_table.specs.declared.views.Known.{Known}
 use Rattle.gaspi_world.specs.Attempts.{is_waiting, found_after, is_full_after, is_pending_after, MayHaveJoined, GoesOn}
-use Rattle.gaspi_world.specs.Callers.{events_of}
+use Rattle.commit_table.specs.Calls.{TableValue, PassValue, IsOf, HoldsNone}
+use Rattle.gaspi_world.specs.Callers.{events_of, IsPassOf}
 use Rattle.gaspi_world.specs.declared.calling.Stop.{Stop}
+use Rattle.gaspi_world.specs.declared.starts.Start.{Start}
 use Rattle.gaspi_world.specs.declared.calling.Stop.TheVariants.{NoMemory, EventLimit}
 
 module _ (w : World) (c : CallerId) (call : Call) where
@@ -85,3 +87,12 @@ module _ {S : Type 0} (w : World) (c : CallerId) where
     -- once there was a look
     pub own : (k : ℕ) (h : List Event) → slice_get earlier k ≡ Some h → events_of c n.seen ≡ n.mine
     pub pending : (k : ℕ) (h : List Event) → slice_get earlier k ≡ Some h → is_collective call ≡ true → is_pending_after w c call n.seen ≡ true
+
+-- a pass of a world that holds no shard may be used by its caller
+abbrev pub MayCall : TableValue Start → PassValue Start Event → Type 0
+MayCall t p = IsOf t p × HoldsNone p.known × ((c : CallerId) × IsPassOf t.start.shape c p.known)
+
+-- what came of one call by a caller with its pass, which stays a pass of its world and holds no shard
+abbrev pub CallsBy : TableValue Start → Call → timeouts.Timeout → PassValue Start Event → Result Reply Stop → PassValue Start Event → Type 0
+CallsBy t call timeout p result q =
+    (q.table ≡ p.table) × HoldsNone q.known × ((c : CallerId) → IsPassOf t.start.shape c p.known → Calls t.start.shape c call timeout p.known result q.known)

@@ -3,14 +3,26 @@
 ghost use Rattle.std.specs.Prelude.{◌≡◌, ◌<◌};
 ghost use mathlib.Core.List.{IsPrefix};
 ghost use Rattle.commit_table.specs.Attempts.{LookedOnly};
-ghost use Rattle.commit_table.specs.Calls.{IsOf, misses_in};
+ghost use Rattle.gaspi_types.specs.declared.shapes.CallerId.{CallerId};
+ghost use Rattle.timeout_state.specs.Looks.{looks_of, HasLook};
+ghost use Rattle.commit_table.specs.Calls.{IsOf, HoldsNone, misses_in};
 ghost use Rattle.commit_table.specs.Views.{noted};
+ghost use Rattle.gaspi_world.specs.Attempts.{Attempted};
+ghost use Rattle.gaspi_world.specs.Callers.{IsPassOf};
+ghost use Rattle.gaspi_world.specs.Calling.{MayCall, CallsBy};
 ghost use Rattle.gaspi_world.specs.Shards.{shard_part};
 ghost use Rattle.gaspi_world.specs.WorldMachine.{world_machine};
 
+use crate::attempts::{Halt, attempt};
+use crate::calling;
+use crate::calling::Stop;
 use crate::starts::Start;
 use crate::worlds::{Pass, World};
 use commit_table::CommitTable;
+use gaspi_types::{Call, Reply, Timeout};
+use std::alloc::Global;
+use std::sync::Wait;
+use timeout_state::Look;
 
 /// What a pass has seen, to be told to another pass of its world.
 pub type Note = commit_table::Note<Start>;
@@ -23,6 +35,43 @@ pub struct Rank<'a> {
 }
 
 impl<'a> Rank<'a> {
+    /// One attempt to make a call, at a look that is the last or not; it never waits. What its answers mean is said at `Halt`.
+    /// (GASPI: timeouts)
+    ///
+    /// While the whole world is one shard, every call but the end of a caller may want memory, and for want of memory too a
+    /// collective may have joined.
+    pub fn attempt(&mut self, alloc: Global, call: &Call, look: Look) -> Result<Reply, Halt>
+        requires { MayCall self.old.world.now self.old.pass.now }
+        ensures world { self.new.world.now ≡ self.old.world.now }
+        ensures table { self.new.pass.now.table ≡ self.old.pass.now.table }
+        ensures free { HoldsNone self.new.pass.now.known }
+        ensures attempted { (c : CallerId) → IsPassOf self.old.world.now.start.shape c self.old.pass.now.known
+            → Attempted self.old.world.now.start.shape c call.now look self.old.pass.now.known result self.new.pass.now.known }
+    {
+        self.world.shape().limits();
+        let caller = self.world.caller_of(self.pass);
+        attempt(self.world.table(), self.pass, alloc, &caller, call, look)
+    }
+
+    /// Makes a call: it looks until the call is recorded, as often as its timeout allows, and backs off between looks.
+    /// (GASPI: timeouts)
+    pub fn call<R: Wait>(
+        &mut self,
+        rt: &R,
+        alloc: Global,
+        call: &Call,
+        timeout: Timeout,
+    ) -> Result<Reply, Stop>
+        requires pass { MayCall self.old.world.now self.old.pass.now }
+        requires timeout { HasLook (looks_of timeout) }
+        ensures world { self.new.world.now ≡ self.old.world.now }
+        ensures calls { CallsBy self.old.world.now call.now timeout self.old.pass.now result self.new.pass.now }
+    {
+        self.world.shape().limits();
+        let caller = self.world.caller_of(self.pass);
+        calling::call(rt, self.world.table(), self.pass, alloc, &caller, call, timeout)
+    }
+
     /// Makes a note of what the pass has seen, for another pass to learn.
     pub fn note(&mut self) -> Note
         requires { IsOf self.old.world.now self.old.pass.now }
