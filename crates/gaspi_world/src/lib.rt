@@ -13,6 +13,7 @@ mod holding;
 mod launching;
 mod laws;
 mod moving;
+mod procedures;
 mod ranks;
 mod shards;
 mod starts;
