@@ -2,7 +2,8 @@
 //! (GASPI: ranks)
 //!
 //! A `World` is made with a `Pass` for each caller and each worker. What is committed through the passes of a world is one legal
-//! history of the machine from its start (`world_histories`), which exists in proofs alone.
+//! history of the machine from its start (`world_histories`), which exists in proofs alone until the world is closed. `launch`
+//! runs a `Body` for each pass on a thread of its own, and `World::close` gives the journal with what each pass saw and did.
 #![tactic(auto)]
 
 mod attempts;

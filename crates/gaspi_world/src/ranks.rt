@@ -75,6 +75,7 @@ impl<'a> Rank<'a> {
     /// Makes a note of what the pass has seen, for another pass to learn.
     pub fn note(&mut self) -> Note
         requires { IsOf self.old.world.now self.old.pass.now }
+        ensures reference { self.new.pass.ghost_name ≡ self.old.pass.ghost_name }
         ensures same { self.new.pass.now ≡ self.old.pass.now }
         ensures note { result ≡ record { table = self.old.pass.now.table; known = noted self.old.pass.now.known } }
     {
@@ -85,6 +86,7 @@ impl<'a> Rank<'a> {
     pub fn learn(&mut self, note: Note)
         requires pass { IsOf self.old.world.now self.old.pass.now }
         requires note { note.table ≡ self.old.world.now.table }
+        ensures reference { self.new.pass.ghost_name ≡ self.old.pass.ghost_name }
         ensures table { self.new.pass.now.table ≡ self.old.pass.now.table }
         ensures looked { LookedOnly (world_machine shard_part self.old.world.now.start.shape) self.old.pass.now.known self.new.pass.now.known }
         ensures held { self.new.pass.now.known.held ≡ self.old.pass.now.known.held }
