@@ -28,7 +28,7 @@ impl<'a> Rank<'a> {
         args: Alloc,
     ) -> Result<Reply, Stop>
         requires pass { MayCall self.old.world.now self.old.pass.now }
-        ensures world { self.new.world.now ≡ self.old.world.now }
+        ensures same { (self.new.world.now ≡ self.old.world.now) × (self.new.pass.ghost_name ≡ self.old.pass.ghost_name) }
         ensures calls { CallsBy self.old.world.now (calls.Alloc args) (Looks 1) self.old.pass.now result self.new.pass.now }
     {
         self.call(rt, alloc, &Call::Alloc(args), Timeout::Looks(1))
@@ -42,7 +42,7 @@ impl<'a> Rank<'a> {
         args: Register,
     ) -> Result<Reply, Stop>
         requires pass { MayCall self.old.world.now self.old.pass.now }
-        ensures world { self.new.world.now ≡ self.old.world.now }
+        ensures same { (self.new.world.now ≡ self.old.world.now) × (self.new.pass.ghost_name ≡ self.old.pass.ghost_name) }
         ensures calls { CallsBy self.old.world.now (calls.Register args) (Looks 1) self.old.pass.now result self.new.pass.now }
     {
         self.call(rt, alloc, &Call::Register(args), Timeout::Looks(1))
@@ -58,7 +58,7 @@ impl<'a> Rank<'a> {
     ) -> Result<Reply, Stop>
         requires pass { MayCall self.old.world.now self.old.pass.now }
         requires timeout { HasLook (looks_of timeout) }
-        ensures world { self.new.world.now ≡ self.old.world.now }
+        ensures same { (self.new.world.now ≡ self.old.world.now) × (self.new.pass.ghost_name ≡ self.old.pass.ghost_name) }
         ensures calls { CallsBy self.old.world.now (calls.Create args) timeout self.old.pass.now result self.new.pass.now }
     {
         self.call(rt, alloc, &Call::Create(args), timeout)
@@ -72,7 +72,7 @@ impl<'a> Rank<'a> {
         args: Delete,
     ) -> Result<Reply, Stop>
         requires pass { MayCall self.old.world.now self.old.pass.now }
-        ensures world { self.new.world.now ≡ self.old.world.now }
+        ensures same { (self.new.world.now ≡ self.old.world.now) × (self.new.pass.ghost_name ≡ self.old.pass.ghost_name) }
         ensures calls { CallsBy self.old.world.now (calls.Delete args) (Looks 1) self.old.pass.now result self.new.pass.now }
     {
         self.call(rt, alloc, &Call::Delete(args), Timeout::Looks(1))
@@ -86,7 +86,7 @@ impl<'a> Rank<'a> {
         args: Store,
     ) -> Result<Reply, Stop>
         requires pass { MayCall self.old.world.now self.old.pass.now }
-        ensures world { self.new.world.now ≡ self.old.world.now }
+        ensures same { (self.new.world.now ≡ self.old.world.now) × (self.new.pass.ghost_name ≡ self.old.pass.ghost_name) }
         ensures calls { CallsBy self.old.world.now (calls.Store args) (Looks 1) self.old.pass.now result self.new.pass.now }
     {
         self.call(rt, alloc, &Call::Store(args), Timeout::Looks(1))
@@ -100,7 +100,7 @@ impl<'a> Rank<'a> {
         args: Load,
     ) -> Result<Reply, Stop>
         requires pass { MayCall self.old.world.now self.old.pass.now }
-        ensures world { self.new.world.now ≡ self.old.world.now }
+        ensures same { (self.new.world.now ≡ self.old.world.now) × (self.new.pass.ghost_name ≡ self.old.pass.ghost_name) }
         ensures calls { CallsBy self.old.world.now (calls.Load args) (Looks 1) self.old.pass.now result self.new.pass.now }
     {
         self.call(rt, alloc, &Call::Load(args), Timeout::Looks(1))
@@ -114,7 +114,7 @@ impl<'a> Rank<'a> {
         args: Write,
     ) -> Result<Reply, Stop>
         requires pass { MayCall self.old.world.now self.old.pass.now }
-        ensures world { self.new.world.now ≡ self.old.world.now }
+        ensures same { (self.new.world.now ≡ self.old.world.now) × (self.new.pass.ghost_name ≡ self.old.pass.ghost_name) }
         ensures calls { CallsBy self.old.world.now (calls.Write args) (Looks 1) self.old.pass.now result self.new.pass.now }
     {
         self.call(rt, alloc, &Call::Write(args), Timeout::Looks(1))
@@ -128,7 +128,7 @@ impl<'a> Rank<'a> {
         args: Read,
     ) -> Result<Reply, Stop>
         requires pass { MayCall self.old.world.now self.old.pass.now }
-        ensures world { self.new.world.now ≡ self.old.world.now }
+        ensures same { (self.new.world.now ≡ self.old.world.now) × (self.new.pass.ghost_name ≡ self.old.pass.ghost_name) }
         ensures calls { CallsBy self.old.world.now (calls.Read args) (Looks 1) self.old.pass.now result self.new.pass.now }
     {
         self.call(rt, alloc, &Call::Read(args), Timeout::Looks(1))
@@ -142,7 +142,7 @@ impl<'a> Rank<'a> {
         args: Notify,
     ) -> Result<Reply, Stop>
         requires pass { MayCall self.old.world.now self.old.pass.now }
-        ensures world { self.new.world.now ≡ self.old.world.now }
+        ensures same { (self.new.world.now ≡ self.old.world.now) × (self.new.pass.ghost_name ≡ self.old.pass.ghost_name) }
         ensures calls { CallsBy self.old.world.now (calls.Notify args) (Looks 1) self.old.pass.now result self.new.pass.now }
     {
         self.call(rt, alloc, &Call::Notify(args), Timeout::Looks(1))
@@ -156,7 +156,7 @@ impl<'a> Rank<'a> {
         args: WriteNotify,
     ) -> Result<Reply, Stop>
         requires pass { MayCall self.old.world.now self.old.pass.now }
-        ensures world { self.new.world.now ≡ self.old.world.now }
+        ensures same { (self.new.world.now ≡ self.old.world.now) × (self.new.pass.ghost_name ≡ self.old.pass.ghost_name) }
         ensures calls { CallsBy self.old.world.now (calls.WriteNotify args) (Looks 1) self.old.pass.now result self.new.pass.now }
     {
         self.call(rt, alloc, &Call::WriteNotify(args), Timeout::Looks(1))
@@ -170,7 +170,7 @@ impl<'a> Rank<'a> {
         args: ReadNotify,
     ) -> Result<Reply, Stop>
         requires pass { MayCall self.old.world.now self.old.pass.now }
-        ensures world { self.new.world.now ≡ self.old.world.now }
+        ensures same { (self.new.world.now ≡ self.old.world.now) × (self.new.pass.ghost_name ≡ self.old.pass.ghost_name) }
         ensures calls { CallsBy self.old.world.now (calls.ReadNotify args) (Looks 1) self.old.pass.now result self.new.pass.now }
     {
         self.call(rt, alloc, &Call::ReadNotify(args), Timeout::Looks(1))
@@ -184,7 +184,7 @@ impl<'a> Rank<'a> {
         args: WriteList,
     ) -> Result<Reply, Stop>
         requires pass { MayCall self.old.world.now self.old.pass.now }
-        ensures world { self.new.world.now ≡ self.old.world.now }
+        ensures same { (self.new.world.now ≡ self.old.world.now) × (self.new.pass.ghost_name ≡ self.old.pass.ghost_name) }
         ensures calls { CallsBy self.old.world.now (calls.WriteList args) (Looks 1) self.old.pass.now result self.new.pass.now }
     {
         self.call(rt, alloc, &Call::WriteList(args), Timeout::Looks(1))
@@ -198,7 +198,7 @@ impl<'a> Rank<'a> {
         args: WriteListNotify,
     ) -> Result<Reply, Stop>
         requires pass { MayCall self.old.world.now self.old.pass.now }
-        ensures world { self.new.world.now ≡ self.old.world.now }
+        ensures same { (self.new.world.now ≡ self.old.world.now) × (self.new.pass.ghost_name ≡ self.old.pass.ghost_name) }
         ensures calls { CallsBy self.old.world.now (calls.WriteListNotify args) (Looks 1) self.old.pass.now result self.new.pass.now }
     {
         self.call(rt, alloc, &Call::WriteListNotify(args), Timeout::Looks(1))
@@ -212,7 +212,7 @@ impl<'a> Rank<'a> {
         args: ReadList,
     ) -> Result<Reply, Stop>
         requires pass { MayCall self.old.world.now self.old.pass.now }
-        ensures world { self.new.world.now ≡ self.old.world.now }
+        ensures same { (self.new.world.now ≡ self.old.world.now) × (self.new.pass.ghost_name ≡ self.old.pass.ghost_name) }
         ensures calls { CallsBy self.old.world.now (calls.ReadList args) (Looks 1) self.old.pass.now result self.new.pass.now }
     {
         self.call(rt, alloc, &Call::ReadList(args), Timeout::Looks(1))
@@ -226,7 +226,7 @@ impl<'a> Rank<'a> {
         args: ReadListNotify,
     ) -> Result<Reply, Stop>
         requires pass { MayCall self.old.world.now self.old.pass.now }
-        ensures world { self.new.world.now ≡ self.old.world.now }
+        ensures same { (self.new.world.now ≡ self.old.world.now) × (self.new.pass.ghost_name ≡ self.old.pass.ghost_name) }
         ensures calls { CallsBy self.old.world.now (calls.ReadListNotify args) (Looks 1) self.old.pass.now result self.new.pass.now }
     {
         self.call(rt, alloc, &Call::ReadListNotify(args), Timeout::Looks(1))
@@ -242,7 +242,7 @@ impl<'a> Rank<'a> {
     ) -> Result<Reply, Stop>
         requires pass { MayCall self.old.world.now self.old.pass.now }
         requires timeout { HasLook (looks_of timeout) }
-        ensures world { self.new.world.now ≡ self.old.world.now }
+        ensures same { (self.new.world.now ≡ self.old.world.now) × (self.new.pass.ghost_name ≡ self.old.pass.ghost_name) }
         ensures calls { CallsBy self.old.world.now (calls.Wait args) timeout self.old.pass.now result self.new.pass.now }
     {
         self.call(rt, alloc, &Call::Wait(args), timeout)
@@ -256,7 +256,7 @@ impl<'a> Rank<'a> {
         args: Purge,
     ) -> Result<Reply, Stop>
         requires pass { MayCall self.old.world.now self.old.pass.now }
-        ensures world { self.new.world.now ≡ self.old.world.now }
+        ensures same { (self.new.world.now ≡ self.old.world.now) × (self.new.pass.ghost_name ≡ self.old.pass.ghost_name) }
         ensures calls { CallsBy self.old.world.now (calls.Purge args) (Looks 1) self.old.pass.now result self.new.pass.now }
     {
         self.call(rt, alloc, &Call::Purge(args), Timeout::Looks(1))
@@ -270,7 +270,7 @@ impl<'a> Rank<'a> {
         args: Qsize,
     ) -> Result<Reply, Stop>
         requires pass { MayCall self.old.world.now self.old.pass.now }
-        ensures world { self.new.world.now ≡ self.old.world.now }
+        ensures same { (self.new.world.now ≡ self.old.world.now) × (self.new.pass.ghost_name ≡ self.old.pass.ghost_name) }
         ensures calls { CallsBy self.old.world.now (calls.Qsize args) (Looks 1) self.old.pass.now result self.new.pass.now }
     {
         self.call(rt, alloc, &Call::Qsize(args), Timeout::Looks(1))
@@ -286,7 +286,7 @@ impl<'a> Rank<'a> {
     ) -> Result<Reply, Stop>
         requires pass { MayCall self.old.world.now self.old.pass.now }
         requires timeout { HasLook (looks_of timeout) }
-        ensures world { self.new.world.now ≡ self.old.world.now }
+        ensures same { (self.new.world.now ≡ self.old.world.now) × (self.new.pass.ghost_name ≡ self.old.pass.ghost_name) }
         ensures calls { CallsBy self.old.world.now (calls.Waitsome args) timeout self.old.pass.now result self.new.pass.now }
     {
         self.call(rt, alloc, &Call::Waitsome(args), timeout)
@@ -300,7 +300,7 @@ impl<'a> Rank<'a> {
         args: Reset,
     ) -> Result<Reply, Stop>
         requires pass { MayCall self.old.world.now self.old.pass.now }
-        ensures world { self.new.world.now ≡ self.old.world.now }
+        ensures same { (self.new.world.now ≡ self.old.world.now) × (self.new.pass.ghost_name ≡ self.old.pass.ghost_name) }
         ensures calls { CallsBy self.old.world.now (calls.Reset args) (Looks 1) self.old.pass.now result self.new.pass.now }
     {
         self.call(rt, alloc, &Call::Reset(args), Timeout::Looks(1))
@@ -316,7 +316,7 @@ impl<'a> Rank<'a> {
     ) -> Result<Reply, Stop>
         requires pass { MayCall self.old.world.now self.old.pass.now }
         requires timeout { HasLook (looks_of timeout) }
-        ensures world { self.new.world.now ≡ self.old.world.now }
+        ensures same { (self.new.world.now ≡ self.old.world.now) × (self.new.pass.ghost_name ≡ self.old.pass.ghost_name) }
         ensures calls { CallsBy self.old.world.now (calls.PassiveSend args) timeout self.old.pass.now result self.new.pass.now }
     {
         self.call(rt, alloc, &Call::PassiveSend(args), timeout)
@@ -332,7 +332,7 @@ impl<'a> Rank<'a> {
     ) -> Result<Reply, Stop>
         requires pass { MayCall self.old.world.now self.old.pass.now }
         requires timeout { HasLook (looks_of timeout) }
-        ensures world { self.new.world.now ≡ self.old.world.now }
+        ensures same { (self.new.world.now ≡ self.old.world.now) × (self.new.pass.ghost_name ≡ self.old.pass.ghost_name) }
         ensures calls { CallsBy self.old.world.now (calls.PassiveReceive args) timeout self.old.pass.now result self.new.pass.now }
     {
         self.call(rt, alloc, &Call::PassiveReceive(args), timeout)
@@ -346,7 +346,7 @@ impl<'a> Rank<'a> {
         args: FetchAdd,
     ) -> Result<Reply, Stop>
         requires pass { MayCall self.old.world.now self.old.pass.now }
-        ensures world { self.new.world.now ≡ self.old.world.now }
+        ensures same { (self.new.world.now ≡ self.old.world.now) × (self.new.pass.ghost_name ≡ self.old.pass.ghost_name) }
         ensures calls { CallsBy self.old.world.now (calls.FetchAdd args) (Looks 1) self.old.pass.now result self.new.pass.now }
     {
         self.call(rt, alloc, &Call::FetchAdd(args), Timeout::Looks(1))
@@ -360,7 +360,7 @@ impl<'a> Rank<'a> {
         args: CompareSwap,
     ) -> Result<Reply, Stop>
         requires pass { MayCall self.old.world.now self.old.pass.now }
-        ensures world { self.new.world.now ≡ self.old.world.now }
+        ensures same { (self.new.world.now ≡ self.old.world.now) × (self.new.pass.ghost_name ≡ self.old.pass.ghost_name) }
         ensures calls { CallsBy self.old.world.now (calls.CompareSwap args) (Looks 1) self.old.pass.now result self.new.pass.now }
     {
         self.call(rt, alloc, &Call::CompareSwap(args), Timeout::Looks(1))
@@ -373,7 +373,7 @@ impl<'a> Rank<'a> {
         alloc: Global,
     ) -> Result<Reply, Stop>
         requires pass { MayCall self.old.world.now self.old.pass.now }
-        ensures world { self.new.world.now ≡ self.old.world.now }
+        ensures same { (self.new.world.now ≡ self.old.world.now) × (self.new.pass.ghost_name ≡ self.old.pass.ghost_name) }
         ensures calls { CallsBy self.old.world.now calls.GroupCreate (Looks 1) self.old.pass.now result self.new.pass.now }
     {
         self.call(rt, alloc, &Call::GroupCreate, Timeout::Looks(1))
@@ -387,7 +387,7 @@ impl<'a> Rank<'a> {
         args: GroupAdd,
     ) -> Result<Reply, Stop>
         requires pass { MayCall self.old.world.now self.old.pass.now }
-        ensures world { self.new.world.now ≡ self.old.world.now }
+        ensures same { (self.new.world.now ≡ self.old.world.now) × (self.new.pass.ghost_name ≡ self.old.pass.ghost_name) }
         ensures calls { CallsBy self.old.world.now (calls.GroupAdd args) (Looks 1) self.old.pass.now result self.new.pass.now }
     {
         self.call(rt, alloc, &Call::GroupAdd(args), Timeout::Looks(1))
@@ -401,7 +401,7 @@ impl<'a> Rank<'a> {
         args: GroupDelete,
     ) -> Result<Reply, Stop>
         requires pass { MayCall self.old.world.now self.old.pass.now }
-        ensures world { self.new.world.now ≡ self.old.world.now }
+        ensures same { (self.new.world.now ≡ self.old.world.now) × (self.new.pass.ghost_name ≡ self.old.pass.ghost_name) }
         ensures calls { CallsBy self.old.world.now (calls.GroupDelete args) (Looks 1) self.old.pass.now result self.new.pass.now }
     {
         self.call(rt, alloc, &Call::GroupDelete(args), Timeout::Looks(1))
@@ -417,7 +417,7 @@ impl<'a> Rank<'a> {
     ) -> Result<Reply, Stop>
         requires pass { MayCall self.old.world.now self.old.pass.now }
         requires timeout { HasLook (looks_of timeout) }
-        ensures world { self.new.world.now ≡ self.old.world.now }
+        ensures same { (self.new.world.now ≡ self.old.world.now) × (self.new.pass.ghost_name ≡ self.old.pass.ghost_name) }
         ensures calls { CallsBy self.old.world.now (calls.Commit args) timeout self.old.pass.now result self.new.pass.now }
     {
         self.call(rt, alloc, &Call::Commit(args), timeout)
@@ -433,7 +433,7 @@ impl<'a> Rank<'a> {
     ) -> Result<Reply, Stop>
         requires pass { MayCall self.old.world.now self.old.pass.now }
         requires timeout { HasLook (looks_of timeout) }
-        ensures world { self.new.world.now ≡ self.old.world.now }
+        ensures same { (self.new.world.now ≡ self.old.world.now) × (self.new.pass.ghost_name ≡ self.old.pass.ghost_name) }
         ensures calls { CallsBy self.old.world.now (calls.Barrier args) timeout self.old.pass.now result self.new.pass.now }
     {
         self.call(rt, alloc, &Call::Barrier(args), timeout)
@@ -449,7 +449,7 @@ impl<'a> Rank<'a> {
     ) -> Result<Reply, Stop>
         requires pass { MayCall self.old.world.now self.old.pass.now }
         requires timeout { HasLook (looks_of timeout) }
-        ensures world { self.new.world.now ≡ self.old.world.now }
+        ensures same { (self.new.world.now ≡ self.old.world.now) × (self.new.pass.ghost_name ≡ self.old.pass.ghost_name) }
         ensures calls { CallsBy self.old.world.now (calls.Allreduce args) timeout self.old.pass.now result self.new.pass.now }
     {
         self.call(rt, alloc, &Call::Allreduce(args), timeout)
@@ -462,7 +462,7 @@ impl<'a> Rank<'a> {
         alloc: Global,
     ) -> Result<Reply, Stop>
         requires pass { MayCall self.old.world.now self.old.pass.now }
-        ensures world { self.new.world.now ≡ self.old.world.now }
+        ensures same { (self.new.world.now ≡ self.old.world.now) × (self.new.pass.ghost_name ≡ self.old.pass.ghost_name) }
         ensures calls { CallsBy self.old.world.now calls.State (Looks 1) self.old.pass.now result self.new.pass.now }
     {
         self.call(rt, alloc, &Call::State, Timeout::Looks(1))

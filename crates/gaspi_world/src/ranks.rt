@@ -42,7 +42,7 @@ impl<'a> Rank<'a> {
     /// collective may have joined.
     pub fn attempt(&mut self, alloc: Global, call: &Call, look: Look) -> Result<Reply, Halt>
         requires { MayCall self.old.world.now self.old.pass.now }
-        ensures world { self.new.world.now ≡ self.old.world.now }
+        ensures same { (self.new.world.now ≡ self.old.world.now) × (self.new.pass.ghost_name ≡ self.old.pass.ghost_name) }
         ensures table { self.new.pass.now.table ≡ self.old.pass.now.table }
         ensures free { HoldsNone self.new.pass.now.known }
         ensures attempted { (c : CallerId) → IsPassOf self.old.world.now.start.shape c self.old.pass.now.known
@@ -64,7 +64,7 @@ impl<'a> Rank<'a> {
     ) -> Result<Reply, Stop>
         requires pass { MayCall self.old.world.now self.old.pass.now }
         requires timeout { HasLook (looks_of timeout) }
-        ensures world { self.new.world.now ≡ self.old.world.now }
+        ensures same { (self.new.world.now ≡ self.old.world.now) × (self.new.pass.ghost_name ≡ self.old.pass.ghost_name) }
         ensures calls { CallsBy self.old.world.now call.now timeout self.old.pass.now result self.new.pass.now }
     {
         self.world.shape().limits();
