@@ -234,7 +234,7 @@ module _ {S : Type 0} (w : World) where
       record {
         state = ap (reached w) (seen ∙ ap (λ (k : List Event). k ++ e ∷ []) (sym same)) ∙ (reached-more v e x before ∙ ap (λ (s : State). Ok s) (sym state));
         journal = journal ∙ (ap (λ (j : List (ℕ × Event)). j ++ (place, e) ∷ []) (before.1.journal ∙ ap (placed 0) same)
-        ∙ (ap (λ (k : ℕ). placed 0 h ++ (k, e) ∷ []) place_is ∙ (sym (placed-more 0 h e) ∙ ap (placed 0) (sym seen))));
+            ∙ (ap (λ (k : ℕ). placed 0 h ++ (k, e) ∷ []) place_is ∙ (sym (placed-more 0 h e) ∙ ap (placed 0) (sym seen))));
         room = roomy ∙ before.1.room;
         held = ap (λ (k : List (ℕ × Option (List Event))). held_at k 0) held ∙ ap (λ (k : List Event). Some k) (sym seen);
         others = λ i. ap (λ (k : List (ℕ × Option (List Event))). held_at ((0, None) ∷ k) i) held ∙ others i (eqb i 0) refl;

@@ -115,9 +115,14 @@ module _ {S : Type 0} (w : World) (c : CallerId) (call : Call) where
       unready (ready.Reply r) answer is joins waits times = absurd (timely r answer is times)
       unready (ready.Join args) answer is joins waits times = absurd (let no : ⊥ = cc in no)
       unready ready.NotReady answer is joins waits times = waits refl
-  settled-worked x joins look found v m n (Err NotYet) pass holds worked room answered unjoined waits settled =
-      (joins, subst (Worked w c call joins [] v) (sym settled.1) worked, room, more found look settled.0, waits (early found look settled.0),
-      ap (λ (k : Known S Event). found_after w c call k.seen) settled.1 ∙ (found-in x m holds ∙ (answered ∙ ap (λ (f : Ready). Some f) (early found look settled.0))))
+  settled-worked x joins look found v m n (Err NotYet) pass holds worked room answered unjoined waits settled = (
+    joins,
+    subst (Worked w c call joins [] v) (sym settled.1) worked,
+    room,
+    more found look settled.0,
+    waits (early found look settled.0),
+    ap (λ (k : Known S Event). found_after w c call k.seen) settled.1 ∙ (found-in x m holds ∙ (answered ∙ ap (λ (f : Ready). Some f) (early found look settled.0))),
+  )
     where
       more : (f : Ready) (l : Look) → is_early f l ≡ true → l ≡ More
       more ready.NotReady More is = refl

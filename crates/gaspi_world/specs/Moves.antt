@@ -4,7 +4,6 @@ use Rattle.gaspi_types.specs.World.{World}
 use Rattle.gaspi_types.specs.declared.events.Event.{Event}
 use Rattle.gaspi_types.specs.declared.events.Event.TheVariants.{Called, Joined, Take, Put}
 use Rattle.gaspi_types.specs.declared.events.Transfer.{Transfer}
-
 use Rattle.gaspi_types.specs.declared.memory.NoMemory.{NoMemory}
 use Rattle.gaspi_model.specs.Step.{reached, is_active}
 use Rattle.gaspi_model.specs.Transfers.{transfers}

@@ -32,12 +32,7 @@ pub fn open(table: &CommitTable<Start>, pass: &mut Pass) -> Option<WorldShard>
 }
 
 /// Commits an event by which the machine in the shard has stepped, and notes it there with its place.
-pub fn advance(
-    table: &CommitTable<Start>,
-    pass: &mut Pass,
-    shard: &mut WorldShard,
-    event: Event,
-)
+pub fn advance(table: &CommitTable<Start>, pass: &mut Pass, shard: &mut WorldShard, event: Event)
     requires pass { IsOf table.now pass.old }
     requires held { HoldsBefore table.now.start.shape event (shard_part shard.old) pass.old.known }
     requires party { (p : ℕ) → party_of table.now.start.shape event ≡ Some p → pass.old.known.party ≡ Some p }

@@ -93,12 +93,7 @@ impl<'a> Rank<'a> {
     }
 
     /// Loads bytes of an own segment. (own choice)
-    pub fn gaspi_load<R: Wait>(
-        &mut self,
-        rt: &R,
-        alloc: Global,
-        args: Load,
-    ) -> Result<Reply, Stop>
+    pub fn gaspi_load<R: Wait>(&mut self, rt: &R, alloc: Global, args: Load) -> Result<Reply, Stop>
         requires pass { MayCall self.old.world.now self.old.pass.now }
         ensures same { (self.new.world.now ≡ self.old.world.now) × (self.new.pass.ghost_name ≡ self.old.pass.ghost_name) }
         ensures calls { CallsBy self.old.world.now (calls.Load args) (Looks 1) self.old.pass.now result self.new.pass.now }
@@ -121,12 +116,7 @@ impl<'a> Rank<'a> {
     }
 
     /// Posts a read from a segment of a rank. (GASPI: read)
-    pub fn gaspi_read<R: Wait>(
-        &mut self,
-        rt: &R,
-        alloc: Global,
-        args: Read,
-    ) -> Result<Reply, Stop>
+    pub fn gaspi_read<R: Wait>(&mut self, rt: &R, alloc: Global, args: Read) -> Result<Reply, Stop>
         requires pass { MayCall self.old.world.now self.old.pass.now }
         ensures same { (self.new.world.now ≡ self.old.world.now) × (self.new.pass.ghost_name ≡ self.old.pass.ghost_name) }
         ensures calls { CallsBy self.old.world.now (calls.Read args) (Looks 1) self.old.pass.now result self.new.pass.now }
@@ -367,11 +357,7 @@ impl<'a> Rank<'a> {
     }
 
     /// Makes a group. (GASPI: group_create)
-    pub fn gaspi_group_create<R: Wait>(
-        &mut self,
-        rt: &R,
-        alloc: Global,
-    ) -> Result<Reply, Stop>
+    pub fn gaspi_group_create<R: Wait>(&mut self, rt: &R, alloc: Global) -> Result<Reply, Stop>
         requires pass { MayCall self.old.world.now self.old.pass.now }
         ensures same { (self.new.world.now ≡ self.old.world.now) × (self.new.pass.ghost_name ≡ self.old.pass.ghost_name) }
         ensures calls { CallsBy self.old.world.now calls.GroupCreate (Looks 1) self.old.pass.now result self.new.pass.now }
@@ -456,11 +442,7 @@ impl<'a> Rank<'a> {
     }
 
     /// Which ranks are corrupt for the own rank. (GASPI: state_vec_get)
-    pub fn gaspi_state_vec_get<R: Wait>(
-        &mut self,
-        rt: &R,
-        alloc: Global,
-    ) -> Result<Reply, Stop>
+    pub fn gaspi_state_vec_get<R: Wait>(&mut self, rt: &R, alloc: Global) -> Result<Reply, Stop>
         requires pass { MayCall self.old.world.now self.old.pass.now }
         ensures same { (self.new.world.now ≡ self.old.world.now) × (self.new.pass.ghost_name ≡ self.old.pass.ghost_name) }
         ensures calls { CallsBy self.old.world.now calls.State (Looks 1) self.old.pass.now result self.new.pass.now }

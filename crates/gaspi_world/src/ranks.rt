@@ -69,7 +69,15 @@ impl<'a> Rank<'a> {
     {
         self.world.shape().limits();
         let caller = self.world.caller_of(self.pass);
-        calling::call(rt, self.world.table(), self.pass, alloc, &caller, call, timeout)
+        calling::call(
+            rt,
+            self.world.table(),
+            self.pass,
+            alloc,
+            &caller,
+            call,
+            timeout,
+        )
     }
 
     /// Makes a note of what the pass has seen, for another pass to learn.

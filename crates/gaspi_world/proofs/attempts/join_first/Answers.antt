@@ -35,10 +35,11 @@ settle-requires-clause-step c =
 
 pub returns-in_default-clause-worked : goal.returns-in_default-clause-worked
 returns-in_default-clause-worked c =
-    let w = c.args.table.now.start.shape in
-    (join_event c.args.caller.now c.args.call.now c.args.args ∷ [],
-    worked-joined w c.args.caller.now c.args.call.now c.args.pass.now.known c.join.new.pass.known c.args.args c.requires.caller (found-in w c.args.caller.now c.args.call.now _ c.args.pass.now.known c.requires.held ∙ c.requires.joins) c.in_ok-join.ensures.added,
-    full-in w c.args.caller.now c.args.call.now _ c.args.pass.now.known c.requires.held ∙ c.requires.room)
+    let w = c.args.table.now.start.shape in (
+      join_event c.args.caller.now c.args.call.now c.args.args ∷ [],
+      worked-joined w c.args.caller.now c.args.call.now c.args.pass.now.known c.join.new.pass.known c.args.args c.requires.caller (found-in w c.args.caller.now c.args.call.now _ c.args.pass.now.known c.requires.held ∙ c.requires.joins) c.in_ok-join.ensures.added,
+      full-in w c.args.caller.now c.args.call.now _ c.args.pass.now.known c.requires.held ∙ c.requires.room,
+    )
 
 pub returns-clause-worked : goal.returns-clause-worked
 returns-clause-worked c =

@@ -14,11 +14,11 @@ loop-init g c = (
   refl,
   c.requires.free,
   (
-  [],
-  waited-none c.args.table.now.start.shape c.args.caller.now c.args.call.now c.args.pass.now.known,
-  c.next-look.ensures.answer ∙ ap answer_of c.new-budget.ensures,
-  c.next-look.ensures.left ∙ ap spent c.new-budget.ensures,
-  c.next-look.ensures.others,
+    [],
+    waited-none c.args.table.now.start.shape c.args.caller.now c.args.call.now c.args.pass.now.known,
+    c.next-look.ensures.answer ∙ ap answer_of c.new-budget.ensures,
+    c.next-look.ensures.left ∙ ap spent c.new-budget.ensures,
+    c.next-look.ensures.others,
   ),
 )
 
@@ -30,18 +30,17 @@ returns-in-Ok-clause-calls g c =
 
 pub loop-preserved-in-Err-Busy : goal.loop-preserved-in-Err-Busy
 loop-preserved-in-Err-Busy g c =
-    let told = subst (λ (r : Result Reply Halt). Attempted c.args.table.now.start.shape c.args.caller.now c.args.call.now c.loop.look c.loop.pass.known r c.attempt.new.pass.known) (c.in-Err-Busy.is ∙ ap (λ (h : Halt). Err h) c.in-Err-Busy.field-0-is) c.attempt.ensures.attempted in
-    (
+    let told = subst (λ (r : Result Reply Halt). Attempted c.args.table.now.start.shape c.args.caller.now c.args.call.now c.loop.look c.loop.pass.known r c.attempt.new.pass.known) (c.in-Err-Busy.is ∙ ap (λ (h : Halt). Err h) c.in-Err-Busy.field-0-is) c.attempt.ensures.attempted in (
       tt,
       tt,
       c.attempt.ensures.table ∙ c.loop.invariant.2,
       c.attempt.ensures.free,
       (
-      c.loop.invariant.4.0,
-      waited-busy c.args.table.now.start.shape c.args.caller.now c.args.call.now c.args.pass.now.known c.loop.pass.known c.attempt.new.pass.known c.loop.invariant.4.0 c.loop.invariant.4.1 told,
-      c.loop.invariant.4.2,
-      c.loop.invariant.4.3,
-      c.loop.invariant.4.4,
+        c.loop.invariant.4.0,
+        waited-busy c.args.table.now.start.shape c.args.caller.now c.args.call.now c.args.pass.now.known c.loop.pass.known c.attempt.new.pass.known c.loop.invariant.4.0 c.loop.invariant.4.1 told,
+        c.loop.invariant.4.2,
+        c.loop.invariant.4.3,
+        c.loop.invariant.4.4,
       ),
     )
 
@@ -50,18 +49,17 @@ loop-preserved g c =
     let told = subst (λ (r : Result Reply Halt). Attempted c.args.table.now.start.shape c.args.caller.now c.args.call.now c.loop.look c.loop.pass.known r c.attempt.new.pass.known) (c.in-Err-NotYet.is ∙ ap (λ (h : Halt). Err h) c.in-Err-NotYet.field-0-is) c.attempt.ensures.attempted in
     let most = looks_of c.args.timeout in
     let earlier = c.loop.invariant.4.0 in
-    let count : length (earlier ++ told.history ∷ []) ≡ suc (length earlier) = length-append earlier (told.history ∷ []) ∙ (let one : length earlier + 1 ≡ suc (length earlier) = omega arith in one) in
-    (
+    let count : length (earlier ++ told.history ∷ []) ≡ suc (length earlier) = length-append earlier (told.history ∷ []) ∙ (let one : length earlier + 1 ≡ suc (length earlier) = omega arith in one) in (
       tt,
       tt,
       c.attempt.ensures.table ∙ c.loop.invariant.2,
       c.attempt.ensures.free,
       (
-      earlier ++ told.history ∷ [],
-      waited-more c.args.table.now.start.shape c.args.caller.now c.args.call.now c.args.pass.now.known c.loop.pass.known c.attempt.new.pass.known earlier c.loop.look c.requires.world c.loop.invariant.4.1 told,
-      c.next-look-in-Err-NotYet.ensures.answer ∙ (ap answer_of c.loop.invariant.4.3 ∙ ap (λ (k : ℕ). answer_of (left_after k most)) (sym count)),
-      c.next-look-in-Err-NotYet.ensures.left ∙ (ap spent c.loop.invariant.4.3 ∙ (sym (left-more (suc (length earlier)) most) ∙ ap (λ (k : ℕ). left_after (suc k) most) (sym count))),
-      c.next-look-in-Err-NotYet.ensures.others,
+        earlier ++ told.history ∷ [],
+        waited-more c.args.table.now.start.shape c.args.caller.now c.args.call.now c.args.pass.now.known c.loop.pass.known c.attempt.new.pass.known earlier c.loop.look c.requires.world c.loop.invariant.4.1 told,
+        c.next-look-in-Err-NotYet.ensures.answer ∙ (ap answer_of c.loop.invariant.4.3 ∙ ap (λ (k : ℕ). answer_of (left_after k most)) (sym count)),
+        c.next-look-in-Err-NotYet.ensures.left ∙ (ap spent c.loop.invariant.4.3 ∙ (sym (left-more (suc (length earlier)) most) ∙ ap (λ (k : ℕ). left_after (suc k) most) (sym count))),
+        c.next-look-in-Err-NotYet.ensures.others,
       ),
     )
 
