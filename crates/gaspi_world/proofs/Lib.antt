@@ -8,5 +8,6 @@ pub mod OwnEvents
 pub mod Recordable
 pub mod Sections
 pub mod Timely
+pub mod Transferring
 pub mod Wholes
 pub mod Working

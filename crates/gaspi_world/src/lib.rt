@@ -15,6 +15,7 @@ mod moving;
 mod ranks;
 mod shards;
 mod starts;
+mod transfers;
 mod worlds;
 
 pub use attempts::Halt;
