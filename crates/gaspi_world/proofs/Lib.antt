@@ -9,6 +9,7 @@ pub mod Recordable
 pub mod Sections
 pub mod StaysPending
 pub mod Timely
+pub mod Transferring
 pub mod Waiting
 pub mod Wholes
 pub mod Working

@@ -10,6 +10,7 @@ use Rattle.gaspi_model.specs.Transfers.{transfers}
 use Rattle.gaspi_model.specs.declared.states.State.{State}
 use Rattle.commit_table.specs.Attempts.{Recorded, Missed, LookedOnly}
 use Rattle.commit_table.specs.declared.views.Known.{Known}
+use Rattle.gaspi_world.specs.Holds.{Added}
 use Rattle.gaspi_world.specs.Shards.{shard_part}
 use Rattle.gaspi_world.specs.WorldMachine.{world_machine}
 use Rattle.gaspi_world.specs.declared.moving.Moving.{Moving}
@@ -42,3 +43,11 @@ module _ (w : World) where
   Moves origin v (Ok Empty) n = LookedOnly (world_machine shard_part w) v n × HasNoTransfer n.seen origin × HasActive n.seen origin
   Moves origin v (Ok Ended) n = LookedOnly (world_machine shard_part w) v n × HasNoTransfer n.seen origin × HaveEnded n.seen origin
   Moves origin v (Err none) n = LookedOnly (world_machine shard_part w) v n
+
+  -- the same of a pass that holds the shard: the look was made before, so a transfer is right behind what had been seen
+  abbrev pub MovesHeld : {S : Type 0} → ℕ → Known S Event → Result Moving NoMemory → Known S Event → Type 0
+  MovesHeld origin v (Ok Moved) n = (e : Event) × (is_transfer_of origin e ≡ true) × Added w v e n
+  MovesHeld origin v (Ok Busy) n = ⊥
+  MovesHeld origin v (Ok Empty) n = (n ≡ v) × HasNoTransfer v.seen origin × HasActive v.seen origin
+  MovesHeld origin v (Ok Ended) n = (n ≡ v) × HasNoTransfer v.seen origin × HaveEnded v.seen origin
+  MovesHeld origin v (Err none) n = n ≡ v

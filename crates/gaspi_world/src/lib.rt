@@ -18,6 +18,7 @@ mod procedures;
 mod ranks;
 mod shards;
 mod starts;
+mod transfers;
 mod worlds;
 
 pub use attempts::Halt;

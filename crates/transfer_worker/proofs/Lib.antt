@@ -1,0 +1,2 @@
+pub mod StillRanks
+pub mod Tries

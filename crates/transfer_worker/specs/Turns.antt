@@ -1,0 +1,89 @@
+-- What a turn of a worker through all ranks of its world tells. (GASPI: one-sided communication)
+use Rattle.std.specs.Prelude.{◌≡◌, ℕ, ◌<◌, true, List, [], ◌∷◌, ◌++◌, length, Result, Ok, Err}
+use mathlib.Core.List.{IsPrefix}
+use Rattle.gaspi_types.specs.World.{World}
+use Rattle.gaspi_types.specs.declared.events.Event.{Event}
+use Rattle.gaspi_types.specs.declared.memory.NoMemory.{NoMemory}
+use Rattle.gaspi_model.specs.Settled.{IsSettled}
+use Rattle.gaspi_model.specs.Step.{reached}
+use Rattle.gaspi_model.specs.declared.states.State.{State}
+use Rattle.commit_table.specs.declared.views.Known.{Known}
+use Rattle.gaspi_world.specs.Moves.{is_transfer_of, HasNoTransfer, HasActive, HaveEnded}
+use Rattle.gaspi_world.specs.declared.moving.Moving.{Moving}
+use Rattle.gaspi_world.specs.declared.moving.Moving.TheVariants as moves
+use Rattle.transfer_worker.specs.declared.turns.Turn.{Turn}
+use Rattle.transfer_worker.specs.declared.turns.Turn.TheVariants.{Moved, Busy, Idle, Drained}
+
+-- what a turn comes to with the try of one rank more: a transfer that was made, else a miss, else a caller that goes on
+abbrev pub with_try : Turn → Moving → Turn
+with_try so_far moves.Moved = Moved
+with_try so_far moves.Busy = Busy
+with_try Drained moves.Empty = Idle
+with_try so_far moves.Empty = so_far
+with_try so_far moves.Ended = so_far
+
+-- what a pass knew it knows still, and of its party it has committed nothing
+pub record GoesOn {S E : Type 0} (v n : Known S E) : Type 0 where
+  pub seen : IsPrefix v.seen n.seen
+  pub commits : IsPrefix v.commits n.commits
+  pub looks : IsPrefix v.looks n.looks
+  pub missed : IsPrefix v.missed n.missed
+  pub mine : n.mine ≡ v.mine
+  pub party : n.party ≡ v.party
+  pub start : n.start ≡ v.start
+
+module _ (w : World) where
+  -- the history leads to a state in which nothing is left to do
+  abbrev pub IsDrained : List Event → Type 0
+  IsDrained history = (s : State) × (reached w history ≡ Ok s) × IsSettled s
+
+  -- one transfer was committed, behind a history that goes on from what had been seen
+  pub record IsMoved {S : Type 0} (v n : Known S Event) : Type 0 where
+    pub origin : ℕ
+    pub rank : origin < w.limits.ranks
+    pub event : Event
+    pub transfer : is_transfer_of origin event ≡ true
+    pub before : List Event
+    pub since : IsPrefix v.seen before
+    pub seen : n.seen ≡ before ++ event ∷ []
+    pub commits : n.commits ≡ v.commits ++ length before ∷ []
+
+  -- nothing was committed, and the shard was missed at least once
+  pub record IsMissed {S : Type 0} (v n : Known S Event) : Type 0 where
+    pub commits : n.commits ≡ v.commits
+    pub missed : (more : List ℕ) × (n.missed ≡ v.missed ++ 0 ∷ more)
+
+  -- a history that was seen in the turn, after which no transfer of a rank may come next
+  pub record IsStill {S : Type 0} (v n : Known S Event) (rank : ℕ) : Type 0 where
+    pub history : List Event
+    pub since : IsPrefix v.seen history
+    pub until : IsPrefix history n.seen
+    pub none : HasNoTransfer w history rank
+
+  -- and then a thread of it has not ended; or all have
+  abbrev pub IsActive : {S : Type 0} → Known S Event → Known S Event → ℕ → Type 0
+  IsActive v n rank = (still : IsStill v n rank) × HasActive w still.history rank
+
+  abbrev pub IsEnded : {S : Type 0} → Known S Event → Known S Event → ℕ → Type 0
+  IsEnded v n rank = (still : IsStill v n rank) × HaveEnded w still.history rank
+
+  -- nothing was committed and nothing missed: each of these ranks was tried, with one look for each of so many tries
+  pub record AreTried {S : Type 0} (Is : ℕ → Type 0) (tries : ℕ) (v n : Known S Event) : Type 0 where
+    pub commits : n.commits ≡ v.commits
+    pub missed : n.missed ≡ v.missed
+    pub looks : (these : List ℕ) × (n.looks ≡ v.looks ++ these) × (length these ≡ tries)
+    pub still : (rank : ℕ) → Is rank → IsStill v n rank
+
+  -- each rank was tried, and a thread of one has not ended; or nothing is left to do
+  abbrev pub IsIdle : {S : Type 0} → Known S Event → Known S Event → Type 0
+  IsIdle v n = AreTried (λ rank. rank < w.limits.ranks) w.limits.ranks v n × ((rank : ℕ) × (rank < w.limits.ranks) × IsActive v n rank)
+
+  abbrev pub AreDone : {S : Type 0} → Known S Event → Known S Event → Type 0
+  AreDone v n = AreTried (λ rank. rank < w.limits.ranks) w.limits.ranks v n × IsDrained n.seen
+
+  abbrev pub Turned : {S : Type 0} → Known S Event → Result Turn NoMemory → Known S Event → Type 0
+  Turned v (Ok Moved) n = IsMoved v n
+  Turned v (Ok Busy) n = IsMissed v n
+  Turned v (Ok Idle) n = IsIdle v n
+  Turned v (Ok Drained) n = AreDone v n
+  Turned v (Err none) n = n.commits ≡ v.commits
