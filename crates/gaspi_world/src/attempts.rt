@@ -1,7 +1,9 @@
 //! One attempt to make a call, which never waits.
 
-ghost use Rattle.std.specs.Prelude.{◌≡◌, ◌<◌, ◌+◌, false, true, Some, Err, Ok, IfOk, IfErr, IsOk};
+ghost use Rattle.std.specs.Prelude.{◌≡◌, ◌≢◌, ◌<◌, ◌+◌, false, true, Some, Err, Ok, IfOk, IfErr, IsOk};
+ghost use Rattle.gaspi_types.specs.Copies.{is_listless_reply};
 ghost use Rattle.gaspi_types.specs.World.{IsWorld};
+ghost use Rattle.gaspi_types.specs.declared.calls.Call.TheVariants.{End};
 ghost use Rattle.gaspi_types.specs.declared.events.Event.TheVariants.{Called};
 ghost use Rattle.gaspi_types.specs.declared.replies.Ready.TheVariants.{Join};
 ghost use Rattle.gaspi_model.specs.Calls.{recorded_reply};
@@ -42,7 +44,8 @@ pub enum Halt {
 
 /// A copy of the reply with which a call is recorded as it was found.
 fn recorded_reply(alloc: Global, found: &Finding) -> Result<Reply, gaspi_types::NoMemory>
-    ensures { IfOk result (λ reply. reply ≡ recorded_reply found.now.ready) }
+    ensures reply { IfOk result (λ reply. reply ≡ recorded_reply found.now.ready) }
+    ensures listless { is_listless_reply (recorded_reply found.now.ready) ≡ true → IsOk result }
 {
     match &found.ready {
         Ready::Reply(reply) => reply.copy(alloc),
@@ -103,6 +106,7 @@ fn record(
     requires held { Holds table.now.start.shape (shard_part shard.old) pass.old.known }
     requires declared { is_declared shard.old.machine caller.now.rank caller.now.thread ≡ true }
     requires look { IsFindingIn found shard.old.machine caller.now call.now }
+    requires answer { answer_in shard.old.machine caller.now.rank caller.now.thread call.now ≡ Some found.ready }
     requires unjoined { is_joining found.ready ≡ false }
     requires step { IsOk (step shard.old.machine (Called caller.now call.now (recorded_reply found.ready))) }
     ensures table { pass.new.table ≡ pass.old.table }
@@ -110,6 +114,7 @@ fn record(
     ensures reply { IfOk result (λ reply. reply ≡ recorded_reply found.ready) }
     ensures added { IfOk result (λ reply. Added table.now.start.shape pass.old.known (Called caller.now call.now reply) pass.new.known) }
     ensures halt { IfErr result (λ halt. (halt ≡ NoMemory) × (pass.new.known ≡ pass.old.known)) }
+    ensures ends { call.now ≡ End → result ≢ Err NoMemory }
 {
     let (Ok(reply), Ok(copy)) = (recorded_reply(alloc, &found), call.copy(alloc)) else {
         return Err(Halt::NoMemory);
@@ -140,11 +145,13 @@ fn settle(
     requires held { Holds table.now.start.shape (shard_part shard.old) pass.old.known }
     requires declared { is_declared shard.old.machine caller.now.rank caller.now.thread ≡ true }
     requires look { IsFindingIn found shard.old.machine caller.now call.now }
+    requires answer { answer_in shard.old.machine caller.now.rank caller.now.thread call.now ≡ Some found.ready }
     requires unjoined { is_joining found.ready ≡ false }
     requires step { IsOk (step shard.old.machine (Called caller.now call.now (recorded_reply found.ready))) }
     ensures table { pass.new.table ≡ pass.old.table }
     ensures held { Holds table.now.start.shape (shard_part shard.new) pass.new.known }
     ensures settled { Settled table.now.start.shape caller.now call.now found.ready look pass.old.known result pass.new.known }
+    ensures ends { call.now ≡ End → result ≢ Err NoMemory }
 {
     if is_early(&found, look) {
         return Err(Halt::NotYet);
@@ -204,6 +211,7 @@ fn join_first(
     ensures table { pass.new.table ≡ pass.old.table }
     ensures held { Holds table.now.start.shape (shard_part shard.new) pass.new.known }
     ensures worked { WorkedOut table.now.start.shape caller.now call.now look pass.old.known result pass.new.known }
+    ensures ends { call.now ≢ End }
 {
     join(table, pass, alloc, shard, caller, call, args)?;
     let Ok(found) = shard.machine.look(alloc, *caller, call) else {
@@ -229,6 +237,7 @@ fn work(
     ensures table { pass.new.table ≡ pass.old.table }
     ensures held { Holds table.now.start.shape (shard_part shard.new) pass.new.known }
     ensures worked { WorkedOut table.now.start.shape caller.now call.now look pass.old.known result pass.new.known }
+    ensures ends { call.now ≡ End → result ≢ Err NoMemory }
 {
     if is_full(shard, caller, call) {
         return Err(Halt::EventLimit);
@@ -258,6 +267,7 @@ pub fn attempt(
     ensures table { pass.new.table ≡ pass.old.table }
     ensures free { HoldsNone pass.new.known }
     ensures attempted { Attempted table.now.start.shape caller.now call.now look pass.old.known result pass.new.known }
+    ensures ends { call.now ≡ End → result ≢ Err NoMemory }
 {
     let Some(mut shard) = open(table, pass) else {
         return Err(Halt::Busy);

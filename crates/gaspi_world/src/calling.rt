@@ -1,11 +1,13 @@
 //! A call of a caller, which waits by looking again.
 
-ghost use Rattle.std.specs.Prelude.{◌≡◌};
+ghost use Rattle.std.specs.Prelude.{◌≡◌, ◌≢◌, Err};
 ghost use Rattle.gaspi_types.specs.World.{IsWorld};
+ghost use Rattle.gaspi_types.specs.declared.calls.Call.TheVariants.{End};
 ghost use Rattle.timeout_state.specs.Looks.{looks_of, HasLook};
 ghost use Rattle.commit_table.specs.Calls.{IsOf, HoldsNone};
 ghost use Rattle.gaspi_world.specs.Callers.{IsPassOf};
 ghost use Rattle.gaspi_world.specs.Calling.{Calls};
+ghost use Rattle.gaspi_world.specs.declared.calling.Stop.TheVariants.{NoMemory};
 
 use crate::attempts::{Halt, attempt};
 use crate::starts::Start;
@@ -44,6 +46,7 @@ pub fn call<R: Wait>(
     requires timeout { HasLook (looks_of timeout) }
     ensures table { pass.new.table ≡ pass.old.table }
     ensures free { HoldsNone pass.new.known }
+    ensures ends { call.now ≡ End → result ≢ Err NoMemory }
     ensures calls { Calls table.now.start.shape caller.now call.now timeout pass.old.known result pass.new.known }
 {
     let backoff = Backoff::new();

@@ -1,8 +1,9 @@
 //! What a caller does in its world.
 
-ghost use Rattle.std.specs.Prelude.{◌≡◌, ◌<◌};
+ghost use Rattle.std.specs.Prelude.{◌≡◌, ◌≢◌, ◌<◌, Err};
 ghost use mathlib.Core.List.{IsPrefix};
 ghost use Rattle.commit_table.specs.Attempts.{LookedOnly};
+ghost use Rattle.gaspi_types.specs.declared.calls.Call.TheVariants.{End};
 ghost use Rattle.gaspi_types.specs.declared.shapes.CallerId.{CallerId};
 ghost use Rattle.timeout_state.specs.Looks.{looks_of, HasLook};
 ghost use Rattle.commit_table.specs.Calls.{IsOf, HoldsNone, misses_in};
@@ -12,6 +13,8 @@ ghost use Rattle.gaspi_world.specs.Callers.{IsPassOf};
 ghost use Rattle.gaspi_world.specs.Calling.{MayCall, CallsBy};
 ghost use Rattle.gaspi_world.specs.Shards.{shard_part};
 ghost use Rattle.gaspi_world.specs.WorldMachine.{world_machine};
+ghost use Rattle.gaspi_world.specs.declared.attempts.Halt.TheVariants as halts;
+ghost use Rattle.gaspi_world.specs.declared.calling.Stop.TheVariants as stops;
 
 use crate::attempts::{Halt, attempt};
 use crate::calling;
@@ -45,6 +48,7 @@ impl<'a> Rank<'a> {
         ensures same { (self.new.world.now ≡ self.old.world.now) × (self.new.pass.ghost_name ≡ self.old.pass.ghost_name) }
         ensures table { self.new.pass.now.table ≡ self.old.pass.now.table }
         ensures free { HoldsNone self.new.pass.now.known }
+        ensures ends { call.now ≡ End → result ≢ Err halts.NoMemory }
         ensures attempted { (c : CallerId) → IsPassOf self.old.world.now.start.shape c self.old.pass.now.known
             → Attempted self.old.world.now.start.shape c call.now look self.old.pass.now.known result self.new.pass.now.known }
     {
@@ -65,6 +69,7 @@ impl<'a> Rank<'a> {
         requires pass { MayCall self.old.world.now self.old.pass.now }
         requires timeout { HasLook (looks_of timeout) }
         ensures same { (self.new.world.now ≡ self.old.world.now) × (self.new.pass.ghost_name ≡ self.old.pass.ghost_name) }
+        ensures ends { call.now ≡ End → result ≢ Err stops.NoMemory }
         ensures calls { CallsBy self.old.world.now call.now timeout self.old.pass.now result self.new.pass.now }
     {
         self.world.shape().limits();
