@@ -6,6 +6,7 @@ pub mod Holds
 pub mod Moves
 pub mod Passes
 pub mod Shards
+pub mod Waits
 pub mod Works
 pub mod WorldLaws
 pub mod WorldMachine
