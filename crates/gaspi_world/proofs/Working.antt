@@ -223,3 +223,13 @@ module _ {S : Type 0} (w : World) (c : CallerId) where
     };
     missed = miss;
   }
+
+  -- a look tells what goes on
+  pub looked-goes-on : (v n : Known S Event) → IsWorld w → IsPassOf w c v → LookedOnly (world_machine shard_part w) v n → GoesOn w c v n
+  looked-goes-on v n world pass look = record {
+    seen = look.goes_on;
+    legal = (let s = legal-reached w n.seen look.legal in rw s.1 refl);
+    own = sym (mine-events w c n.seen world pass.0) ∙ look.own (number_of w.callers c) (look.party ∙ pass.1);
+    party = look.party;
+    start = look.start;
+  }

@@ -8,7 +8,7 @@ ghost use Rattle.gaspi_types.specs.declared.shapes.CallerId.{CallerId};
 ghost use Rattle.timeout_state.specs.Looks.{looks_of, HasLook};
 ghost use Rattle.commit_table.specs.Calls.{IsOf, HoldsNone, misses_in};
 ghost use Rattle.commit_table.specs.Views.{noted};
-ghost use Rattle.gaspi_world.specs.Attempts.{Attempted};
+ghost use Rattle.gaspi_world.specs.Attempts.{Attempted, GoesOn};
 ghost use Rattle.gaspi_world.specs.Callers.{IsPassOf};
 ghost use Rattle.gaspi_world.specs.Calling.{MayCall, CallsBy};
 ghost use Rattle.gaspi_world.specs.Shards.{shard_part};
@@ -88,8 +88,8 @@ impl<'a> Rank<'a> {
     /// Makes a note of what the pass has seen, for another pass to learn.
     pub fn note(&mut self) -> Note
         requires { IsOf self.old.world.now self.old.pass.now }
-        ensures reference { self.new.pass.ghost_name ≡ self.old.pass.ghost_name }
-        ensures same { self.new.pass.now ≡ self.old.pass.now }
+        ensures same { (self.new.world.now ≡ self.old.world.now) × (self.new.pass.ghost_name ≡ self.old.pass.ghost_name) }
+        ensures pass { self.new.pass.now ≡ self.old.pass.now }
         ensures note { result ≡ record { table = self.old.pass.now.table; known = noted self.old.pass.now.known } }
     {
         self.world.table().note(self.pass)
@@ -99,12 +99,15 @@ impl<'a> Rank<'a> {
     pub fn learn(&mut self, note: Note)
         requires pass { IsOf self.old.world.now self.old.pass.now }
         requires note { note.table ≡ self.old.world.now.table }
-        ensures reference { self.new.pass.ghost_name ≡ self.old.pass.ghost_name }
+        ensures same { (self.new.world.now ≡ self.old.world.now) × (self.new.pass.ghost_name ≡ self.old.pass.ghost_name) }
         ensures table { self.new.pass.now.table ≡ self.old.pass.now.table }
         ensures looked { LookedOnly (world_machine shard_part self.old.world.now.start.shape) self.old.pass.now.known self.new.pass.now.known }
         ensures held { self.new.pass.now.known.held ≡ self.old.pass.now.known.held }
+        ensures goes_on { (c : CallerId) → IsPassOf self.old.world.now.start.shape c self.old.pass.now.known
+            → GoesOn self.old.world.now.start.shape c self.old.pass.now.known self.new.pass.now.known × (self.new.pass.now.known.mine ≡ self.old.pass.now.known.mine) }
         ensures learned { IsPrefix note.known.seen self.new.pass.now.known.seen }
     {
+        self.world.shape().limits();
         self.world.table().learn(self.pass, note);
     }
 

@@ -30,7 +30,7 @@ impl<'a> Worker<'a> {
         requires pass { IsOf self.old.world.now self.old.pass.now }
         requires free { HoldsNone self.old.pass.now.known }
         requires worker { IsWorkers self.old.world.now.start.shape self.old.pass.now.known }
-        ensures world { self.new.world.now ≡ self.old.world.now }
+        ensures same { (self.new.world.now ≡ self.old.world.now) × (self.new.pass.ghost_name ≡ self.old.pass.ghost_name) }
         ensures table { self.new.pass.now.table ≡ self.old.pass.now.table }
         ensures free { HoldsNone self.new.pass.now.known }
         ensures turns { self.new.turns ≡ (self.old.turns + 1) % 2 ^ 64 }
@@ -50,7 +50,7 @@ impl<'a> Worker<'a> {
         requires pass { IsOf self.old.world.now self.old.pass.now }
         requires free { HoldsNone self.old.pass.now.known }
         requires worker { IsWorkers self.old.world.now.start.shape self.old.pass.now.known }
-        ensures world { self.new.world.now ≡ self.old.world.now }
+        ensures same { (self.new.world.now ≡ self.old.world.now) × (self.new.pass.ghost_name ≡ self.old.pass.ghost_name) }
         ensures table { self.new.pass.now.table ≡ self.old.pass.now.table }
         ensures free { HoldsNone self.new.pass.now.known }
         ensures goes_on { GoesOn self.old.pass.now.known self.new.pass.now.known }
@@ -66,6 +66,6 @@ impl<'a> Worker<'a> {
                 Turn::Drained => return Ok(()),
             }
         }
-        Ok(())
+        unreachable!()
     }
 }
