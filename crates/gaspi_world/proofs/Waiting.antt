@@ -41,7 +41,7 @@ use Rattle.gaspi_world.proofs.Recordable.{join-group}
 use Rattle.gaspi_world.proofs.StaysPending.{pending-stays}
 
 -- What stands in a list with one item more at its end.
-at-snoc : {A : Type 0} (xs : List A) (x : A) (k : ℕ) (y : A) → slice_get (xs ++ x ∷ []) k ≡ Some y → (slice_get xs k ≡ Some y) ⊎ (y ≡ x)
+pub at-snoc : {A : Type 0} (xs : List A) (x : A) (k : ℕ) (y : A) → slice_get (xs ++ x ∷ []) k ≡ Some y → (slice_get xs k ≡ Some y) ⊎ (y ≡ x)
 at-snoc [] x zero y at = inr (let same : x ≡ y = cc in sym same)
 at-snoc [] x (suc k) y at = absurd (let no : ⊥ = cc in no)
 at-snoc (z ∷ xs) x zero y at = inl at
