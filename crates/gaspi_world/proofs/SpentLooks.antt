@@ -248,15 +248,15 @@ module _ {S : Type 0} (w : World) (c : CallerId) where
       sym (own-among c n.seen) ∙ (ap (λ (h : List Event). own_calls c.rank c.thread h) (is ∙ mine) ∙ (own-append c v.mine events
       ∙ ap (λ (ps : List (Call × Reply)). ps ++ own_calls c.rank c.thread events) (ap (λ (h : List Event). own_calls c.rank c.thread h) (sym was) ∙ own-among c v.seen)))
 
-  -- a call that is recorded, whose looks were all before it: a timeout has so many
+  -- a call that is recorded: a timeout has so many looks
   pub waited-called : (call : Call) (timeout : timeouts.Timeout) (reply : Reply) (v n : Known S Event) (ns : List ℕ) (k : ℕ) → events_of c v.seen ≡ v.mine → Waited w c v.seen v.looks ns → length ns ≡ length (own_calls c.rank c.thread v.seen)
-      → (called : IsCalled w c call timeout reply v n) → ((j : ℕ) (h : List Event) → slice_get called.earlier j ≡ Some h → IsPrefix h called.before) → (reply ≡ Timeout → looks_of timeout ≡ Some k)
+      → IsCalled w c call timeout reply v n → (reply ≡ Timeout → looks_of timeout ≡ Some k)
       → Waited w c n.seen n.looks (ns ++ k ∷ []) × (length (ns ++ k ∷ []) ≡ length (own_calls c.rank c.thread n.seen))
-  waited-called call timeout reply v n ns k was waited lengths called earlier asked = (
+  waited-called call timeout reply v n ns k was waited lengths called asked = (
     subst (λ (h : List Event). Waited w c h n.looks (ns ++ k ∷ [])) (sym called.ends)
         (subst (λ (ks : List ℕ). Waited w c (called.before ++ Called c call reply ∷ []) ks (ns ++ k ∷ [])) (sym called.looks.looks)
         (recorded w c call reply v.seen called.before more same v.looks ns k (called.earlier ++ called.last ∷ []) waited lengths many
-        (λ j h at. between j h at (at-snoc called.earlier called.last j h at)) (λ times j h at. unready times j h (at-snoc called.earlier called.last j h at)))),
+        (λ j h at. ((called.looks.between j h at).0, called.after_looks j h at)) (λ times j h at. unready times j h (at-snoc called.earlier called.last j h at)))),
     length-append ns (k ∷ []) ∙ (ap (λ (m : ℕ). m + 1) lengths ∙ sym (ap length made ∙ length-append (own_calls c.rank c.thread v.seen) ((call, reply) ∷ []))),
   )
     where
@@ -272,7 +272,7 @@ module _ {S : Type 0} (w : World) (c : CallerId) where
           ∙ (sym (own-append c called.before (Called c call reply ∷ [])) ∙ (ap (λ (h : List Event). own_calls c.rank c.thread h) (sym called.ends) ∙ made)))
 
       more : IsPrefix v.seen called.before
-      more = prefix_trans v.seen called.last called.before (called.looks.between (length called.earlier) called.last (at-end called.earlier called.last)).0 called.after_looks
+      more = prefix_trans v.seen called.last called.before (called.looks.between (length called.earlier) called.last (at-end called.earlier called.last)).0 (called.after_looks (length called.earlier) called.last (at-end called.earlier called.last))
 
       many : reply ≡ Timeout → k ≤ length (called.earlier ++ called.last ∷ [])
       many times =
@@ -280,10 +280,6 @@ module _ {S : Type 0} (w : World) (c : CallerId) where
           let so : k ≡ length called.earlier + 1 = cc in
           let long = length-append called.earlier (called.last ∷ []) in
           omega arith
-
-      between : (j : ℕ) (h : List Event) → slice_get (called.earlier ++ called.last ∷ []) j ≡ Some h → (slice_get called.earlier j ≡ Some h) ⊎ (h ≡ called.last) → IsPrefix v.seen h × IsPrefix h called.before
-      between j h at (inl there) = ((called.looks.between j h at).0, earlier j h there)
-      between j h at (inr is) = ((called.looks.between j h at).0, subst (λ (x : List Event). IsPrefix x called.before) (sym is) called.after_looks)
 
       unready : reply ≡ Timeout → (j : ℕ) (h : List Event) → (slice_get called.earlier j ≡ Some h) ⊎ (h ≡ called.last) → is_waiting (found_after w c call h) ≡ true
       unready times j h (inl there) = called.unready j h there
