@@ -7,6 +7,7 @@ pub mod Numbers
 pub mod OwnEvents
 pub mod Recordable
 pub mod Sections
+pub mod SpentLooks
 pub mod StaysPending
 pub mod Timely
 pub mod Transferring

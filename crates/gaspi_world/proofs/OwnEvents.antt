@@ -12,7 +12,7 @@ use Rattle.gaspi_world.specs.Callers.{is_event_of, events_of}
 use Rattle.gaspi_world.specs.WorldMachine.{number_of, caller_party, party_of}
 use Rattle.gaspi_world.proofs.Numbers.{same-number}
 
-is-itself : (c : CallerId) → is_caller c.rank c.thread c ≡ true
+pub is-itself : (c : CallerId) → is_caller c.rank c.thread c ≡ true
 is-itself c = (let rank = eq-eqb c.rank c.rank refl in let thread = eq-eqb c.thread c.thread refl in rw (rank, thread) refl)
 
 only-itself : (c d : CallerId) → is_caller c.rank c.thread d ≡ true → d ≡ c

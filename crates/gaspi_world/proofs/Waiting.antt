@@ -41,7 +41,7 @@ use Rattle.gaspi_world.proofs.Recordable.{join-group}
 use Rattle.gaspi_world.proofs.StaysPending.{pending-stays}
 
 -- What stands in a list with one item more at its end.
-at-snoc : {A : Type 0} (xs : List A) (x : A) (k : ℕ) (y : A) → slice_get (xs ++ x ∷ []) k ≡ Some y → (slice_get xs k ≡ Some y) ⊎ (y ≡ x)
+pub at-snoc : {A : Type 0} (xs : List A) (x : A) (k : ℕ) (y : A) → slice_get (xs ++ x ∷ []) k ≡ Some y → (slice_get xs k ≡ Some y) ⊎ (y ≡ x)
 at-snoc [] x zero y at = inr (let same : x ≡ y = cc in sym same)
 at-snoc [] x (suc k) y at = absurd (let no : ⊥ = cc in no)
 at-snoc (z ∷ xs) x zero y at = inl at
@@ -248,12 +248,16 @@ module _ {S : Type 0} (w : World) (c : CallerId) (call : Call) where
         joined = joined-more w c call earlier done.history waited.joins done.joins waited.joined pending done.joined;
         before = done.before;
         ends = done.ends;
-        after_looks = done.after_look;
+        after_looks = λ k h at. before k h (at-snoc earlier done.history k h at);
         mine = done.mine ∙ ap (λ (es : List Event). es ++ Called c call reply ∷ []) (ap (λ (es : List Event). es ++ done.joins) waited.mine ∙ append_assoc v.mine waited.joins done.joins);
         room = done.room;
         spent = λ times. final-spent (length earlier) (looks_of timeout) (sym last ∙ done.last times);
         timely = done.unready;
       }
+    where
+      before : (k : ℕ) (h : List Event) → (slice_get earlier k ≡ Some h) ⊎ (h ≡ done.history) → IsPrefix h done.before
+      before k h (inl at) = prefix_trans h m.seen done.before (waited.looks.between k h at).1 (prefix_trans m.seen done.history done.before done.looked.is_look.later done.after_look)
+      before k h (inr same) = subst (λ (x : List Event). IsPrefix x done.before) (sym same) done.after_look
 
   pub stopped-full : (v m n : Known S Event) (earlier : List (List Event)) → IsWorld w → HasWaited w c call earlier v m → IsAtLimit w c call m n → IsStopped w c call true v n
   stopped-full v m n earlier world waited stop =

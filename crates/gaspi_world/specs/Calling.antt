@@ -39,7 +39,7 @@ module _ {S : Type 0} (w : World) (c : CallerId) where
     pub looks : n.looks ≡ v.looks ++ map length histories
     pub between : (k : ℕ) (h : List Event) → slice_get histories k ≡ Some h → IsPrefix v.seen h × IsPrefix h n.seen
 
-  -- The call was recorded with its reply, once, after its last look, and what is seen ends with it. At the earlier looks it was neither
+  -- The call was recorded with its reply, once, after all its looks, and what is seen ends with it. At the earlier looks it was neither
   -- refused nor ready. A timeout comes when all looks are spent, and the call is neither refused nor ready at the last one.
   pub record IsCalled (call : Call) (timeout : timeouts.Timeout) (reply : Reply) (v n : Known S Event) : Type 0 where
     pub goes_on : GoesOn w c v n
@@ -51,7 +51,7 @@ module _ {S : Type 0} (w : World) (c : CallerId) where
     pub joined : JoinedFirst w c call (earlier ++ last ∷ []) joins
     pub before : List Event
     pub ends : n.seen ≡ before ++ Called c call reply ∷ []
-    pub after_looks : IsPrefix last before
+    pub after_looks : (k : ℕ) (h : List Event) → slice_get (earlier ++ last ∷ []) k ≡ Some h → IsPrefix h before
     pub mine : n.mine ≡ (v.mine ++ joins) ++ Called c call reply ∷ []
     pub room : is_full_after w c call last ≡ false
     pub spent : reply ≡ Timeout → looks_of timeout ≡ Some (length earlier + 1)

@@ -1,0 +1,300 @@
+-- The looks of the timeouts of a caller are kept as its history goes on.
+use Rattle.std.proofs.Common.{◌≡◌, ◌⊎◌, ℕ, zero, suc, ◌+◌, ◌-◌, ◌<◌, ◌≤◌, Bool, true, false, List, [], ◌∷◌, ◌++◌, map, take, length, length-append, Some, inl, inr, refl, sym, ap, ◌∙◌, subst, arith, if◌then◌else◌}
+use Rattle.std.specs.List.{slice_get}
+use Rattle.std.proofs.lemmas.Bool.{cases_lt}
+use Rattle.std.proofs.lemmas.List.{append_assoc, append-nil, append_cancel_left, append_cancel_right, length-map, take-append-le}
+use Rattle.std.proofs.lemmas.Option.{slice_get_within}
+use Rattle.std.proofs.Math.Seq.{take-append_seam}
+use mathlib.Core.List.{IsPrefix}
+use Rattle.gaspi_types.specs.World.{World, is_caller}
+use Rattle.gaspi_types.specs.declared.calls.Call.{Call}
+use Rattle.gaspi_types.specs.declared.calls.Timeout as timeouts
+use Rattle.gaspi_types.specs.declared.events.Event.{Event}
+use Rattle.gaspi_types.specs.declared.events.Event.TheVariants.{Called, Joined, Take, Put}
+use Rattle.gaspi_types.specs.declared.replies.Reply.{Reply}
+use Rattle.gaspi_types.specs.declared.replies.Reply.TheVariants.{Timeout}
+use Rattle.gaspi_types.specs.declared.shapes.CallerId.{CallerId}
+use Rattle.gaspi_types.proofs.Items.{front-of-joined, behind-of-joined, map-at}
+use Rattle.gaspi_model.specs.Step.{own_calls}
+use Rattle.timeout_state.specs.Looks.{looks_of}
+use Rattle.commit_table.specs.declared.views.Known.{Known}
+use Rattle.commit_table.proofs.Lists.{prefix_trans, prefix_more, prefix_length}
+use Rattle.gaspi_world.specs.Attempts.{is_waiting, found_after, MayHaveJoined}
+use Rattle.gaspi_world.specs.Callers.{events_of}
+use Rattle.gaspi_world.specs.Calling.{JoinedFirst, IsCalled, IsStopped}
+use Rattle.gaspi_world.specs.Waits.{IsLookOf, HasLooks, Waited}
+use Rattle.gaspi_world.proofs.OwnEvents.{is-itself}
+use Rattle.gaspi_world.proofs.Waiting.{at-snoc}
+
+-- what stands at the end of a list
+at-end : {A : Type 0} (xs : List A) (x : A) → slice_get (xs ++ x ∷ []) (length xs) ≡ Some x
+at-end xs x = behind-of-joined xs (x ∷ []) 0 (length xs) (omega arith)
+
+none-behind : {A : Type 0} (xs ys : List A) → xs ++ ys ≡ [] → ys ≡ []
+none-behind [] ys none = none
+none-behind (x ∷ xs) ys none = absurd (let no : ⊥ = cc in no)
+
+-- what a longer history begins with is what stands there
+taken : {A : Type 0} (xs ys : List A) → IsPrefix xs ys → take (length xs) ys ≡ xs
+taken xs ys more = ap (take (length xs)) (sym more.1) ∙ take-append_seam xs more.0
+
+module _ (c : CallerId) where
+  -- The calls of a caller in a history.
+
+  pub own-append : (a b : List Event) → own_calls c.rank c.thread (a ++ b) ≡ own_calls c.rank c.thread a ++ own_calls c.rank c.thread b
+  own-append [] b = refl
+  own-append (Called d call reply ∷ a) b = go (is_caller c.rank c.thread d) (own-append a b)
+    where
+      go : (x : Bool) → own_calls c.rank c.thread (a ++ b) ≡ own_calls c.rank c.thread a ++ own_calls c.rank c.thread b
+          → (if x then (call, reply) ∷ own_calls c.rank c.thread (a ++ b) else own_calls c.rank c.thread (a ++ b))
+          ≡ (if x then (call, reply) ∷ own_calls c.rank c.thread a else own_calls c.rank c.thread a) ++ own_calls c.rank c.thread b
+      go true rest = ap (λ (ps : List (Call × Reply)). (call, reply) ∷ ps) rest
+      go false rest = rest
+  own-append (transfer ∷ a) b = own-append a b
+
+  own-called : (call : Call) (reply : Reply) (history : List Event) → own_calls c.rank c.thread (Called c call reply ∷ history) ≡ (call, reply) ∷ own_calls c.rank c.thread history
+  own-called call reply history = rw (is-itself c) refl
+
+  -- they are those among its events
+  own-among : (history : List Event) → own_calls c.rank c.thread (events_of c history) ≡ own_calls c.rank c.thread history
+  own-among [] = refl
+  own-among (Called d call reply ∷ history) = go (is_caller c.rank c.thread d) refl (own-among history)
+    where
+      go : (b : Bool) → is_caller c.rank c.thread d ≡ b → own_calls c.rank c.thread (events_of c history) ≡ own_calls c.rank c.thread history
+          → own_calls c.rank c.thread (events_of c (Called d call reply ∷ history)) ≡ own_calls c.rank c.thread (Called d call reply ∷ history)
+      go true is rest = rw is (rw is (ap (λ (ps : List (Call × Reply)). (call, reply) ∷ ps) rest))
+      go false is rest = rw is rest
+  own-among (Joined d id args ∷ history) = go (is_caller c.rank c.thread d) refl (own-among history)
+    where
+      go : (b : Bool) → is_caller c.rank c.thread d ≡ b → own_calls c.rank c.thread (events_of c history) ≡ own_calls c.rank c.thread history
+          → own_calls c.rank c.thread (events_of c (Joined d id args ∷ history)) ≡ own_calls c.rank c.thread (Joined d id args ∷ history)
+      go true is rest = rw is rest
+      go false is rest = rw is rest
+  own-among (Take origin queue target number outcome ∷ history) = own-among history
+  own-among (Put origin queue target number outcome ∷ history) = own-among history
+
+  -- none stands where there are none
+  own-nowhere : (history : List Event) (k : ℕ) (call : Call) (reply : Reply) → slice_get history k ≡ Some (Called c call reply) → own_calls c.rank c.thread history ≡ [] → ⊥
+  own-nowhere [] k call reply at none = (let no : ⊥ = cc in no)
+  own-nowhere (e ∷ history) zero call reply at none =
+      let same : e ≡ Called c call reply = cc in
+      let some : (call, reply) ∷ own_calls c.rank c.thread history ≡ [] = sym (own-called call reply history) ∙ (ap (λ (x : Event). own_calls c.rank c.thread (x ∷ history)) (sym same) ∙ none) in
+      let no : ⊥ = cc in
+      no
+  own-nowhere (e ∷ history) (suc k) call reply at none =
+      own-nowhere history k call reply at (none-behind (own_calls c.rank c.thread (e ∷ [])) (own_calls c.rank c.thread history) (sym (own-append (e ∷ []) history) ∙ none))
+
+  -- where a history goes on without one, each stands in the history
+  own-within : (history later : List Event) (k : ℕ) (call : Call) (reply : Reply) → own_calls c.rank c.thread (history ++ later) ≡ own_calls c.rank c.thread history → slice_get (history ++ later) k ≡ Some (Called c call reply)
+      → k < length history
+  own-within history later k call reply same at = go (cases_lt k (length history))
+    where
+      none : own_calls c.rank c.thread later ≡ []
+      none = append_cancel_left (own_calls c.rank c.thread history) (own_calls c.rank c.thread later) [] (sym (own-append history later) ∙ (same ∙ sym (append-nil (own_calls c.rank c.thread history))))
+
+      go : (k < length history) ⊎ (length history ≤ k) → k < length history
+      go (inl less) = less
+      go (inr more) = absurd (own-nowhere later (k - length history) call reply (sym (behind-of-joined history later (k - length history) k (omega arith)) ∙ at) none)
+
+  -- fewer stand before one than there are
+  own-fewer : (history : List Event) (k : ℕ) (call : Call) (reply : Reply) → slice_get history k ≡ Some (Called c call reply) → length (own_calls c.rank c.thread (take k history)) < length (own_calls c.rank c.thread history)
+  own-fewer [] k call reply at = absurd (let no : ⊥ = cc in no)
+  own-fewer (e ∷ history) zero call reply at =
+      let same : e ≡ Called c call reply = cc in
+      let some : own_calls c.rank c.thread (e ∷ history) ≡ (call, reply) ∷ own_calls c.rank c.thread history = ap (λ (x : Event). own_calls c.rank c.thread (x ∷ history)) same ∙ own-called call reply history in
+      let many : length (own_calls c.rank c.thread (e ∷ history)) ≡ suc (length (own_calls c.rank c.thread history)) = ap length some in
+      omega arith
+  own-fewer (e ∷ history) (suc k) call reply at =
+      let rest = own-fewer history k call reply at in
+      let front = ap length (own-append (e ∷ []) (take k history)) ∙ length-append (own_calls c.rank c.thread (e ∷ [])) (own_calls c.rank c.thread (take k history)) in
+      let all = ap length (own-append (e ∷ []) history) ∙ length-append (own_calls c.rank c.thread (e ∷ [])) (own_calls c.rank c.thread history) in
+      omega arith
+
+module _ (w : World) (c : CallerId) where
+  -- What looks a call has stays so in a longer history, and with more looks.
+
+  look-later : (call : Call) (history later : List Event) (place look : ℕ) → place ≤ length history → IsLookOf w c call history place look → IsLookOf w c call (history ++ later) place look
+  look-later call history later place look within is = record {
+    in_time = is.in_time;
+    since = λ k other reply less at. is.since k other reply less (sym (front-of-joined history later k (omega arith)) ∙ at);
+    unready = subst (λ (h : List Event). is_waiting (found_after w c call h) ≡ true) (sym (take-append-le look history later (let in_time = is.in_time in omega arith))) is.unready;
+  }
+
+  looks-later : (call : Call) (history later : List Event) (place n : ℕ) (looks : List ℕ) → place ≤ length history → HasLooks w c call history place looks n → HasLooks w c call (history ++ later) place looks n
+  looks-later call history later place n looks within has = record {
+    before = has.before;
+    these = has.these;
+    later = has.later;
+    parts = has.parts;
+    many = has.many;
+    each = λ k look at. look-later call history later place look within (has.each k look at);
+  }
+
+  looks-more : (call : Call) (history : List Event) (place n : ℕ) (looks more : List ℕ) → HasLooks w c call history place looks n → HasLooks w c call history place (looks ++ more) n
+  looks-more call history place n looks more has = record {
+    before = has.before;
+    these = has.these;
+    later = has.later ++ more;
+    parts = ap (λ (ks : List ℕ). ks ++ more) has.parts ∙ (append_assoc has.before (has.these ++ has.later) more ∙ ap (λ (ks : List ℕ). has.before ++ ks) (append_assoc has.these has.later more));
+    many = has.many;
+    each = has.each;
+  }
+
+  -- timeouts keep their looks where the caller calls nothing more
+  pub waits-last : (history later : List Event) (looks ns : List ℕ) → Waited w c history looks ns → own_calls c.rank c.thread (history ++ later) ≡ own_calls c.rank c.thread history → Waited w c (history ++ later) looks ns
+  waits-last history later looks ns waited same place call n at number =
+      let within : place < length history = own-within c history later place call Timeout same at in
+      let before = take-append-le place history later (omega arith) in
+      looks-later call history later place n looks (omega arith) (waited place call n
+      (sym (front-of-joined history later place within) ∙ at)
+      (ap (λ (h : List Event). slice_get ns (length (own_calls c.rank c.thread h))) (sym before) ∙ number))
+
+  waits-more : (history : List Event) (looks more ns : List ℕ) → Waited w c history looks ns → Waited w c history (looks ++ more) ns
+  waits-more history looks more ns waited place call n at number = looks-more call history place n looks more (waited place call n at number)
+
+  -- at the start of a pass there is none
+  pub waited-none : (looks ns : List ℕ) → Waited w c [] looks ns
+  waited-none looks ns place call n at number = absurd (let no : ⊥ = cc in no)
+
+  -- One call more is recorded, behind a history that had no other since.
+
+  module _ (call : Call) (reply : Reply) (seen before : List Event) (more : IsPrefix seen before) (same : own_calls c.rank c.thread before ≡ own_calls c.rank c.thread seen) where
+    goes : own_calls c.rank c.thread (seen ++ more.0) ≡ own_calls c.rank c.thread seen
+    goes = ap (λ (h : List Event). own_calls c.rank c.thread h) more.1 ∙ same
+
+    -- a history between the two was looked at
+    is-look : (h : List Event) → IsPrefix seen h × IsPrefix h before → is_waiting (found_after w c call h) ≡ true → IsLookOf w c call (before ++ Called c call reply ∷ []) (length before) (length h)
+    is-look h sides unready = record {
+      in_time = prefix_length h before sides.1;
+      since = λ k other answer less at.
+          let inside = own-within c seen more.0 k other answer goes (ap (λ (es : List Event). slice_get es k) more.1 ∙ (sym (front-of-joined before (Called c call reply ∷ []) k less) ∙ at)) in
+          let long = prefix_length seen h sides.0 in
+          omega arith;
+      unready = subst (λ (es : List Event). is_waiting (found_after w c call es) ≡ true) (sym (taken h (before ++ Called c call reply ∷ []) (prefix_more h before (Called c call reply ∷ []) sides.1))) unready;
+    }
+
+    module _ (looks ns : List ℕ) (k : ℕ) (histories : List (List Event)) where
+      -- it has all these looks
+      has-all : k ≤ length histories → ((j : ℕ) (h : List Event) → slice_get histories j ≡ Some h → IsPrefix seen h × IsPrefix h before)
+          → ((j : ℕ) (h : List Event) → slice_get histories j ≡ Some h → is_waiting (found_after w c call h) ≡ true)
+          → HasLooks w c call (before ++ Called c call reply ∷ []) (length before) (looks ++ map length histories) k
+      has-all many between unready = record {
+        before = looks;
+        these = map length histories;
+        later = [];
+        parts = ap (λ (ks : List ℕ). looks ++ ks) (sym (append-nil (map length histories)));
+        many = (let long = length-map histories length in omega arith);
+        each = λ j look at.
+            let found = map-at length histories j look at in
+            subst (IsLookOf w c call (before ++ Called c call reply ∷ []) (length before)) (sym found.2) (is-look found.0 (between j found.0 found.1) (unready j found.0 found.1));
+      }
+
+      -- those before it keep theirs
+      earlier-looks : Waited w c seen looks ns → length ns ≡ length (own_calls c.rank c.thread seen) → (place n : ℕ) (other : Call) → place < length before
+          → slice_get (before ++ Called c call reply ∷ []) place ≡ Some (Called c other Timeout)
+          → slice_get (ns ++ k ∷ []) (length (own_calls c.rank c.thread (take place (before ++ Called c call reply ∷ [])))) ≡ Some n
+          → HasLooks w c other (before ++ Called c call reply ∷ []) place (looks ++ map length histories) n
+      earlier-looks waited lengths place n other less at number =
+          let there = sym (front-of-joined before (Called c call reply ∷ []) place less) ∙ at in
+          let took = take-append-le place before (Called c call reply ∷ []) (omega arith) in
+          let fewer = own-fewer c before place other Timeout there in
+          let all = ap length same in
+          let front = front-of-joined ns (k ∷ []) (length (own_calls c.rank c.thread (take place before))) (omega arith) in
+          let has = subst (λ (h : List Event). Waited w c h looks ns) more.1 (waits-last seen more.0 looks ns waited goes) place other n there
+          (sym front ∙ (ap (λ (h : List Event). slice_get (ns ++ k ∷ []) (length (own_calls c.rank c.thread h))) (sym took) ∙ number)) in
+          looks-more other (before ++ Called c call reply ∷ []) place n looks (map length histories) (looks-later other before (Called c call reply ∷ []) place n looks (omega arith) has)
+
+      recorded : Waited w c seen looks ns → length ns ≡ length (own_calls c.rank c.thread seen) → (reply ≡ Timeout → k ≤ length histories)
+          → ((j : ℕ) (h : List Event) → slice_get histories j ≡ Some h → IsPrefix seen h × IsPrefix h before)
+          → (reply ≡ Timeout → (j : ℕ) (h : List Event) → slice_get histories j ≡ Some h → is_waiting (found_after w c call h) ≡ true)
+          → Waited w c (before ++ Called c call reply ∷ []) (looks ++ map length histories) (ns ++ k ∷ [])
+      recorded waited lengths many between unready place other n at number = go (cases_lt place (length before))
+        where
+          now : length before ≤ place → HasLooks w c other (before ++ Called c call reply ∷ []) place (looks ++ map length histories) n
+          now past =
+              let within = slice_get_within (before ++ Called c call reply ∷ []) place (Called c other Timeout) at in
+              let long = length-append before (Called c call reply ∷ []) in
+              let here : place ≡ length before = omega arith in
+              let is : Some (Called c call reply) ≡ Some (Called c other Timeout) = sym (at-end before (Called c call reply)) ∙ (ap (slice_get (before ++ Called c call reply ∷ [])) (sym here) ∙ at) in
+              let times : reply ≡ Timeout = cc in
+              let named : call ≡ other = cc in
+              let took : take place (before ++ Called c call reply ∷ []) ≡ before = ap (λ (p : ℕ). take p (before ++ Called c call reply ∷ [])) here ∙ take-append_seam before (Called c call reply ∷ []) in
+              let count : length (own_calls c.rank c.thread (take place (before ++ Called c call reply ∷ []))) ≡ length ns = ap (λ (h : List Event). length (own_calls c.rank c.thread h)) took ∙ (ap length same ∙ sym lengths) in
+              let last : Some k ≡ Some n = sym (at-end ns k) ∙ (ap (slice_get (ns ++ k ∷ [])) (sym count) ∙ number) in
+              let so : k ≡ n = cc in
+              let has = has-all (many times) between (unready times) in
+              let placed = subst (λ (p : ℕ). HasLooks w c call (before ++ Called c call reply ∷ []) p (looks ++ map length histories) k) (sym here) has in
+              let numbered = subst (HasLooks w c call (before ++ Called c call reply ∷ []) place (looks ++ map length histories)) so placed in
+              subst (λ (x : Call). HasLooks w c x (before ++ Called c call reply ∷ []) place (looks ++ map length histories) n) named numbered
+
+          go : (place < length before) ⊎ (length before ≤ place) → HasLooks w c other (before ++ Called c call reply ∷ []) place (looks ++ map length histories) n
+          go (inl less) = earlier-looks waited lengths place n other less at number
+          go (inr past) = now past
+
+  -- A join is no call.
+
+  may-join : (call : Call) (history joins : List Event) → MayHaveJoined w c call history joins → own_calls c.rank c.thread joins ≡ []
+  may-join call history joins (inl none) = ap (λ (h : List Event). own_calls c.rank c.thread h) none
+  may-join call history joins (inr (args, is, found)) = ap (λ (h : List Event). own_calls c.rank c.thread h) is
+
+  first-join : (call : Call) (earlier : List (List Event)) (last joins : List Event) → JoinedFirst w c call (earlier ++ last ∷ []) joins → own_calls c.rank c.thread joins ≡ []
+  first-join call [] last joins joined = may-join call last joins joined.0
+  first-join call (first ∷ others) last joins joined = may-join call first joins joined.0
+
+module _ {S : Type 0} (w : World) (c : CallerId) where
+  own-on : (v n : Known S Event) (events : List Event) → events_of c v.seen ≡ v.mine → events_of c n.seen ≡ n.mine → n.mine ≡ v.mine ++ events
+      → own_calls c.rank c.thread n.seen ≡ own_calls c.rank c.thread v.seen ++ own_calls c.rank c.thread events
+  own-on v n events was is mine =
+      sym (own-among c n.seen) ∙ (ap (λ (h : List Event). own_calls c.rank c.thread h) (is ∙ mine) ∙ (own-append c v.mine events
+      ∙ ap (λ (ps : List (Call × Reply)). ps ++ own_calls c.rank c.thread events) (ap (λ (h : List Event). own_calls c.rank c.thread h) (sym was) ∙ own-among c v.seen)))
+
+  -- a call that is recorded: a timeout has so many looks
+  pub waited-called : (call : Call) (timeout : timeouts.Timeout) (reply : Reply) (v n : Known S Event) (ns : List ℕ) (k : ℕ) → events_of c v.seen ≡ v.mine → Waited w c v.seen v.looks ns → length ns ≡ length (own_calls c.rank c.thread v.seen)
+      → IsCalled w c call timeout reply v n → (reply ≡ Timeout → looks_of timeout ≡ Some k)
+      → Waited w c n.seen n.looks (ns ++ k ∷ []) × (length (ns ++ k ∷ []) ≡ length (own_calls c.rank c.thread n.seen))
+  waited-called call timeout reply v n ns k was waited lengths called asked = (
+    subst (λ (h : List Event). Waited w c h n.looks (ns ++ k ∷ [])) (sym called.ends)
+        (subst (λ (ks : List ℕ). Waited w c (called.before ++ Called c call reply ∷ []) ks (ns ++ k ∷ [])) (sym called.looks.looks)
+        (recorded w c call reply v.seen called.before more same v.looks ns k (called.earlier ++ called.last ∷ []) waited lengths many
+        (λ j h at. ((called.looks.between j h at).0, called.after_looks j h at)) (λ times j h at. unready times j h (at-snoc called.earlier called.last j h at)))),
+    length-append ns (k ∷ []) ∙ (ap (λ (m : ℕ). m + 1) lengths ∙ sym (ap length made ∙ length-append (own_calls c.rank c.thread v.seen) ((call, reply) ∷ []))),
+  )
+    where
+      made : own_calls c.rank c.thread n.seen ≡ own_calls c.rank c.thread v.seen ++ (call, reply) ∷ []
+      made =
+          own-on v n (called.joins ++ Called c call reply ∷ []) was called.goes_on.own (called.mine ∙ append_assoc v.mine called.joins (Called c call reply ∷ []))
+          ∙ ap (λ (ps : List (Call × Reply)). own_calls c.rank c.thread v.seen ++ ps) (own-append c called.joins (Called c call reply ∷ [])
+          ∙ (ap (λ (ps : List (Call × Reply)). ps ++ own_calls c.rank c.thread (Called c call reply ∷ [])) (first-join w c call called.earlier called.last called.joins called.joined) ∙ own-called c call reply []))
+
+      same : own_calls c.rank c.thread called.before ≡ own_calls c.rank c.thread v.seen
+      same = append_cancel_right (own_calls c.rank c.thread called.before) (own_calls c.rank c.thread v.seen) ((call, reply) ∷ [])
+          (ap (λ (ps : List (Call × Reply)). own_calls c.rank c.thread called.before ++ ps) (sym (own-called c call reply []))
+          ∙ (sym (own-append c called.before (Called c call reply ∷ [])) ∙ (ap (λ (h : List Event). own_calls c.rank c.thread h) (sym called.ends) ∙ made)))
+
+      more : IsPrefix v.seen called.before
+      more = prefix_trans v.seen called.last called.before (called.looks.between (length called.earlier) called.last (at-end called.earlier called.last)).0 (called.after_looks (length called.earlier) called.last (at-end called.earlier called.last))
+
+      many : reply ≡ Timeout → k ≤ length (called.earlier ++ called.last ∷ [])
+      many times =
+          let both : Some k ≡ Some (length called.earlier + 1) = sym (asked times) ∙ called.spent times in
+          let so : k ≡ length called.earlier + 1 = cc in
+          let long = length-append called.earlier (called.last ∷ []) in
+          omega arith
+
+      unready : reply ≡ Timeout → (j : ℕ) (h : List Event) → (slice_get called.earlier j ≡ Some h) ⊎ (h ≡ called.last) → is_waiting (found_after w c call h) ≡ true
+      unready times j h (inl there) = called.unready j h there
+      unready times j h (inr is) = ap (λ (x : List Event). is_waiting (found_after w c call x)) is ∙ called.timely times
+
+  -- a call that is not recorded
+  pub waited-stopped : (call : Call) (full : Bool) (v n : Known S Event) (ns : List ℕ) → events_of c v.seen ≡ v.mine → Waited w c v.seen v.looks ns → length ns ≡ length (own_calls c.rank c.thread v.seen) → IsStopped w c call full v n
+      → Waited w c n.seen n.looks ns × (length ns ≡ length (own_calls c.rank c.thread n.seen))
+  waited-stopped call full v n ns was waited lengths stopped =
+      let none = first-join w c call stopped.earlier stopped.last stopped.joins stopped.joined in
+      let same : own_calls c.rank c.thread n.seen ≡ own_calls c.rank c.thread v.seen = own-on v n stopped.joins was stopped.goes_on.own stopped.mine
+      ∙ (ap (λ (ps : List (Call × Reply)). own_calls c.rank c.thread v.seen ++ ps) none ∙ append-nil (own_calls c.rank c.thread v.seen)) in
+      let more = stopped.goes_on.seen in
+      let on = waits-last w c v.seen more.0 v.looks ns waited (ap (λ (h : List Event). own_calls c.rank c.thread h) more.1 ∙ same) in
+      let now = subst (λ (h : List Event). Waited w c h v.looks ns) more.1 on in (
+        subst (λ (ks : List ℕ). Waited w c n.seen ks ns) (sym stopped.looks.looks) (waits-more w c n.seen v.looks (map length (stopped.earlier ++ stopped.last ∷ [])) ns now),
+        lengths ∙ ap length (sym same),
+      )
