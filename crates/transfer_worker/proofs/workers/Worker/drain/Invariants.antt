@@ -6,4 +6,4 @@ use Rattle.transfer_worker.proofs.workers.Worker.drain.Given as goal
 abbrev pub invariant-loop : goal.invariant-loop
 invariant-loop g l =
     ((goal.iterator-loop g).can_next l.iterator' × (goal.iterator-loop g).is_finite l.iterator')
-    × (l.self.world.now ≡ l.fn.self.world.now) × (l.self.pass.now.table ≡ l.fn.self.pass.now.table) × HoldsNone l.self.pass.now.known × GoesOn l.fn.self.pass.now.known l.self.pass.now.known
+    × (l.self.world.now ≡ l.fn.self.world.now) × (l.self.pass.ghost_name ≡ l.fn.self.pass.ghost_name) × (l.self.pass.now.table ≡ l.fn.self.pass.now.table) × HoldsNone l.self.pass.now.known × GoesOn l.fn.self.pass.now.known l.self.pass.now.known
