@@ -19,7 +19,7 @@ use std::sync::Wait;
 pub struct Worker<'a> {
     pub world: &'a World,
     pub pass: &'a mut Pass,
-    /// How many turns it made, where counts go on from 0 behind the type's end: the next one begins at the rank of that number.
+    /// How many turns it made, modulo 2^64. The next one begins at the rank of that number, modulo how many ranks there are.
     pub turns: u64,
 }
 
