@@ -1,5 +1,6 @@
 pub mod Endings
 pub mod FewCallers
+pub mod Going
 pub mod Histories
 pub mod Holdings
 pub mod Looks

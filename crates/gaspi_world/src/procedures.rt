@@ -29,6 +29,7 @@ impl<'a> Rank<'a> {
     ) -> Result<Reply, Stop>
         requires pass { MayCall self.old.world.now self.old.pass.now }
         ensures same { (self.new.world.now ≡ self.old.world.now) × (self.new.pass.ghost_name ≡ self.old.pass.ghost_name) }
+        ensures on { MayCall self.old.world.now self.new.pass.now }
         ensures calls { CallsBy self.old.world.now (calls.Alloc args) (Looks 1) self.old.pass.now result self.new.pass.now }
     {
         self.call(rt, alloc, &Call::Alloc(args), Timeout::Looks(1))
@@ -43,6 +44,7 @@ impl<'a> Rank<'a> {
     ) -> Result<Reply, Stop>
         requires pass { MayCall self.old.world.now self.old.pass.now }
         ensures same { (self.new.world.now ≡ self.old.world.now) × (self.new.pass.ghost_name ≡ self.old.pass.ghost_name) }
+        ensures on { MayCall self.old.world.now self.new.pass.now }
         ensures calls { CallsBy self.old.world.now (calls.Register args) (Looks 1) self.old.pass.now result self.new.pass.now }
     {
         self.call(rt, alloc, &Call::Register(args), Timeout::Looks(1))
@@ -59,6 +61,7 @@ impl<'a> Rank<'a> {
         requires pass { MayCall self.old.world.now self.old.pass.now }
         requires timeout { HasLook (looks_of timeout) }
         ensures same { (self.new.world.now ≡ self.old.world.now) × (self.new.pass.ghost_name ≡ self.old.pass.ghost_name) }
+        ensures on { MayCall self.old.world.now self.new.pass.now }
         ensures calls { CallsBy self.old.world.now (calls.Create args) timeout self.old.pass.now result self.new.pass.now }
     {
         self.call(rt, alloc, &Call::Create(args), timeout)
@@ -73,6 +76,7 @@ impl<'a> Rank<'a> {
     ) -> Result<Reply, Stop>
         requires pass { MayCall self.old.world.now self.old.pass.now }
         ensures same { (self.new.world.now ≡ self.old.world.now) × (self.new.pass.ghost_name ≡ self.old.pass.ghost_name) }
+        ensures on { MayCall self.old.world.now self.new.pass.now }
         ensures calls { CallsBy self.old.world.now (calls.Delete args) (Looks 1) self.old.pass.now result self.new.pass.now }
     {
         self.call(rt, alloc, &Call::Delete(args), Timeout::Looks(1))
@@ -87,6 +91,7 @@ impl<'a> Rank<'a> {
     ) -> Result<Reply, Stop>
         requires pass { MayCall self.old.world.now self.old.pass.now }
         ensures same { (self.new.world.now ≡ self.old.world.now) × (self.new.pass.ghost_name ≡ self.old.pass.ghost_name) }
+        ensures on { MayCall self.old.world.now self.new.pass.now }
         ensures calls { CallsBy self.old.world.now (calls.Store args) (Looks 1) self.old.pass.now result self.new.pass.now }
     {
         self.call(rt, alloc, &Call::Store(args), Timeout::Looks(1))
@@ -96,6 +101,7 @@ impl<'a> Rank<'a> {
     pub fn gaspi_load<R: Wait>(&mut self, rt: &R, alloc: Global, args: Load) -> Result<Reply, Stop>
         requires pass { MayCall self.old.world.now self.old.pass.now }
         ensures same { (self.new.world.now ≡ self.old.world.now) × (self.new.pass.ghost_name ≡ self.old.pass.ghost_name) }
+        ensures on { MayCall self.old.world.now self.new.pass.now }
         ensures calls { CallsBy self.old.world.now (calls.Load args) (Looks 1) self.old.pass.now result self.new.pass.now }
     {
         self.call(rt, alloc, &Call::Load(args), Timeout::Looks(1))
@@ -110,6 +116,7 @@ impl<'a> Rank<'a> {
     ) -> Result<Reply, Stop>
         requires pass { MayCall self.old.world.now self.old.pass.now }
         ensures same { (self.new.world.now ≡ self.old.world.now) × (self.new.pass.ghost_name ≡ self.old.pass.ghost_name) }
+        ensures on { MayCall self.old.world.now self.new.pass.now }
         ensures calls { CallsBy self.old.world.now (calls.Write args) (Looks 1) self.old.pass.now result self.new.pass.now }
     {
         self.call(rt, alloc, &Call::Write(args), Timeout::Looks(1))
@@ -119,6 +126,7 @@ impl<'a> Rank<'a> {
     pub fn gaspi_read<R: Wait>(&mut self, rt: &R, alloc: Global, args: Read) -> Result<Reply, Stop>
         requires pass { MayCall self.old.world.now self.old.pass.now }
         ensures same { (self.new.world.now ≡ self.old.world.now) × (self.new.pass.ghost_name ≡ self.old.pass.ghost_name) }
+        ensures on { MayCall self.old.world.now self.new.pass.now }
         ensures calls { CallsBy self.old.world.now (calls.Read args) (Looks 1) self.old.pass.now result self.new.pass.now }
     {
         self.call(rt, alloc, &Call::Read(args), Timeout::Looks(1))
@@ -133,6 +141,7 @@ impl<'a> Rank<'a> {
     ) -> Result<Reply, Stop>
         requires pass { MayCall self.old.world.now self.old.pass.now }
         ensures same { (self.new.world.now ≡ self.old.world.now) × (self.new.pass.ghost_name ≡ self.old.pass.ghost_name) }
+        ensures on { MayCall self.old.world.now self.new.pass.now }
         ensures calls { CallsBy self.old.world.now (calls.Notify args) (Looks 1) self.old.pass.now result self.new.pass.now }
     {
         self.call(rt, alloc, &Call::Notify(args), Timeout::Looks(1))
@@ -147,6 +156,7 @@ impl<'a> Rank<'a> {
     ) -> Result<Reply, Stop>
         requires pass { MayCall self.old.world.now self.old.pass.now }
         ensures same { (self.new.world.now ≡ self.old.world.now) × (self.new.pass.ghost_name ≡ self.old.pass.ghost_name) }
+        ensures on { MayCall self.old.world.now self.new.pass.now }
         ensures calls { CallsBy self.old.world.now (calls.WriteNotify args) (Looks 1) self.old.pass.now result self.new.pass.now }
     {
         self.call(rt, alloc, &Call::WriteNotify(args), Timeout::Looks(1))
@@ -161,6 +171,7 @@ impl<'a> Rank<'a> {
     ) -> Result<Reply, Stop>
         requires pass { MayCall self.old.world.now self.old.pass.now }
         ensures same { (self.new.world.now ≡ self.old.world.now) × (self.new.pass.ghost_name ≡ self.old.pass.ghost_name) }
+        ensures on { MayCall self.old.world.now self.new.pass.now }
         ensures calls { CallsBy self.old.world.now (calls.ReadNotify args) (Looks 1) self.old.pass.now result self.new.pass.now }
     {
         self.call(rt, alloc, &Call::ReadNotify(args), Timeout::Looks(1))
@@ -175,6 +186,7 @@ impl<'a> Rank<'a> {
     ) -> Result<Reply, Stop>
         requires pass { MayCall self.old.world.now self.old.pass.now }
         ensures same { (self.new.world.now ≡ self.old.world.now) × (self.new.pass.ghost_name ≡ self.old.pass.ghost_name) }
+        ensures on { MayCall self.old.world.now self.new.pass.now }
         ensures calls { CallsBy self.old.world.now (calls.WriteList args) (Looks 1) self.old.pass.now result self.new.pass.now }
     {
         self.call(rt, alloc, &Call::WriteList(args), Timeout::Looks(1))
@@ -189,6 +201,7 @@ impl<'a> Rank<'a> {
     ) -> Result<Reply, Stop>
         requires pass { MayCall self.old.world.now self.old.pass.now }
         ensures same { (self.new.world.now ≡ self.old.world.now) × (self.new.pass.ghost_name ≡ self.old.pass.ghost_name) }
+        ensures on { MayCall self.old.world.now self.new.pass.now }
         ensures calls { CallsBy self.old.world.now (calls.WriteListNotify args) (Looks 1) self.old.pass.now result self.new.pass.now }
     {
         self.call(rt, alloc, &Call::WriteListNotify(args), Timeout::Looks(1))
@@ -203,6 +216,7 @@ impl<'a> Rank<'a> {
     ) -> Result<Reply, Stop>
         requires pass { MayCall self.old.world.now self.old.pass.now }
         ensures same { (self.new.world.now ≡ self.old.world.now) × (self.new.pass.ghost_name ≡ self.old.pass.ghost_name) }
+        ensures on { MayCall self.old.world.now self.new.pass.now }
         ensures calls { CallsBy self.old.world.now (calls.ReadList args) (Looks 1) self.old.pass.now result self.new.pass.now }
     {
         self.call(rt, alloc, &Call::ReadList(args), Timeout::Looks(1))
@@ -217,6 +231,7 @@ impl<'a> Rank<'a> {
     ) -> Result<Reply, Stop>
         requires pass { MayCall self.old.world.now self.old.pass.now }
         ensures same { (self.new.world.now ≡ self.old.world.now) × (self.new.pass.ghost_name ≡ self.old.pass.ghost_name) }
+        ensures on { MayCall self.old.world.now self.new.pass.now }
         ensures calls { CallsBy self.old.world.now (calls.ReadListNotify args) (Looks 1) self.old.pass.now result self.new.pass.now }
     {
         self.call(rt, alloc, &Call::ReadListNotify(args), Timeout::Looks(1))
@@ -233,6 +248,7 @@ impl<'a> Rank<'a> {
         requires pass { MayCall self.old.world.now self.old.pass.now }
         requires timeout { HasLook (looks_of timeout) }
         ensures same { (self.new.world.now ≡ self.old.world.now) × (self.new.pass.ghost_name ≡ self.old.pass.ghost_name) }
+        ensures on { MayCall self.old.world.now self.new.pass.now }
         ensures calls { CallsBy self.old.world.now (calls.Wait args) timeout self.old.pass.now result self.new.pass.now }
     {
         self.call(rt, alloc, &Call::Wait(args), timeout)
@@ -247,6 +263,7 @@ impl<'a> Rank<'a> {
     ) -> Result<Reply, Stop>
         requires pass { MayCall self.old.world.now self.old.pass.now }
         ensures same { (self.new.world.now ≡ self.old.world.now) × (self.new.pass.ghost_name ≡ self.old.pass.ghost_name) }
+        ensures on { MayCall self.old.world.now self.new.pass.now }
         ensures calls { CallsBy self.old.world.now (calls.Purge args) (Looks 1) self.old.pass.now result self.new.pass.now }
     {
         self.call(rt, alloc, &Call::Purge(args), Timeout::Looks(1))
@@ -261,6 +278,7 @@ impl<'a> Rank<'a> {
     ) -> Result<Reply, Stop>
         requires pass { MayCall self.old.world.now self.old.pass.now }
         ensures same { (self.new.world.now ≡ self.old.world.now) × (self.new.pass.ghost_name ≡ self.old.pass.ghost_name) }
+        ensures on { MayCall self.old.world.now self.new.pass.now }
         ensures calls { CallsBy self.old.world.now (calls.Qsize args) (Looks 1) self.old.pass.now result self.new.pass.now }
     {
         self.call(rt, alloc, &Call::Qsize(args), Timeout::Looks(1))
@@ -277,6 +295,7 @@ impl<'a> Rank<'a> {
         requires pass { MayCall self.old.world.now self.old.pass.now }
         requires timeout { HasLook (looks_of timeout) }
         ensures same { (self.new.world.now ≡ self.old.world.now) × (self.new.pass.ghost_name ≡ self.old.pass.ghost_name) }
+        ensures on { MayCall self.old.world.now self.new.pass.now }
         ensures calls { CallsBy self.old.world.now (calls.Waitsome args) timeout self.old.pass.now result self.new.pass.now }
     {
         self.call(rt, alloc, &Call::Waitsome(args), timeout)
@@ -291,6 +310,7 @@ impl<'a> Rank<'a> {
     ) -> Result<Reply, Stop>
         requires pass { MayCall self.old.world.now self.old.pass.now }
         ensures same { (self.new.world.now ≡ self.old.world.now) × (self.new.pass.ghost_name ≡ self.old.pass.ghost_name) }
+        ensures on { MayCall self.old.world.now self.new.pass.now }
         ensures calls { CallsBy self.old.world.now (calls.Reset args) (Looks 1) self.old.pass.now result self.new.pass.now }
     {
         self.call(rt, alloc, &Call::Reset(args), Timeout::Looks(1))
@@ -307,6 +327,7 @@ impl<'a> Rank<'a> {
         requires pass { MayCall self.old.world.now self.old.pass.now }
         requires timeout { HasLook (looks_of timeout) }
         ensures same { (self.new.world.now ≡ self.old.world.now) × (self.new.pass.ghost_name ≡ self.old.pass.ghost_name) }
+        ensures on { MayCall self.old.world.now self.new.pass.now }
         ensures calls { CallsBy self.old.world.now (calls.PassiveSend args) timeout self.old.pass.now result self.new.pass.now }
     {
         self.call(rt, alloc, &Call::PassiveSend(args), timeout)
@@ -323,6 +344,7 @@ impl<'a> Rank<'a> {
         requires pass { MayCall self.old.world.now self.old.pass.now }
         requires timeout { HasLook (looks_of timeout) }
         ensures same { (self.new.world.now ≡ self.old.world.now) × (self.new.pass.ghost_name ≡ self.old.pass.ghost_name) }
+        ensures on { MayCall self.old.world.now self.new.pass.now }
         ensures calls { CallsBy self.old.world.now (calls.PassiveReceive args) timeout self.old.pass.now result self.new.pass.now }
     {
         self.call(rt, alloc, &Call::PassiveReceive(args), timeout)
@@ -337,6 +359,7 @@ impl<'a> Rank<'a> {
     ) -> Result<Reply, Stop>
         requires pass { MayCall self.old.world.now self.old.pass.now }
         ensures same { (self.new.world.now ≡ self.old.world.now) × (self.new.pass.ghost_name ≡ self.old.pass.ghost_name) }
+        ensures on { MayCall self.old.world.now self.new.pass.now }
         ensures calls { CallsBy self.old.world.now (calls.FetchAdd args) (Looks 1) self.old.pass.now result self.new.pass.now }
     {
         self.call(rt, alloc, &Call::FetchAdd(args), Timeout::Looks(1))
@@ -351,6 +374,7 @@ impl<'a> Rank<'a> {
     ) -> Result<Reply, Stop>
         requires pass { MayCall self.old.world.now self.old.pass.now }
         ensures same { (self.new.world.now ≡ self.old.world.now) × (self.new.pass.ghost_name ≡ self.old.pass.ghost_name) }
+        ensures on { MayCall self.old.world.now self.new.pass.now }
         ensures calls { CallsBy self.old.world.now (calls.CompareSwap args) (Looks 1) self.old.pass.now result self.new.pass.now }
     {
         self.call(rt, alloc, &Call::CompareSwap(args), Timeout::Looks(1))
@@ -360,6 +384,7 @@ impl<'a> Rank<'a> {
     pub fn gaspi_group_create<R: Wait>(&mut self, rt: &R, alloc: Global) -> Result<Reply, Stop>
         requires pass { MayCall self.old.world.now self.old.pass.now }
         ensures same { (self.new.world.now ≡ self.old.world.now) × (self.new.pass.ghost_name ≡ self.old.pass.ghost_name) }
+        ensures on { MayCall self.old.world.now self.new.pass.now }
         ensures calls { CallsBy self.old.world.now calls.GroupCreate (Looks 1) self.old.pass.now result self.new.pass.now }
     {
         self.call(rt, alloc, &Call::GroupCreate, Timeout::Looks(1))
@@ -374,6 +399,7 @@ impl<'a> Rank<'a> {
     ) -> Result<Reply, Stop>
         requires pass { MayCall self.old.world.now self.old.pass.now }
         ensures same { (self.new.world.now ≡ self.old.world.now) × (self.new.pass.ghost_name ≡ self.old.pass.ghost_name) }
+        ensures on { MayCall self.old.world.now self.new.pass.now }
         ensures calls { CallsBy self.old.world.now (calls.GroupAdd args) (Looks 1) self.old.pass.now result self.new.pass.now }
     {
         self.call(rt, alloc, &Call::GroupAdd(args), Timeout::Looks(1))
@@ -388,6 +414,7 @@ impl<'a> Rank<'a> {
     ) -> Result<Reply, Stop>
         requires pass { MayCall self.old.world.now self.old.pass.now }
         ensures same { (self.new.world.now ≡ self.old.world.now) × (self.new.pass.ghost_name ≡ self.old.pass.ghost_name) }
+        ensures on { MayCall self.old.world.now self.new.pass.now }
         ensures calls { CallsBy self.old.world.now (calls.GroupDelete args) (Looks 1) self.old.pass.now result self.new.pass.now }
     {
         self.call(rt, alloc, &Call::GroupDelete(args), Timeout::Looks(1))
@@ -404,6 +431,7 @@ impl<'a> Rank<'a> {
         requires pass { MayCall self.old.world.now self.old.pass.now }
         requires timeout { HasLook (looks_of timeout) }
         ensures same { (self.new.world.now ≡ self.old.world.now) × (self.new.pass.ghost_name ≡ self.old.pass.ghost_name) }
+        ensures on { MayCall self.old.world.now self.new.pass.now }
         ensures calls { CallsBy self.old.world.now (calls.Commit args) timeout self.old.pass.now result self.new.pass.now }
     {
         self.call(rt, alloc, &Call::Commit(args), timeout)
@@ -420,6 +448,7 @@ impl<'a> Rank<'a> {
         requires pass { MayCall self.old.world.now self.old.pass.now }
         requires timeout { HasLook (looks_of timeout) }
         ensures same { (self.new.world.now ≡ self.old.world.now) × (self.new.pass.ghost_name ≡ self.old.pass.ghost_name) }
+        ensures on { MayCall self.old.world.now self.new.pass.now }
         ensures calls { CallsBy self.old.world.now (calls.Barrier args) timeout self.old.pass.now result self.new.pass.now }
     {
         self.call(rt, alloc, &Call::Barrier(args), timeout)
@@ -436,6 +465,7 @@ impl<'a> Rank<'a> {
         requires pass { MayCall self.old.world.now self.old.pass.now }
         requires timeout { HasLook (looks_of timeout) }
         ensures same { (self.new.world.now ≡ self.old.world.now) × (self.new.pass.ghost_name ≡ self.old.pass.ghost_name) }
+        ensures on { MayCall self.old.world.now self.new.pass.now }
         ensures calls { CallsBy self.old.world.now (calls.Allreduce args) timeout self.old.pass.now result self.new.pass.now }
     {
         self.call(rt, alloc, &Call::Allreduce(args), timeout)
@@ -445,6 +475,7 @@ impl<'a> Rank<'a> {
     pub fn gaspi_state_vec_get<R: Wait>(&mut self, rt: &R, alloc: Global) -> Result<Reply, Stop>
         requires pass { MayCall self.old.world.now self.old.pass.now }
         ensures same { (self.new.world.now ≡ self.old.world.now) × (self.new.pass.ghost_name ≡ self.old.pass.ghost_name) }
+        ensures on { MayCall self.old.world.now self.new.pass.now }
         ensures calls { CallsBy self.old.world.now calls.State (Looks 1) self.old.pass.now result self.new.pass.now }
     {
         self.call(rt, alloc, &Call::State, Timeout::Looks(1))

@@ -49,6 +49,7 @@ impl<'a> Rank<'a> {
         ensures table { self.new.pass.now.table ≡ self.old.pass.now.table }
         ensures free { HoldsNone self.new.pass.now.known }
         ensures ends { call.now ≡ End → result ≢ Err halts.NoMemory }
+        ensures on { MayCall self.old.world.now self.new.pass.now }
         ensures attempted { (c : CallerId) → IsPassOf self.old.world.now.start.shape c self.old.pass.now.known
             → Attempted self.old.world.now.start.shape c call.now look self.old.pass.now.known result self.new.pass.now.known }
     {
@@ -70,6 +71,7 @@ impl<'a> Rank<'a> {
         requires timeout { HasLook (looks_of timeout) }
         ensures same { (self.new.world.now ≡ self.old.world.now) × (self.new.pass.ghost_name ≡ self.old.pass.ghost_name) }
         ensures ends { call.now ≡ End → result ≢ Err stops.NoMemory }
+        ensures on { MayCall self.old.world.now self.new.pass.now }
         ensures calls { CallsBy self.old.world.now call.now timeout self.old.pass.now result self.new.pass.now }
     {
         self.world.shape().limits();
