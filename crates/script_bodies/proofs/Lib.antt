@@ -1,0 +1,4 @@
+pub mod Active
+pub mod Ending
+pub mod GoingOn
+pub mod OwnCalls

@@ -1,0 +1,4 @@
+pub mod Bodies
+pub mod Looks
+pub mod Runs
+pub mod SoFar
