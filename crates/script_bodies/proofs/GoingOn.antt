@@ -1,5 +1,5 @@
 -- A run of a script goes on with each call, and the caller's end makes it whole.
-use Rattle.std.proofs.Common.{◌≡◌, ℕ, suc, ◌+◌, ◌-◌, ◌<◌, ◌≤◌, Bool, true, false, ◌&&◌, nat_lt, List, [], ◌∷◌, ◌++◌, Some, Result, Ok, Err, inl, inr, refl, sym, ap, ◌∙◌, subst, arith, if◌then◌else◌}
+use Rattle.std.proofs.Common.{◌≡◌, ℕ, suc, ◌+◌, ◌-◌, ◌<◌, ◌≤◌, Bool, true, false, ◌&&◌, nat_lt, List, [], ◌∷◌, ◌++◌, Option, None, Some, Result, Ok, Err, inl, inr, refl, sym, ap, ◌∙◌, subst, arith, if◌then◌else◌, append_assoc, append-nil}
 use Rattle.std.specs.List.{All, slice_get, sum_by}
 use Rattle.std.proofs.lemmas.Bool.{ltb-true, leb-true}
 use Rattle.std.proofs.lemmas.List.Elements.{All-nil, All-cons, All-head, All-tail}
@@ -14,6 +14,7 @@ use Rattle.gaspi_types.specs.declared.calls.Call.{Call}
 use Rattle.gaspi_types.specs.declared.calls.Call.TheVariants.{End}
 use Rattle.gaspi_types.specs.declared.calls.Timeout.{Timeout}
 use Rattle.gaspi_types.specs.declared.events.Event.{Event}
+use Rattle.gaspi_types.specs.declared.events.Event.TheVariants.{Called}
 use Rattle.gaspi_types.specs.declared.replies.Reply.{Reply}
 use Rattle.gaspi_types.specs.declared.replies.Reply.TheVariants.{Done}
 use Rattle.gaspi_types.specs.declared.shapes.CallerId.{CallerId}
@@ -28,8 +29,10 @@ use Rattle.gaspi_world.specs.Attempts.{GoesOn}
 use Rattle.gaspi_world.specs.Calling.{IsCalled, IsStopped as IsCallStopped, Calls}
 use Rattle.gaspi_world.specs.declared.calling.Stop.{Stop}
 use Rattle.gaspi_world.specs.declared.calling.Stop.TheVariants.{NoMemory, EventLimit}
-use Rattle.script_bodies.specs.Runs.{moved, HadNoRoom, HasCause, HasRun}
+use Rattle.script_bodies.specs.Runs.{moved, HadNoRoom, IsStoppedBefore, HasCause, HasRun}
 use Rattle.script_bodies.specs.SoFar.{HasNoEnd, ComesTo, HasComeTo}
+use Rattle.script_bodies.specs.Joins.{AreJoinsFollowed}
+use Rattle.script_bodies.proofs.Joins.{Itself, joins-itself, end-adds-nothing, followed-both, followed-all, call-follows, end-follows}
 use Rattle.script_bodies.proofs.OwnCalls.{own-after, own-events, own-more, prefix-own, prefix-both, no-end-more, no-end-same}
 
 abbrev Pairs : Type 0
@@ -83,20 +86,28 @@ module _ (w : World) (c : CallerId) (lines : List ScriptLine) where
           start = refl;
           own = subst (λ (ps : Pairs). IsPrefix ps (own v.seen)) (sym calls) (prefix_none (own v.seen));
           active = λ k reply at. (let no : ⊥ = let here = subst (λ (ps : Pairs). slice_get ps k ≡ Some (End, reply)) calls at in cc in no);
-          comes = inl (subst (λ (ps : Pairs). Follows (going_on lines) ps (going_on lines)) (sym calls) refl, going-no-limit lines);
+          comes = inl (record {
+            follows = subst (λ (ps : Pairs). Follows (going_on lines) ps (going_on lines)) (sym calls) refl;
+            no_limit = going-no-limit lines;
+            followed = subst (AreJoinsFollowed None) (sym none) tt;
+          });
         }
 
     module _ (v m n : Known S Event) (line : ScriptLine) (made : ℕ) (later : List ScriptLine) (timeout : Timeout) where
       -- where the run has come to a line, its calls lead there
       leads-there : ComesTo w c lines (Going line made later) m → Follows (going_on lines) (own m.mine) (Going line made later)
-      leads-there (inl f) = f.0
+      leads-there (inl way) = way.follows
       leads-there (inr (outcome, over, stop)) = cc
+
+      joins-followed : ComesTo w c lines (Going line made later) m → AreJoinsFollowed None m.mine
+      joins-followed (inl way) = way.followed
+      joins-followed (inr (outcome, over, stop)) = cc
 
       own-seen : GoesOn w c m n → own n.mine ≡ own n.seen
       own-seen on = sym (ap own on.own) ∙ own-events c n.seen
 
-      comes-called : Onward → (reply : Reply) → (line.call ≡ End → ⊥) → HasComeTo w c lines (Going line made later) v m → IsCalled w c line.call timeout reply m n → HasComeTo w c lines (advanced (Going line made later) reply) v n
-      comes-called onward reply plain so_far called =
+      comes-called : Onward → Itself → (reply : Reply) → (line.call ≡ End → ⊥) → HasComeTo w c lines (Going line made later) v m → IsCalled w c line.call timeout reply m n → HasComeTo w c lines (advanced (Going line made later) reply) v n
+      comes-called onward itself reply plain so_far called =
           let before = own-after w c line.call called.earlier called.last m.mine called.joins called.joined in
           let calls : own n.mine ≡ own m.mine ++ (line.call, reply) ∷ [] = ap own called.mine ∙ (own-more c (m.mine ++ called.joins) line.call reply ∙ ap (λ (ps : Pairs). ps ++ (line.call, reply) ∷ []) before) in
           record {
@@ -105,10 +116,12 @@ module _ (w : World) (c : CallerId) (lines : List ScriptLine) where
             start = called.goes_on.start ∙ so_far.start;
             own = same-prefix (own n.mine) (own n.seen) (own-seen called.goes_on);
             active = subst (HasNoEnd c) (sym called.mine) (no-end-more c (m.mine ++ called.joins) line.call reply plain (no-end-same c (m.mine ++ called.joins) m.mine before so_far.active));
-            comes = inl (
-              subst (λ (ps : Pairs). Follows (going_on lines) ps (advanced (Going line made later) reply)) (sym calls) (onward (going_on lines) (own m.mine) line made later reply (leads-there so_far.comes)),
-              advanced-no-limit line made later reply,
-            );
+            comes = inl (record {
+              follows = subst (λ (ps : Pairs). Follows (going_on lines) ps (advanced (Going line made later) reply)) (sym calls) (onward (going_on lines) (own m.mine) line made later reply (leads-there so_far.comes));
+              no_limit = advanced-no-limit line made later reply;
+              followed = subst (AreJoinsFollowed None) (sym (called.mine ∙ append_assoc m.mine called.joins (Called c line.call reply ∷ [])))
+                  (followed-both None m.mine (called.joins ++ Called c line.call reply ∷ []) (joins-followed so_far.comes) (call-follows c line.call reply called.joins (joins-itself w c itself line.call called.earlier called.last called.joins called.joined)));
+            });
           }
 
       -- the last look of a call is one after a history between
@@ -116,8 +129,8 @@ module _ (w : World) (c : CallerId) (lines : List ScriptLine) where
       last-between [] last between = between 0 last refl
       last-between (x ∷ xs) last between = last-between xs last (λ k h at. between (suc k) h at)
 
-      comes-stopped : (full : Bool) (outcome : RunOutcome) → IsStopped line.number outcome → (outcome ≡ outcomes.Limit line.number → full ≡ true) → HasComeTo w c lines (Going line made later) v m → IsCallStopped w c line.call full m n → HasComeTo w c lines (Over outcome) v n
-      comes-stopped full outcome is_stopped limit so_far stop =
+      comes-stopped : Itself → (full : Bool) (outcome : RunOutcome) → IsStopped line.number outcome → (outcome ≡ outcomes.Limit line.number → full ≡ true) → HasComeTo w c lines (Going line made later) v m → IsCallStopped w c line.call full m n → HasComeTo w c lines (Over outcome) v n
+      comes-stopped itself full outcome is_stopped limit so_far stop =
           let calls : own n.mine ≡ own m.mine = ap own stop.mine ∙ own-after w c line.call stop.earlier stop.last m.mine stop.joins stop.joined in
           let between = last-between stop.earlier stop.last stop.looks.between in
           let up : IsPrefix (own n.mine) (own stop.last) =
@@ -144,14 +157,19 @@ module _ (w : World) (c : CallerId) (lines : List ScriptLine) where
                   all = prefix-both (own stop.last) (own n.mine) down up;
                   full = stop.room ∙ limit is;
                 };
+                before = m.mine;
+                followed = joins-followed so_far.comes;
+                joins = stop.joins;
+                joined = joins-itself w c itself line.call stop.earlier stop.last stop.joins stop.joined;
+                mine = stop.mine;
               },
             );
           }
 
-      pub comes-going : Onward → (r : Result Reply Stop) → (line.call ≡ End → ⊥) → HasComeTo w c lines (Going line made later) v m → Calls w c line.call timeout m r n → HasComeTo w c lines (moved (Going line made later) r) v n
-      comes-going onward (Ok reply) plain so_far told = comes-called onward reply plain so_far told
-      comes-going onward (Err EventLimit) plain so_far told = comes-stopped true (outcomes.Limit line.number) (inl refl) (λ is. refl) so_far told
-      comes-going onward (Err NoMemory) plain so_far told = comes-stopped false (outcomes.NoMemory line.number) (inr refl) (λ is. (let no : ⊥ = cc in absurd no)) so_far told
+      pub comes-going : Onward → Itself → (r : Result Reply Stop) → (line.call ≡ End → ⊥) → HasComeTo w c lines (Going line made later) v m → Calls w c line.call timeout m r n → HasComeTo w c lines (moved (Going line made later) r) v n
+      comes-going onward itself (Ok reply) plain so_far told = comes-called onward itself reply plain so_far told
+      comes-going onward itself (Err EventLimit) plain so_far told = comes-stopped itself true (outcomes.Limit line.number) (inl refl) (λ is. refl) so_far told
+      comes-going onward itself (Err NoMemory) plain so_far told = comes-stopped itself false (outcomes.NoMemory line.number) (inr refl) (λ is. (let no : ⊥ = cc in absurd no)) so_far told
 
     -- the end makes the run whole
     pub has-run : Ended → Stopped → (v m n : Known S Event) (outcome : RunOutcome) (timeout : Timeout) → HasComeTo w c lines (Over outcome) v m → IsCalled w c End timeout Done m n → HasRun w c lines outcome v n
@@ -165,19 +183,22 @@ module _ (w : World) (c : CallerId) (lines : List ScriptLine) where
       };
       run = subst (λ (ps : Pairs). IsRun lines ps outcome) (sym calls) (whole so_far.comes);
       cause = caused outcome so_far.comes;
+      unmade = left-unmade so_far.comes;
+      stopped_before = before-it so_far.comes;
+      followed = subst (AreJoinsFollowed (left-unmade so_far.comes)) (sym ends) (all-followed so_far.comes);
     }
       where
         calls : own n.mine ≡ own m.mine ++ end_pair
         calls = ap own called.mine ∙ (own-more c (m.mine ++ called.joins) End Done ∙ ap (λ (ps : Pairs). ps ++ (End, Done) ∷ []) (own-after w c End called.earlier called.last m.mine called.joins called.joined))
 
         whole : ComesTo w c lines (Over outcome) m → IsRun lines (own m.mine ++ end_pair) outcome
-        whole (inl f) = ended lines (own m.mine) outcome f.0
+        whole (inl way) = ended lines (own m.mine) outcome way.follows
         whole (inr (o, over, stop)) =
             let same : o ≡ outcome = cc in
             stopped lines (own m.mine) stop.line stop.made stop.later outcome stop.follows (subst (IsStopped stop.line.number) same stop.is_stopped)
 
         at-limit : (number : ℕ) → ComesTo w c lines (Over (outcomes.Limit number)) m → HadNoRoom w c lines number n
-        at-limit number (inl f) = absurd (f.1 number refl)
+        at-limit number (inl way) = absurd (way.no_limit number refl)
         at-limit number (inr (o, over, stop)) =
             let same : o ≡ outcomes.Limit number = cc in
             let line_is : outcomes.Limit number ≡ outcomes.Limit stop.line.number = limit-is (subst (IsStopped stop.line.number) same stop.is_stopped) in
@@ -198,6 +219,37 @@ module _ (w : World) (c : CallerId) (lines : List ScriptLine) where
             limit-is : {k : ℕ} → IsStopped k (outcomes.Limit number) → outcomes.Limit number ≡ outcomes.Limit k
             limit-is (inl is) = is
             limit-is (inr is) = cc
+
+        ends : n.mine ≡ m.mine ++ Called c End Done ∷ []
+        ends = called.mine ∙ ap (λ (es : List Event). es ++ Called c End Done ∷ []) (ap (λ (es : List Event). m.mine ++ es) (end-adds-nothing w c called.earlier called.last called.joins called.joined) ∙ append-nil m.mine)
+
+        -- the call that was not made
+        left-unmade : ComesTo w c lines (Over outcome) m → Option Call
+        left-unmade (inl way) = None
+        left-unmade (inr (o, over, stop)) = Some stop.line.call
+
+        before-it : (come : ComesTo w c lines (Over outcome) m) → (call : Call) → left-unmade come ≡ Some call → IsStoppedBefore w c lines outcome n call
+        before-it (inl way) call is = absurd (let no : ⊥ = cc in no)
+        before-it (inr (o, over, stop)) call is =
+            let same : o ≡ outcome = cc in
+            let call_is : stop.line.call ≡ call = cc in
+            record {
+              line = stop.line;
+              made = stop.made;
+              later = stop.later;
+              pairs = own m.mine;
+              follows = stop.follows;
+              all = sym calls;
+              is_call = call_is;
+              is_stopped = subst (IsStopped stop.line.number) same stop.is_stopped;
+            }
+
+        all-followed : (come : ComesTo w c lines (Over outcome) m) → AreJoinsFollowed (left-unmade come) (m.mine ++ Called c End Done ∷ [])
+        all-followed (inl way) = followed-both None m.mine (Called c End Done ∷ []) way.followed tt
+        all-followed (inr (o, over, stop)) =
+            subst (λ (es : List Event). AreJoinsFollowed (Some stop.line.call) (es ++ Called c End Done ∷ [])) (sym stop.mine)
+            (subst (AreJoinsFollowed (Some stop.line.call)) (sym (append_assoc stop.before stop.joins (Called c End Done ∷ [])))
+            (followed-both (Some stop.line.call) stop.before (stop.joins ++ Called c End Done ∷ []) (followed-all (Some stop.line.call) stop.before stop.followed) (end-follows c stop.line.call Done stop.joins stop.joined)))
 
         caused : (o : RunOutcome) → ComesTo w c lines (Over o) m → HasCause w c lines o n
         caused outcomes.Ended come = tt
@@ -295,11 +347,11 @@ present-look p call given limit one is all =
     let usable = subst (AllLeft IsUsable) there.3 all in
     look-bounded limit given one (subst (λ (t : Timeout). has_look_in t ≡ true) there.5 usable.0.1)
 
-pub comes-next : {S : Type 0} (w : World) (c : CallerId) (lines : List ScriptLine) → Onward → (v m n : Known S Event) (p : Progress) (call : Call) (given timeout : Timeout) (r : Result Reply Stop) → Some (call, given) ≡ present_of p
+pub comes-next : {S : Type 0} (w : World) (c : CallerId) (lines : List ScriptLine) → Onward → Itself → (v m n : Known S Event) (p : Progress) (call : Call) (given timeout : Timeout) (r : Result Reply Stop) → Some (call, given) ≡ present_of p
     → AllLeft IsUsable p → HasComeTo w c lines p v m → Calls w c call timeout m r n → HasComeTo w c lines (moved p r) v n
-comes-next w c lines onward v m n p call given timeout r is all so_far told =
+comes-next w c lines onward itself v m n p call given timeout r is all so_far told =
     let there = going-there p call given is in
     let usable = subst (AllLeft IsUsable) there.3 all in
     subst (λ (q : Progress). HasComeTo w c lines (moved q r) v n) (sym there.3)
-    (comes-going w c lines v m n there.0 there.1 there.2 timeout onward r usable.0.0 (subst (λ (q : Progress). HasComeTo w c lines q v m) there.3 so_far)
+    (comes-going w c lines v m n there.0 there.1 there.2 timeout onward itself r usable.0.0 (subst (λ (q : Progress). HasComeTo w c lines q v m) there.3 so_far)
     (subst (λ (x : Call). Calls w c x timeout m r n) (sym there.4) told))

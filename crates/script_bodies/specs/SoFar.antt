@@ -1,5 +1,5 @@
 -- How far a caller has run its script, and that it has not ended. (own choice)
-use Rattle.std.specs.Prelude.{◌≡◌, ◌⊎◌, ℕ, true, List, slice_get, Some}
+use Rattle.std.specs.Prelude.{◌≡◌, ◌⊎◌, ℕ, true, List, ◌++◌, slice_get, None, Some}
 use mathlib.Core.List.{IsPrefix}
 use Rattle.gaspi_types.specs.World.{World}
 use Rattle.gaspi_types.specs.declared.calls.Call.TheVariants.{End}
@@ -13,6 +13,7 @@ use Rattle.rank_script.specs.declared.scripts.RunOutcome.{RunOutcome}
 use Rattle.rank_script.specs.declared.scripts.RunOutcome.TheVariants.{Limit}
 use Rattle.rank_script.specs.declared.scripts.ScriptLine.{ScriptLine}
 use Rattle.gaspi_world.specs.Attempts.{is_full_after}
+use Rattle.script_bodies.specs.Joins.{AreJoinsFollowed, IsJoinOf}
 
 -- no call of the caller among these events is its end
 abbrev pub HasNoEnd : CallerId → List Event → Type 0
@@ -26,7 +27,14 @@ module _ {S : Type 0} (w : World) (c : CallerId) (lines : List ScriptLine) where
     pub all : own_calls c.rank c.thread history ≡ own_calls c.rank c.thread n.mine
     pub full : is_full_after w c line.call history ≡ true
 
-  -- the calls that were made lead to a line, before which the run was stopped with that outcome
+  -- the calls that were made lead there, each join is of the call behind it, and the run was not stopped
+  pub record IsOnWay (p : Progress) (n : Known S Event) : Type 0 where
+    pub follows : Follows (going_on lines) (own_calls c.rank c.thread n.mine) p
+    pub no_limit : (number : ℕ) → p ≡ Over (Limit number) → ⊥
+    pub followed : AreJoinsFollowed None n.mine
+
+  -- The calls that were made lead to a line, before which the run was stopped with that outcome. Each join is of the call behind it,
+  -- and the last one may be of the line's.
   pub record WasStopped (outcome : RunOutcome) (n : Known S Event) : Type 0 where
     pub line : ScriptLine
     pub made : ℕ
@@ -34,12 +42,15 @@ module _ {S : Type 0} (w : World) (c : CallerId) (lines : List ScriptLine) where
     pub follows : Follows (going_on lines) (own_calls c.rank c.thread n.mine) (Going line made later)
     pub is_stopped : IsStopped line.number outcome
     pub cause : outcome ≡ Limit line.number → IsFullAt line n
+    pub before : List Event
+    pub followed : AreJoinsFollowed None before
+    pub joins : List Event
+    pub joined : IsJoinOf c line.call joins
+    pub mine : n.mine ≡ before ++ joins
 
   -- the calls that were made lead there, or the run was stopped
   abbrev pub ComesTo : Progress → Known S Event → Type 0
-  ComesTo p n =
-      (Follows (going_on lines) (own_calls c.rank c.thread n.mine) p × ((number : ℕ) → p ≡ Over (Limit number) → ⊥))
-      ⊎ ((outcome : RunOutcome) × (p ≡ Over outcome) × WasStopped outcome n)
+  ComesTo p n = IsOnWay p n ⊎ ((outcome : RunOutcome) × (p ≡ Over outcome) × WasStopped outcome n)
 
   -- The caller ran these lines so far, and has not ended.
   pub record HasComeTo (p : Progress) (v n : Known S Event) : Type 0 where

@@ -17,7 +17,7 @@ ghost use Rattle.script_bodies.specs.Runs.{moved};
 ghost use Rattle.script_bodies.specs.SoFar.{HasNoEnd, HasComeTo};
 
 use crate::looks::bounded;
-use gaspi_model::replies;
+use gaspi_model::{enabled, replies};
 use gaspi_types::{Call, Reply, Timeout};
 use gaspi_world::{Pass, Rank, Stop, World};
 use rank_script::{Cursor, Halted, RunOutcome, Script, runs};
@@ -68,6 +68,7 @@ pub(crate) fn run_lines<R: Wait>(
     ensures free { HoldsNone pass.new.known }
     ensures run { HasComeTo world.now.start.shape script.now.caller script.now.lines (Over result) pass.old.known pass.new.known }
 {
+    enabled();
     runs();
     let mut cursor = Cursor::new(script);
     while let Some((call, timeout)) = cursor.present() {
