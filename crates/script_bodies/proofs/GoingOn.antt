@@ -1,0 +1,357 @@
+-- A run of a script goes on with each call, and the caller's end makes it whole.
+use Rattle.std.proofs.Common.{◌≡◌, ℕ, suc, ◌+◌, ◌-◌, ◌<◌, ◌≤◌, Bool, true, false, ◌&&◌, nat_lt, List, [], ◌∷◌, ◌++◌, Option, None, Some, Result, Ok, Err, inl, inr, refl, sym, ap, ◌∙◌, subst, arith, if◌then◌else◌, append_assoc, append-nil}
+use Rattle.std.specs.List.{All, slice_get, sum_by}
+use Rattle.std.proofs.lemmas.Bool.{ltb-true, leb-true}
+use Rattle.std.proofs.lemmas.List.Elements.{All-nil, All-cons, All-head, All-tail}
+use Rattle.std.proofs.lemmas.List.Sums.{sum_by-cons}
+use Rattle.timeout_state.specs.Looks.{looks_of, HasLook}
+use Rattle.gaspi_types.specs.declared.calls.Timeout.TheVariants.{Looks, Block}
+use Rattle.rank_script.specs.PlainScripts.{IsPlain}
+use Rattle.script_bodies.specs.Looks.{has_look, has_look_in, have_looks, bounded}
+use mathlib.Core.List.{IsPrefix}
+use Rattle.gaspi_types.specs.World.{World}
+use Rattle.gaspi_types.specs.declared.calls.Call.{Call}
+use Rattle.gaspi_types.specs.declared.calls.Call.TheVariants.{End}
+use Rattle.gaspi_types.specs.declared.calls.Timeout.{Timeout}
+use Rattle.gaspi_types.specs.declared.events.Event.{Event}
+use Rattle.gaspi_types.specs.declared.events.Event.TheVariants.{Called}
+use Rattle.gaspi_types.specs.declared.replies.Reply.{Reply}
+use Rattle.gaspi_types.specs.declared.replies.Reply.TheVariants.{Done}
+use Rattle.gaspi_types.specs.declared.shapes.CallerId.{CallerId}
+use Rattle.gaspi_model.specs.Step.{own_calls}
+use Rattle.commit_table.specs.declared.views.Known.{Known}
+use Rattle.commit_table.proofs.Lists.{prefix_self, prefix_none, prefix_trans}
+use Rattle.rank_script.specs.Runs.{Progress, Going, Over, going_on, advanced, is_stuck, is_retried, is_failed, is_timeout, present_of, Follows, IsStopped, IsRun, end_pair}
+use Rattle.rank_script.specs.declared.scripts.RunOutcome.{RunOutcome}
+use Rattle.rank_script.specs.declared.scripts.RunOutcome.TheVariants as outcomes
+use Rattle.rank_script.specs.declared.scripts.ScriptLine.{ScriptLine}
+use Rattle.gaspi_world.specs.Attempts.{GoesOn}
+use Rattle.gaspi_world.specs.Calling.{IsCalled, IsStopped as IsCallStopped, Calls}
+use Rattle.gaspi_world.specs.declared.calling.Stop.{Stop}
+use Rattle.gaspi_world.specs.declared.calling.Stop.TheVariants.{NoMemory, EventLimit}
+use Rattle.script_bodies.specs.Runs.{moved, HadNoRoom, IsStoppedBefore, HasCause, HasRun}
+use Rattle.script_bodies.specs.SoFar.{HasNoEnd, ComesTo, HasComeTo}
+use Rattle.script_bodies.specs.Joins.{AreJoinsFollowed}
+use Rattle.script_bodies.proofs.Joins.{Itself, joins-itself, end-adds-nothing, followed-both, followed-all, call-follows, end-follows}
+use Rattle.script_bodies.proofs.OwnCalls.{own-after, own-events, own-more, prefix-own, prefix-both, no-end-more, no-end-same}
+
+abbrev Pairs : Type 0
+Pairs = List (Call × Reply)
+
+-- The laws of runs.
+
+abbrev pub Onward : Type 0
+Onward = (p : Progress) (pairs : Pairs) (line : ScriptLine) (made : ℕ) (lines : List ScriptLine) (reply : Reply)
+    → Follows p pairs (Going line made lines) → Follows p (pairs ++ (line.call, reply) ∷ []) (advanced (Going line made lines) reply)
+
+abbrev pub Ended : Type 0
+Ended = (lines : List ScriptLine) (pairs : Pairs) (outcome : RunOutcome) → Follows (going_on lines) pairs (Over outcome) → IsRun lines (pairs ++ end_pair) outcome
+
+abbrev pub Stopped : Type 0
+Stopped = (lines : List ScriptLine) (pairs : Pairs) (line : ScriptLine) (made : ℕ) (rest : List ScriptLine) (outcome : RunOutcome)
+    → Follows (going_on lines) pairs (Going line made rest) → IsStopped line.number outcome → IsRun lines (pairs ++ end_pair) outcome
+
+-- A run goes on by its lines, and is never stopped by a reply.
+
+abbrev IsNoLimit : Progress → Type 0
+IsNoLimit p = (number : ℕ) → p ≡ Over (outcomes.Limit number) → ⊥
+
+going-no-limit : (lines : List ScriptLine) → IsNoLimit (going_on lines)
+going-no-limit [] number is = cc
+going-no-limit (line ∷ lines) number is = cc
+
+advanced-no-limit : (line : ScriptLine) (made : ℕ) (lines : List ScriptLine) (reply : Reply) → IsNoLimit (advanced (Going line made lines) reply)
+advanced-no-limit line made lines reply number = go (is_stuck line reply) (is_retried line made reply) (is_failed line reply)
+  where
+    go : (stuck again failed : Bool) → (if stuck then Over (outcomes.Stuck line.number) else (if again then Going line (made + 1) lines else (if failed then Over (outcomes.Failed line.number) else going_on lines))) ≡ Over (outcomes.Limit number) → ⊥
+    go true again failed is = cc
+    go false true failed is = cc
+    go false false true is = cc
+    go false false false is = going-no-limit lines number is
+
+same-prefix : {A : Type 0} (a b : List A) → a ≡ b → IsPrefix a b
+same-prefix {A} a b same = subst (IsPrefix a) same (prefix_self a)
+
+module _ (w : World) (c : CallerId) (lines : List ScriptLine) where
+  abbrev own : List Event → Pairs
+  own events = own_calls c.rank c.thread events
+
+  module _ {S : Type 0} where
+    pub comes-first : (v : Known S Event) → v.mine ≡ [] → HasComeTo w c lines (going_on lines) v v
+    comes-first v none =
+        let calls : own v.mine ≡ [] = ap own none in
+        record {
+          seen = prefix_self v.seen;
+          party = refl;
+          start = refl;
+          own = subst (λ (ps : Pairs). IsPrefix ps (own v.seen)) (sym calls) (prefix_none (own v.seen));
+          active = λ k reply at. (let no : ⊥ = let here = subst (λ (ps : Pairs). slice_get ps k ≡ Some (End, reply)) calls at in cc in no);
+          comes = inl (record {
+            follows = subst (λ (ps : Pairs). Follows (going_on lines) ps (going_on lines)) (sym calls) refl;
+            no_limit = going-no-limit lines;
+            followed = subst (AreJoinsFollowed None) (sym none) tt;
+          });
+        }
+
+    module _ (v m n : Known S Event) (line : ScriptLine) (made : ℕ) (later : List ScriptLine) (timeout : Timeout) where
+      -- where the run has come to a line, its calls lead there
+      leads-there : ComesTo w c lines (Going line made later) m → Follows (going_on lines) (own m.mine) (Going line made later)
+      leads-there (inl way) = way.follows
+      leads-there (inr (outcome, over, stop)) = cc
+
+      joins-followed : ComesTo w c lines (Going line made later) m → AreJoinsFollowed None m.mine
+      joins-followed (inl way) = way.followed
+      joins-followed (inr (outcome, over, stop)) = cc
+
+      own-seen : GoesOn w c m n → own n.mine ≡ own n.seen
+      own-seen on = sym (ap own on.own) ∙ own-events c n.seen
+
+      comes-called : Onward → Itself → (reply : Reply) → (line.call ≡ End → ⊥) → HasComeTo w c lines (Going line made later) v m → IsCalled w c line.call timeout reply m n → HasComeTo w c lines (advanced (Going line made later) reply) v n
+      comes-called onward itself reply plain so_far called =
+          let before = own-after w c line.call called.earlier called.last m.mine called.joins called.joined in
+          let calls : own n.mine ≡ own m.mine ++ (line.call, reply) ∷ [] = ap own called.mine ∙ (own-more c (m.mine ++ called.joins) line.call reply ∙ ap (λ (ps : Pairs). ps ++ (line.call, reply) ∷ []) before) in
+          record {
+            seen = prefix_trans v.seen m.seen n.seen so_far.seen called.goes_on.seen;
+            party = called.goes_on.party ∙ so_far.party;
+            start = called.goes_on.start ∙ so_far.start;
+            own = same-prefix (own n.mine) (own n.seen) (own-seen called.goes_on);
+            active = subst (HasNoEnd c) (sym called.mine) (no-end-more c (m.mine ++ called.joins) line.call reply plain (no-end-same c (m.mine ++ called.joins) m.mine before so_far.active));
+            comes = inl (record {
+              follows = subst (λ (ps : Pairs). Follows (going_on lines) ps (advanced (Going line made later) reply)) (sym calls) (onward (going_on lines) (own m.mine) line made later reply (leads-there so_far.comes));
+              no_limit = advanced-no-limit line made later reply;
+              followed = subst (AreJoinsFollowed None) (sym (called.mine ∙ append_assoc m.mine called.joins (Called c line.call reply ∷ [])))
+                  (followed-both None m.mine (called.joins ++ Called c line.call reply ∷ []) (joins-followed so_far.comes) (call-follows c line.call reply called.joins (joins-itself w c itself line.call called.earlier called.last called.joins called.joined)));
+            });
+          }
+
+      -- the last look of a call is one after a history between
+      last-between : (earlier : List (List Event)) (last : List Event) → ((k : ℕ) (h : List Event) → slice_get (earlier ++ last ∷ []) k ≡ Some h → IsPrefix m.seen h × IsPrefix h n.seen) → IsPrefix m.seen last × IsPrefix last n.seen
+      last-between [] last between = between 0 last refl
+      last-between (x ∷ xs) last between = last-between xs last (λ k h at. between (suc k) h at)
+
+      comes-stopped : Itself → (full : Bool) (outcome : RunOutcome) → IsStopped line.number outcome → (outcome ≡ outcomes.Limit line.number → full ≡ true) → HasComeTo w c lines (Going line made later) v m → IsCallStopped w c line.call full m n → HasComeTo w c lines (Over outcome) v n
+      comes-stopped itself full outcome is_stopped limit so_far stop =
+          let calls : own n.mine ≡ own m.mine = ap own stop.mine ∙ own-after w c line.call stop.earlier stop.last m.mine stop.joins stop.joined in
+          let between = last-between stop.earlier stop.last stop.looks.between in
+          let up : IsPrefix (own n.mine) (own stop.last) =
+          subst (λ (ps : Pairs). IsPrefix ps (own stop.last)) (sym calls) (prefix_trans (own m.mine) (own m.seen) (own stop.last) so_far.own (prefix-own c m.seen stop.last between.0)) in
+          let down : IsPrefix (own stop.last) (own n.mine) = subst (IsPrefix (own stop.last)) (sym (own-seen stop.goes_on)) (prefix-own c stop.last n.seen between.1) in
+          record {
+            seen = prefix_trans v.seen m.seen n.seen so_far.seen stop.goes_on.seen;
+            party = stop.goes_on.party ∙ so_far.party;
+            start = stop.goes_on.start ∙ so_far.start;
+            own = same-prefix (own n.mine) (own n.seen) (own-seen stop.goes_on);
+            active = no-end-same c n.mine m.mine calls so_far.active;
+            comes = inr (
+              outcome,
+              refl,
+              record {
+                line = line;
+                made = made;
+                later = later;
+                follows = subst (λ (ps : Pairs). Follows (going_on lines) ps (Going line made later)) (sym calls) (leads-there so_far.comes);
+                is_stopped = is_stopped;
+                cause = λ is. record {
+                  history = stop.last;
+                  begins = between.1;
+                  all = prefix-both (own stop.last) (own n.mine) down up;
+                  full = stop.room ∙ limit is;
+                };
+                before = m.mine;
+                followed = joins-followed so_far.comes;
+                joins = stop.joins;
+                joined = joins-itself w c itself line.call stop.earlier stop.last stop.joins stop.joined;
+                mine = stop.mine;
+              },
+            );
+          }
+
+      pub comes-going : Onward → Itself → (r : Result Reply Stop) → (line.call ≡ End → ⊥) → HasComeTo w c lines (Going line made later) v m → Calls w c line.call timeout m r n → HasComeTo w c lines (moved (Going line made later) r) v n
+      comes-going onward itself (Ok reply) plain so_far told = comes-called onward itself reply plain so_far told
+      comes-going onward itself (Err EventLimit) plain so_far told = comes-stopped itself true (outcomes.Limit line.number) (inl refl) (λ is. refl) so_far told
+      comes-going onward itself (Err NoMemory) plain so_far told = comes-stopped itself false (outcomes.NoMemory line.number) (inr refl) (λ is. (let no : ⊥ = cc in absurd no)) so_far told
+
+    -- the end makes the run whole
+    pub has-run : Ended → Stopped → (v m n : Known S Event) (outcome : RunOutcome) (timeout : Timeout) → HasComeTo w c lines (Over outcome) v m → IsCalled w c End timeout Done m n → HasRun w c lines outcome v n
+    has-run ended stopped v m n outcome timeout so_far called = record {
+      goes_on = record {
+        seen = prefix_trans v.seen m.seen n.seen so_far.seen called.goes_on.seen;
+        legal = called.goes_on.legal;
+        own = called.goes_on.own;
+        party = called.goes_on.party ∙ so_far.party;
+        start = called.goes_on.start ∙ so_far.start;
+      };
+      run = subst (λ (ps : Pairs). IsRun lines ps outcome) (sym calls) (whole so_far.comes);
+      cause = caused outcome so_far.comes;
+      unmade = left-unmade so_far.comes;
+      stopped_before = before-it so_far.comes;
+      followed = subst (AreJoinsFollowed (left-unmade so_far.comes)) (sym ends) (all-followed so_far.comes);
+    }
+      where
+        calls : own n.mine ≡ own m.mine ++ end_pair
+        calls = ap own called.mine ∙ (own-more c (m.mine ++ called.joins) End Done ∙ ap (λ (ps : Pairs). ps ++ (End, Done) ∷ []) (own-after w c End called.earlier called.last m.mine called.joins called.joined))
+
+        whole : ComesTo w c lines (Over outcome) m → IsRun lines (own m.mine ++ end_pair) outcome
+        whole (inl way) = ended lines (own m.mine) outcome way.follows
+        whole (inr (o, over, stop)) =
+            let same : o ≡ outcome = cc in
+            stopped lines (own m.mine) stop.line stop.made stop.later outcome stop.follows (subst (IsStopped stop.line.number) same stop.is_stopped)
+
+        at-limit : (number : ℕ) → ComesTo w c lines (Over (outcomes.Limit number)) m → HadNoRoom w c lines number n
+        at-limit number (inl way) = absurd (way.no_limit number refl)
+        at-limit number (inr (o, over, stop)) =
+            let same : o ≡ outcomes.Limit number = cc in
+            let line_is : outcomes.Limit number ≡ outcomes.Limit stop.line.number = limit-is (subst (IsStopped stop.line.number) same stop.is_stopped) in
+            let number_is : stop.line.number ≡ number = cc in
+            let cause = stop.cause (same ∙ line_is) in
+            record {
+              line = stop.line;
+              made = stop.made;
+              later = stop.later;
+              is_line = number_is;
+              history = cause.history;
+              begins = prefix_trans cause.history m.seen n.seen cause.begins called.goes_on.seen;
+              follows = subst (λ (ps : Pairs). Follows (going_on lines) ps (Going stop.line stop.made stop.later)) (sym cause.all) stop.follows;
+              all = ap (λ (ps : Pairs). ps ++ end_pair) cause.all ∙ sym calls;
+              full = cause.full;
+            }
+          where
+            limit-is : {k : ℕ} → IsStopped k (outcomes.Limit number) → outcomes.Limit number ≡ outcomes.Limit k
+            limit-is (inl is) = is
+            limit-is (inr is) = cc
+
+        ends : n.mine ≡ m.mine ++ Called c End Done ∷ []
+        ends = called.mine ∙ ap (λ (es : List Event). es ++ Called c End Done ∷ []) (ap (λ (es : List Event). m.mine ++ es) (end-adds-nothing w c called.earlier called.last called.joins called.joined) ∙ append-nil m.mine)
+
+        -- the call that was not made
+        left-unmade : ComesTo w c lines (Over outcome) m → Option Call
+        left-unmade (inl way) = None
+        left-unmade (inr (o, over, stop)) = Some stop.line.call
+
+        before-it : (come : ComesTo w c lines (Over outcome) m) → (call : Call) → left-unmade come ≡ Some call → IsStoppedBefore w c lines outcome n call
+        before-it (inl way) call is = absurd (let no : ⊥ = cc in no)
+        before-it (inr (o, over, stop)) call is =
+            let same : o ≡ outcome = cc in
+            let call_is : stop.line.call ≡ call = cc in
+            record {
+              line = stop.line;
+              made = stop.made;
+              later = stop.later;
+              pairs = own m.mine;
+              follows = stop.follows;
+              all = sym calls;
+              is_call = call_is;
+              is_stopped = subst (IsStopped stop.line.number) same stop.is_stopped;
+            }
+
+        all-followed : (come : ComesTo w c lines (Over outcome) m) → AreJoinsFollowed (left-unmade come) (m.mine ++ Called c End Done ∷ [])
+        all-followed (inl way) = followed-both None m.mine (Called c End Done ∷ []) way.followed tt
+        all-followed (inr (o, over, stop)) =
+            subst (λ (es : List Event). AreJoinsFollowed (Some stop.line.call) (es ++ Called c End Done ∷ [])) (sym stop.mine)
+            (subst (AreJoinsFollowed (Some stop.line.call)) (sym (append_assoc stop.before stop.joins (Called c End Done ∷ [])))
+            (followed-both (Some stop.line.call) stop.before (stop.joins ++ Called c End Done ∷ []) (followed-all (Some stop.line.call) stop.before stop.followed) (end-follows c stop.line.call Done stop.joins stop.joined)))
+
+        caused : (o : RunOutcome) → ComesTo w c lines (Over o) m → HasCause w c lines o n
+        caused outcomes.Ended come = tt
+        caused (outcomes.Failed number) come = tt
+        caused (outcomes.Stuck number) come = tt
+        caused (outcomes.Limit number) come = at-limit number come
+        caused (outcomes.NoMemory number) come = tt
+
+-- The lines that are left of a run.
+
+abbrev pub AllLeft : (ScriptLine → Type 0) → Progress → Type 0
+AllLeft P (Going line made later) = P line × All P later
+AllLeft P (Over outcome) = Unit {0}
+
+all-going : (P : ScriptLine → Type 0) (lines : List ScriptLine) → All P lines → AllLeft P (going_on lines)
+all-going P [] all = tt
+all-going P (line ∷ lines) all = (All-head P line lines all, All-tail P line lines all)
+
+pub all-left : (P : ScriptLine → Type 0) (p : Progress) (r : Result Reply Stop) → AllLeft P p → AllLeft P (moved p r)
+all-left P (Over outcome) (Ok reply) all = tt
+all-left P (Over outcome) (Err EventLimit) all = tt
+all-left P (Over outcome) (Err NoMemory) all = tt
+all-left P (Going line made lines) (Err EventLimit) all = tt
+all-left P (Going line made lines) (Err NoMemory) all = tt
+all-left P (Going line made lines) (Ok reply) all = go (is_stuck line reply) (is_retried line made reply) (is_failed line reply)
+  where
+    go : (stuck again failed : Bool) → AllLeft P (if stuck then Over (outcomes.Stuck line.number) else (if again then Going line (made + 1) lines else (if failed then Over (outcomes.Failed line.number) else going_on lines)))
+    go true again failed = tt
+    go false true failed = all
+    go false false true = tt
+    go false false false = all-going P lines all.1
+
+-- how many calls may still be made, with one for each line
+abbrev pub line_left : ScriptLine → ℕ
+line_left line = line.tries + 1
+
+abbrev pub left : Progress → ℕ
+left (Over outcome) = 0
+left (Going line made lines) = line.tries - made + 1 + sum_by line_left lines
+
+left-going : (lines : List ScriptLine) → left (going_on lines) ≤ sum_by line_left lines
+left-going [] = omega arith
+left-going (line ∷ lines) = (let sum = sum_by-cons line_left line lines in omega arith)
+
+pub left-less : (line : ScriptLine) (made : ℕ) (lines : List ScriptLine) (r : Result Reply Stop) → left (moved (Going line made lines) r) < left (Going line made lines)
+left-less line made lines (Err EventLimit) = omega arith
+left-less line made lines (Err NoMemory) = omega arith
+left-less line made lines (Ok reply) = go (is_stuck line reply) (is_timeout reply) (nat_lt (made + 1) line.tries) refl (is_failed line reply)
+  where
+    go : (stuck times again : Bool) → nat_lt (made + 1) line.tries ≡ again → (failed : Bool)
+        → left (if stuck then Over (outcomes.Stuck line.number) else (if times && again then Going line (made + 1) lines else (if failed then Over (outcomes.Failed line.number) else going_on lines))) < left (Going line made lines)
+    go true times again is failed = omega arith
+    go false true true is failed = (let more = ltb-true (made + 1) line.tries is in omega arith)
+    go false true false is true = omega arith
+    go false true false is false = (let rest = left-going lines in omega arith)
+    go false false again is true = omega arith
+    go false false again is false = (let rest = left-going lines in omega arith)
+
+-- A line that may be made.
+abbrev pub IsUsable : ScriptLine → Type 0
+IsUsable line = IsPlain line × (has_look line ≡ true)
+
+all-usable : (lines : List ScriptLine) → All IsPlain lines → have_looks lines ≡ true → All IsUsable lines
+all-usable [] plain looks = All-nil IsUsable
+all-usable (line ∷ lines) plain looks = go (has_look line) refl looks (all-usable lines (All-tail IsPlain line lines plain))
+  where
+    go : (b : Bool) → has_look line ≡ b → (b && have_looks lines) ≡ true → (have_looks lines ≡ true → All IsUsable lines) → All IsUsable (line ∷ lines)
+    go true look all rest = All-cons IsUsable line lines (All-head IsPlain line lines plain, look) (rest all)
+    go false none all rest = absurd (let no : ⊥ = cc in no)
+
+pub usable-first : (lines : List ScriptLine) → All IsPlain lines → have_looks lines ≡ true → AllLeft IsUsable (going_on lines)
+usable-first lines plain looks = all-going IsUsable lines (all-usable lines plain looks)
+
+pub look-bounded : (limit : ℕ) (timeout : Timeout) → 1 ≤ limit → has_look_in timeout ≡ true → HasLook (looks_of (bounded limit timeout))
+look-bounded limit (Looks looks) one look = leb-true 1 looks look
+look-bounded limit Block one look = one
+
+-- The present line.
+
+going-there : (p : Progress) (call : Call) (given : Timeout) → Some (call, given) ≡ present_of p
+    → (line : ScriptLine) × (made : ℕ) × (later : List ScriptLine) × (p ≡ Going line made later) × (line.call ≡ call) × (line.timeout ≡ given)
+going-there (Over outcome) call given is = absurd (let no : ⊥ = cc in no)
+going-there (Going line made later) call given is =
+    let pair : ◌≡◌ {A = Call × Timeout} (call, given) (line.call, line.timeout) = cc in
+    (line, made, later, refl, ap (λ (x : Call × Timeout). x.0) (sym pair), ap (λ (x : Call × Timeout). x.1) (sym pair))
+
+pub left-smaller : (p : Progress) (call : Call) (given : Timeout) (r : Result Reply Stop) → Some (call, given) ≡ present_of p → left (moved p r) < left p
+left-smaller p call given r is =
+    let there = going-there p call given is in
+    subst (λ (q : Progress). left (moved q r) < left q) (sym there.3) (left-less there.0 there.1 there.2 r)
+
+pub present-look : (p : Progress) (call : Call) (given : Timeout) (limit : ℕ) → 1 ≤ limit → Some (call, given) ≡ present_of p → AllLeft IsUsable p → HasLook (looks_of (bounded limit given))
+present-look p call given limit one is all =
+    let there = going-there p call given is in
+    let usable = subst (AllLeft IsUsable) there.3 all in
+    look-bounded limit given one (subst (λ (t : Timeout). has_look_in t ≡ true) there.5 usable.0.1)
+
+pub comes-next : {S : Type 0} (w : World) (c : CallerId) (lines : List ScriptLine) → Onward → Itself → (v m n : Known S Event) (p : Progress) (call : Call) (given timeout : Timeout) (r : Result Reply Stop) → Some (call, given) ≡ present_of p
+    → AllLeft IsUsable p → HasComeTo w c lines p v m → Calls w c call timeout m r n → HasComeTo w c lines (moved p r) v n
+comes-next w c lines onward itself v m n p call given timeout r is all so_far told =
+    let there = going-there p call given is in
+    let usable = subst (AllLeft IsUsable) there.3 all in
+    subst (λ (q : Progress). HasComeTo w c lines (moved q r) v n) (sym there.3)
+    (comes-going w c lines v m n there.0 there.1 there.2 timeout onward itself r usable.0.0 (subst (λ (q : Progress). HasComeTo w c lines q v m) there.3 so_far)
+    (subst (λ (x : Call). Calls w c x timeout m r n) (sym there.4) told))

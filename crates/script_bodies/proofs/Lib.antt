@@ -1,0 +1,5 @@
+pub mod Active
+pub mod Ending
+pub mod GoingOn
+pub mod Joins
+pub mod OwnCalls

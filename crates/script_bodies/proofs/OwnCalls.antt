@@ -1,0 +1,121 @@
+-- The calls of a caller in a history, and in its own events.
+use Rattle.std.proofs.Common.{◌≡◌, ℕ, zero, suc, Bool, true, false, List, [], ◌∷◌, ◌++◌, length, length-append, Some, refl, sym, ap, ◌∙◌, subst, arith, inl, inr, if◌then◌else◌, append-nil}
+use Rattle.std.specs.List.{slice_get}
+use Rattle.std.proofs.lemmas.Bool.{eq-eqb}
+use mathlib.Core.List.{IsPrefix}
+use Rattle.gaspi_types.specs.World.{World, is_caller}
+use Rattle.gaspi_types.specs.declared.calls.Call.{Call}
+use Rattle.gaspi_types.specs.declared.calls.Call.TheVariants.{End}
+use Rattle.gaspi_types.specs.declared.events.Event.{Event}
+use Rattle.gaspi_types.specs.declared.events.Event.TheVariants.{Called, Joined, Take, Put}
+use Rattle.gaspi_types.specs.declared.replies.Reply.{Reply}
+use Rattle.gaspi_types.specs.declared.shapes.CallerId.{CallerId}
+use Rattle.gaspi_model.specs.Step.{own_calls}
+use Rattle.gaspi_world.specs.Attempts.{MayHaveJoined}
+use Rattle.gaspi_world.specs.Callers.{events_of}
+use Rattle.gaspi_world.specs.Calling.{JoinedFirst}
+use Rattle.script_bodies.specs.SoFar.{HasNoEnd}
+
+abbrev Pairs : Type 0
+Pairs = List (Call × Reply)
+
+pub own_calls-append : (rank thread : ℕ) (a b : List Event) → own_calls rank thread (a ++ b) ≡ own_calls rank thread a ++ own_calls rank thread b
+own_calls-append rank thread [] b = refl
+own_calls-append rank thread (Called c call reply ∷ a) b = go (is_caller rank thread c) (own_calls-append rank thread a b)
+  where
+    go : (x : Bool) → own_calls rank thread (a ++ b) ≡ own_calls rank thread a ++ own_calls rank thread b
+        → (if x then (call, reply) ∷ own_calls rank thread (a ++ b) else own_calls rank thread (a ++ b))
+        ≡ (if x then (call, reply) ∷ own_calls rank thread a else own_calls rank thread a) ++ own_calls rank thread b
+    go true rest = ap (λ (ps : Pairs). (call, reply) ∷ ps) rest
+    go false rest = rest
+own_calls-append rank thread (transfer ∷ a) b = own_calls-append rank thread a b
+
+pub own-one : (c : CallerId) (call : Call) (reply : Reply) → own_calls c.rank c.thread (Called c call reply ∷ []) ≡ (call, reply) ∷ []
+own-one c call reply = rw (eq-eqb c.rank c.rank refl, eq-eqb c.thread c.thread refl) refl
+
+-- a call more
+pub own-more : (c : CallerId) (events : List Event) (call : Call) (reply : Reply) → own_calls c.rank c.thread (events ++ Called c call reply ∷ []) ≡ own_calls c.rank c.thread events ++ (call, reply) ∷ []
+own-more c events call reply =
+    own_calls-append c.rank c.thread events (Called c call reply ∷ []) ∙ ap (λ (ps : Pairs). own_calls c.rank c.thread events ++ ps) (own-one c call reply)
+
+call-first : (c d : CallerId) (call : Call) (reply : Reply) (events : List Event) → is_caller c.rank c.thread d ≡ true → own_calls c.rank c.thread (Called d call reply ∷ events) ≡ (call, reply) ∷ own_calls c.rank c.thread events
+call-first c d call reply events is = rw is refl
+
+event-first : (c d : CallerId) (call : Call) (reply : Reply) (events : List Event) → is_caller c.rank c.thread d ≡ true → events_of c (Called d call reply ∷ events) ≡ Called d call reply ∷ events_of c events
+event-first c d call reply events is = rw is refl
+
+-- what a caller called is told by its own events
+pub own-events : (c : CallerId) (history : List Event) → own_calls c.rank c.thread (events_of c history) ≡ own_calls c.rank c.thread history
+own-events c [] = refl
+own-events c (Called d call reply ∷ history) = go (is_caller c.rank c.thread d) refl (own-events c history)
+  where
+    go : (b : Bool) → is_caller c.rank c.thread d ≡ b → own_calls c.rank c.thread (events_of c history) ≡ own_calls c.rank c.thread history → own_calls c.rank c.thread (events_of c (Called d call reply ∷ history)) ≡ own_calls c.rank c.thread (Called d call reply ∷ history)
+    go true is rest = ap (own_calls c.rank c.thread) (event-first c d call reply history is) ∙ (call-first c d call reply (events_of c history) is ∙ (ap (λ (ps : Pairs). (call, reply) ∷ ps) rest ∙ sym (call-first c d call reply history is)))
+    go false is rest = rw is rest
+own-events c (Joined d id args ∷ history) = go (is_caller c.rank c.thread d) refl (own-events c history)
+  where
+    go : (b : Bool) → is_caller c.rank c.thread d ≡ b → own_calls c.rank c.thread (events_of c history) ≡ own_calls c.rank c.thread history → own_calls c.rank c.thread (events_of c (Joined d id args ∷ history)) ≡ own_calls c.rank c.thread (Joined d id args ∷ history)
+    go true is rest = rw is rest
+    go false is rest = rw is rest
+own-events c (Take origin queue target number outcome ∷ history) = own-events c history
+own-events c (Put origin queue target number outcome ∷ history) = own-events c history
+
+-- a join is no call
+pub join-calls-nothing : (w : World) (c : CallerId) (call : Call) (history joins : List Event) → MayHaveJoined w c call history joins → own_calls c.rank c.thread joins ≡ []
+join-calls-nothing w c call history joins (inl none) = ap (own_calls c.rank c.thread) none
+join-calls-nothing w c call history joins (inr (args, is, found)) = ap (own_calls c.rank c.thread) is
+
+pub joins-call-nothing : (w : World) (c : CallerId) (call : Call) (earlier : List (List Event)) (last joins : List Event) → JoinedFirst w c call (earlier ++ last ∷ []) joins → own_calls c.rank c.thread joins ≡ []
+joins-call-nothing w c call [] last joins joined = join-calls-nothing w c call last joins joined.0
+joins-call-nothing w c call (first ∷ others) last joins joined = join-calls-nothing w c call first joins joined.0
+
+-- the events that a call adds
+pub own-after : (w : World) (c : CallerId) (call : Call) (earlier : List (List Event)) (last mine joins : List Event) → JoinedFirst w c call (earlier ++ last ∷ []) joins
+    → own_calls c.rank c.thread (mine ++ joins) ≡ own_calls c.rank c.thread mine
+own-after w c call earlier last mine joins joined =
+    own_calls-append c.rank c.thread mine joins ∙ (ap (λ (ps : Pairs). own_calls c.rank c.thread mine ++ ps) (joins-call-nothing w c call earlier last joins joined) ∙ append-nil (own_calls c.rank c.thread mine))
+
+-- Beginnings.
+
+pub prefix-own : (c : CallerId) (a b : List Event) → IsPrefix a b → IsPrefix (own_calls c.rank c.thread a) (own_calls c.rank c.thread b)
+prefix-own c a b more = (own_calls c.rank c.thread more.0, sym (own_calls-append c.rank c.thread a more.0) ∙ ap (own_calls c.rank c.thread) more.1)
+
+-- of two lists each of which is a beginning of the other
+pub prefix-both : {A : Type 0} (a b : List A) → IsPrefix a b → IsPrefix b a → a ≡ b
+prefix-both {A} a b ab ba = go ab.0 ab.1
+  where
+    go : (rest : List A) → a ++ rest ≡ b → a ≡ b
+    go [] is = sym (append-nil a) ∙ is
+    go (x ∷ rest) is = absurd (let m = ap length is in let l = length-append a (x ∷ rest) in let p = ap length ba.1 in let q = length-append b ba.0 in omega arith)
+
+-- the last of a list that is made of two
+pub same-front : {A : Type 0} (a b : List A) (x y : A) → a ++ x ∷ [] ≡ b ++ y ∷ [] → a ≡ b
+same-front [] [] x y h = refl
+same-front [] (z ∷ b) x y h = absurd (let l = ap length h in let k = length-append b (y ∷ []) in omega arith)
+same-front (z ∷ a) [] x y h = absurd (let l = ap length h in let k = length-append a (x ∷ []) in omega arith)
+same-front {A} (z ∷ a) (u ∷ b) x y h =
+    let head : z ≡ u = cc in
+    let tail : a ++ x ∷ [] ≡ b ++ y ∷ [] = cc in
+    ap (λ (l : List A). z ∷ l) (same-front a b x y tail) ∙ ap (λ (v : A). v ∷ b) head
+
+-- No end.
+
+pub no-end-from : (c : CallerId) (a b : List Event) → IsPrefix (own_calls c.rank c.thread a) (own_calls c.rank c.thread b) → HasNoEnd c b → HasNoEnd c a
+no-end-from c a b more none k reply at = none k reply (subst (λ (ps : Pairs). slice_get ps k ≡ Some (End, reply)) more.1 (still (own_calls c.rank c.thread a) more.0 k (End, reply) at))
+  where
+    still : (xs ys : Pairs) (k : ℕ) (p : Call × Reply) → slice_get xs k ≡ Some p → slice_get (xs ++ ys) k ≡ Some p
+    still [] ys k p at = absurd (let no : ⊥ = cc in no)
+    still (x ∷ xs) ys zero p at = at
+    still (x ∷ xs) ys (suc k) p at = still xs ys k p at
+
+pub no-end-more : (c : CallerId) (events : List Event) (call : Call) (reply : Reply) → (call ≡ End → ⊥) → HasNoEnd c events → HasNoEnd c (events ++ Called c call reply ∷ [])
+no-end-more c events call reply plain none k given at = go (own_calls c.rank c.thread events) k none (subst (λ (ps : Pairs). slice_get ps k ≡ Some (End, given)) (own-more c events call reply) at)
+  where
+    go : (xs : Pairs) (k : ℕ) → ((j : ℕ) (r : Reply) → slice_get xs j ≡ Some (End, r) → ⊥) → slice_get (xs ++ (call, reply) ∷ []) k ≡ Some (End, given) → ⊥
+    go [] zero none at = plain (let pair : ◌≡◌ {A = Call × Reply} (call, reply) (End, given) = cc in ap (λ (p : Call × Reply). p.0) pair)
+    go [] (suc k) none at = (let no : ⊥ = cc in no)
+    go (x ∷ xs) zero none at = none 0 given at
+    go (x ∷ xs) (suc k) none at = go xs k (λ j r there. none (suc j) r there) at
+
+pub no-end-same : (c : CallerId) (a b : List Event) → own_calls c.rank c.thread a ≡ own_calls c.rank c.thread b → HasNoEnd c b → HasNoEnd c a
+no-end-same c a b same none k reply at = none k reply (subst (λ (ps : Pairs). slice_get ps k ≡ Some (End, reply)) same at)

@@ -1,0 +1,5 @@
+pub mod Bodies
+pub mod Joins
+pub mod Looks
+pub mod Runs
+pub mod SoFar

@@ -1,0 +1,68 @@
+-- What comes of a script that its caller runs in a world, and how the caller ends. (own choice)
+use Rattle.std.specs.Prelude.{◌≡◌, ℕ, true, List, ◌++◌, Option, Some, Result, Ok, Err}
+use mathlib.Core.List.{IsPrefix}
+use Rattle.gaspi_types.specs.World.{World}
+use Rattle.gaspi_types.specs.declared.calls.Call.{Call}
+use Rattle.gaspi_types.specs.declared.events.Event.{Event}
+use Rattle.gaspi_types.specs.declared.replies.Reply.{Reply}
+use Rattle.gaspi_types.specs.declared.shapes.CallerId.{CallerId}
+use Rattle.gaspi_model.specs.Step.{own_calls}
+use Rattle.commit_table.specs.declared.views.Known.{Known}
+use Rattle.rank_script.specs.Runs.{Progress, Going, going_on, advanced, stopped, Follows, IsStopped, end_pair, IsRun}
+use Rattle.rank_script.specs.declared.scripts.Halted.TheVariants as halts
+use Rattle.rank_script.specs.declared.scripts.RunOutcome.{RunOutcome}
+use Rattle.rank_script.specs.declared.scripts.RunOutcome.TheVariants as outcomes
+use Rattle.rank_script.specs.declared.scripts.ScriptLine.{ScriptLine}
+use Rattle.gaspi_world.specs.Attempts.{is_full_after, GoesOn}
+use Rattle.gaspi_world.specs.declared.calling.Stop.{Stop}
+use Rattle.gaspi_world.specs.declared.calling.Stop.TheVariants as stops
+use Rattle.script_bodies.specs.Joins.{AreJoinsFollowed}
+
+-- after what came of the present call: it goes on after its reply, and ends before a call that was not made
+abbrev pub moved : Progress → Result Reply Stop → Progress
+moved p (Ok reply) = advanced p reply
+moved p (Err stops.EventLimit) = stopped p halts.Limit
+moved p (Err stops.NoMemory) = stopped p halts.NoMemory
+
+module _ (w : World) (c : CallerId) (lines : List ScriptLine) where
+  -- The line of that number is the one that a run comes to by all calls of the caller but its end, and after a history that what is
+  -- seen goes on from, which has them all, its rank had no room for the line's call.
+  pub record HadNoRoom {S : Type 0} (number : ℕ) (n : Known S Event) : Type 0 where
+    pub line : ScriptLine
+    pub made : ℕ
+    pub later : List ScriptLine
+    pub is_line : line.number ≡ number
+    pub history : List Event
+    pub begins : IsPrefix history n.seen
+    pub follows : Follows (going_on lines) (own_calls c.rank c.thread history) (Going line made later)
+    pub all : own_calls c.rank c.thread history ++ end_pair ≡ own_calls c.rank c.thread n.mine
+    pub full : is_full_after w c line.call history ≡ true
+
+  -- why the run ended where it was stopped for want of room
+  abbrev pub HasCause : {S : Type 0} → RunOutcome → Known S Event → Type 0
+  HasCause outcomes.Ended n = Unit {0}
+  HasCause (outcomes.Failed number) n = Unit {0}
+  HasCause (outcomes.Stuck number) n = Unit {0}
+  HasCause (outcomes.Limit number) n = HadNoRoom number n
+  HasCause (outcomes.NoMemory number) n = Unit {0}
+
+  -- The run was stopped before that call: it is the call of the line that the run comes to by all calls of the caller but its end.
+  pub record IsStoppedBefore {S : Type 0} (outcome : RunOutcome) (n : Known S Event) (call : Call) : Type 0 where
+    pub line : ScriptLine
+    pub made : ℕ
+    pub later : List ScriptLine
+    pub pairs : List (Call × Reply)
+    pub follows : Follows (going_on lines) pairs (Going line made later)
+    pub all : pairs ++ end_pair ≡ own_calls c.rank c.thread n.mine
+    pub is_call : line.call ≡ call
+    pub is_stopped : IsStopped line.number outcome
+
+  -- The caller ran these lines and ended: its calls, the end among them, are a whole run of the lines with that outcome. Each of its
+  -- joins is of the call that it makes next, or of the one before which the run was stopped.
+  pub record HasRun {S : Type 0} (outcome : RunOutcome) (v n : Known S Event) : Type 0 where
+    pub goes_on : GoesOn w c v n
+    pub run : IsRun lines (own_calls c.rank c.thread n.mine) outcome
+    pub cause : HasCause outcome n
+    pub unmade : Option Call
+    pub stopped_before : (call : Call) → unmade ≡ Some call → IsStoppedBefore outcome n call
+    pub followed : AreJoinsFollowed unmade n.mine
