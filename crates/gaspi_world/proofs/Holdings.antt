@@ -1,10 +1,9 @@
 -- What a pass that holds the shard of its world knows.
-use Rattle.std.proofs.Common.{◌≡◌, ℕ, zero, suc, ◌+◌, ◌-◌, ◌*◌, ◌^◌, ◌<◌, ◌≤◌, Bool, true, false, cond, eqb, List, [], ◌∷◌, ◌++◌, map, length, length-append, Option, None, Some, Result, Ok, Err, refl, sym, ap, ◌∙◌, subst, arith}
-use Rattle.std.specs.List.{All, slice_get}
+use Rattle.std.proofs.Common.{◌≡◌, ℕ, suc, ◌+◌, ◌-◌, ◌*◌, ◌<◌, ◌≤◌, Bool, true, false, eqb, List, [], ◌∷◌, ◌++◌, map, length, length-append, Option, None, Some, Ok, refl, sym, ap, ◌∙◌, subst, arith}
+use Rattle.std.specs.List.{All}
 use Rattle.std.proofs.Math.Bridge.{le_prop}
 use Rattle.std.proofs.Math.Logic.{∥∥₁_elim}
-use Rattle.std.proofs.lemmas.Bool.{eqb-true, eqb-false, eq-eqb}
-use Rattle.std.proofs.lemmas.List.{append_assoc, append-nil}
+use Rattle.std.proofs.lemmas.Bool.{eqb-true, eq-eqb}
 use Rattle.std.proofs.lemmas.List.FromFn.{length-map-range_with_len}
 use Rattle.std.proofs.lemmas.List.Elements.{All-nil, All-cons}
 use Rattle.std.proofs.lemmas.List.Sums.{sum_by-le}
@@ -13,7 +12,7 @@ use Rattle.gaspi_types.specs.World.{World, IsWorld}
 use Rattle.gaspi_types.specs.declared.events.Event.{Event}
 use Rattle.gaspi_model.specs.Sound.{events_left}
 use Rattle.gaspi_model.specs.State.{opening, opening_posts}
-use Rattle.gaspi_model.specs.Step.{step, after, reached, is_legal}
+use Rattle.gaspi_model.specs.Step.{reached}
 use Rattle.gaspi_model.specs.declared.states.Posts.{Posts}
 use Rattle.gaspi_model.specs.declared.states.State.{State}
 use Rattle.gaspi_model.proofs.Histories.{after-joined, after-both}
@@ -21,7 +20,7 @@ use Rattle.gaspi_model.proofs.Sound.Opening.{opens}
 use Rattle.commit_table.specs.Machine.{is_among, events_by, IsOwn}
 use Rattle.commit_table.specs.Attempts.{Missed, LookedOnly}
 use Rattle.commit_table.specs.Calls.{IsSound, HoldsNone, Met, Taken, Looked, Committed, MayCommit}
-use Rattle.commit_table.specs.Parts.{Parts, parts_of, part_of, peers_of}
+use Rattle.commit_table.specs.Parts.{parts_of, part_of, peers_of}
 use Rattle.commit_table.specs.Views.{held_at, holds_all, looked, took, missed}
 use Rattle.commit_table.specs.declared.views.Known.{Known}
 use Rattle.commit_table.specs.declared.views.Turn.{Turn}

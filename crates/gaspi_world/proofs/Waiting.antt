@@ -1,42 +1,37 @@
 -- What holds between two looks of a call.
-use Rattle.std.proofs.Common.{◌≡◌, ◌⊎◌, ℕ, zero, suc, ◌+◌, ◌-◌, ◌<◌, ◌≤◌, ◌==◌, Bool, true, false, List, [], ◌∷◌, ◌++◌, map, filter, length, length-append, Option, None, Some, Result, Ok, Err, inl, inr, refl, sym, ap, ◌∙◌, subst, arith, is_ok}
+use Rattle.std.proofs.Common.{◌≡◌, ◌⊎◌, ℕ, zero, suc, ◌+◌, ◌-◌, ◌==◌, Bool, true, false, List, [], ◌∷◌, ◌++◌, map, length, length-append, Option, None, Some, Result, Ok, Err, inl, inr, refl, sym, ap, ◌∙◌, subst, arith}
 use Rattle.std.specs.List.{slice_get}
 use Rattle.std.proofs.lemmas.Bool.{eq-eqb, eqb-true}
 use Rattle.std.proofs.lemmas.List.{append_assoc, append-nil, map-append}
 use Rattle.std.proofs.lemmas.List.Elements.{filter-append}
 use mathlib.Core.List.{IsPrefix}
 use Rattle.gaspi_types.specs.CallRows.{row_of, is_collective}
-use Rattle.gaspi_types.specs.Tables.{entry_at}
 use Rattle.gaspi_types.specs.World.{World, IsWorld}
 use Rattle.gaspi_types.specs.declared.calls.Call.{Call}
 use Rattle.gaspi_types.specs.declared.calls.Timeout as timeouts
 use Rattle.gaspi_types.specs.declared.events.Event.{Event}
 use Rattle.gaspi_types.specs.declared.events.Event.TheVariants.{Called}
-use Rattle.gaspi_types.specs.declared.groups.Args.{Args}
 use Rattle.gaspi_types.specs.declared.replies.Ready.{Ready}
 use Rattle.gaspi_types.specs.declared.replies.Ready.TheVariants as ready
 use Rattle.gaspi_types.specs.declared.replies.Reply.{Reply}
-use Rattle.gaspi_types.specs.declared.replies.Reply.TheVariants.{Timeout}
 use Rattle.gaspi_types.specs.declared.shapes.CallerId.{CallerId}
 use Rattle.gaspi_model.specs.Sound.{IsSound}
 use Rattle.gaspi_model.specs.State.{opening}
-use Rattle.gaspi_model.specs.Step.{step, after, reached, is_legal, is_pending, answer_in}
-use Rattle.gaspi_model.specs.Turns.{IsWaiting}
+use Rattle.gaspi_model.specs.Step.{after, reached, is_legal, is_pending, answer_in}
 use Rattle.gaspi_model.specs.declared.states.State.{State}
 use Rattle.gaspi_model.specs.declared.states.Why.{Why}
 use Rattle.gaspi_model.proofs.Histories.{prefix, after-first, after-both, leads, reached-sound}
 use Rattle.gaspi_model.proofs.Listed.Joining.{pending-joins-not}
 use Rattle.gaspi_model.proofs.Listed.Readiness.{unready-waits}
 use Rattle.gaspi_model.proofs.Sound.Steps.{steps}
-use Rattle.plain_machine.specs.Looking.{join_event}
 use Rattle.timeout_state.specs.Looks.{looks_of, left_after, answer_of, spent}
 use Rattle.timeout_state.specs.declared.budget.Look.{Look}
 use Rattle.timeout_state.specs.declared.budget.Look.TheVariants.{More, Final}
 use Rattle.commit_table.specs.declared.views.Known.{Known}
 use Rattle.commit_table.proofs.Lists.{prefix_self, prefix_trans}
-use Rattle.gaspi_world.specs.Attempts.{is_waiting, found_after, is_full_after, is_pending_after, MayHaveJoined, GoesOn, IsLook, IsBusy, IsNotYet, IsRecorded, IsAtLimit, IsOutOfMemory}
-use Rattle.gaspi_world.specs.Callers.{events_of, is_event_of, IsPassOf}
-use Rattle.gaspi_world.specs.Calling.{AreUnready, ArePending, JoinedFirst, AreLooks, IsCalled, IsStopped, HasWaited}
+use Rattle.gaspi_world.specs.Attempts.{is_waiting, found_after, is_pending_after, MayHaveJoined, GoesOn, IsLook, IsBusy, IsNotYet, IsRecorded, IsAtLimit, IsOutOfMemory}
+use Rattle.gaspi_world.specs.Callers.{events_of, is_event_of}
+use Rattle.gaspi_world.specs.Calling.{AreUnready, JoinedFirst, AreLooks, IsCalled, IsStopped, HasWaited}
 use Rattle.gaspi_world.proofs.Recordable.{join-group}
 use Rattle.gaspi_world.proofs.StaysPending.{pending-stays}
 

@@ -1,5 +1,5 @@
 -- What a call tells, which may look more than once.
-use Rattle.std.specs.Prelude.{◌≡◌, ℕ, ◌+◌, Bool, true, false, List, [], ◌∷◌, ◌++◌, map, length, slice_get, Option, Some, Result, Ok, Err}
+use Rattle.std.specs.Prelude.{◌≡◌, ℕ, ◌+◌, Bool, true, false, List, [], ◌∷◌, ◌++◌, map, length, slice_get, Some, Result, Ok, Err}
 use mathlib.Core.List.{IsPrefix}
 use Rattle.gaspi_types.specs.CallRows.{is_collective}
 use Rattle.gaspi_types.specs.World.{World}

@@ -1,8 +1,6 @@
-use Rattle.std.proofs.Common.{◌≡◌, [], true, false, Some, refl, sym, ap, ◌∙◌, subst}
+use Rattle.std.proofs.Common.{[], Some, refl, sym, ap, ◌∙◌, subst}
 use Rattle.gaspi_types.specs.declared.replies.Ready.{Ready}
-use Rattle.gaspi_types.specs.declared.replies.Ready.TheVariants as ready
 use Rattle.gaspi_model.specs.CollectiveCalls.{is_joining}
-use Rattle.gaspi_model.specs.Step.{answer_in}
 use Rattle.gaspi_model.proofs.Histories.{reached-sound}
 use Rattle.plain_calls.specs.declared.looks.Finding.{Finding}
 use Rattle.plain_machine.specs.Looking.{IsFindingIn}

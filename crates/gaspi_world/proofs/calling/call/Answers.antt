@@ -1,5 +1,4 @@
-use Rattle.std.proofs.Common.{◌≡◌, ℕ, suc, ◌+◌, List, [], ◌∷◌, ◌++◌, length, length-append, Result, Ok, Err, refl, sym, ap, ◌∙◌, subst, arith}
-use Rattle.gaspi_types.specs.declared.events.Event.{Event}
+use Rattle.std.proofs.Common.{◌≡◌, ℕ, suc, ◌+◌, [], ◌∷◌, ◌++◌, length, length-append, Result, Err, refl, sym, ap, ◌∙◌, subst, arith}
 use Rattle.gaspi_types.specs.declared.replies.Reply.{Reply}
 use Rattle.timeout_state.specs.Looks.{looks_of, left_after, answer_of, spent}
 use Rattle.gaspi_world.specs.Attempts.{Attempted}

@@ -1,4 +1,4 @@
-use Rattle.std.proofs.Common.{◌≡◌, ℕ, suc, List, length}
+use Rattle.std.proofs.Common.{◌≡◌, suc, List, length}
 use Rattle.gaspi_types.specs.declared.events.Event.{Event}
 use Rattle.timeout_state.specs.Looks.{looks_of, left_after, answer_of, HasLook}
 use Rattle.timeout_state.specs.declared.budget.Look.TheVariants.{More}
