@@ -10,3 +10,6 @@ mod running;
 
 pub use bodies::ScriptBody;
 pub use looks::have_looks;
+
+#[cfg(test)]
+mod tests;
