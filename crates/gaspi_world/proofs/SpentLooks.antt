@@ -18,11 +18,11 @@ use Rattle.gaspi_types.proofs.Items.{front-of-joined, behind-of-joined, map-at}
 use Rattle.gaspi_model.specs.Step.{own_calls}
 use Rattle.timeout_state.specs.Looks.{looks_of}
 use Rattle.commit_table.specs.declared.views.Known.{Known}
-use Rattle.commit_table.proofs.Lists.{prefix_trans, prefix_more, prefix_length}
+use Rattle.commit_table.proofs.Lists.{prefix_self, prefix_trans, prefix_more, prefix_length}
 use Rattle.gaspi_world.specs.Attempts.{is_waiting, found_after, MayHaveJoined}
 use Rattle.gaspi_world.specs.Callers.{events_of}
 use Rattle.gaspi_world.specs.Calling.{JoinedFirst, IsCalled, IsStopped}
-use Rattle.gaspi_world.specs.Waits.{IsLookOf, HasLooks, Waited}
+use Rattle.gaspi_world.specs.Waits.{IsLookOf, HasLooks, Waited, HaveWaited}
 use Rattle.gaspi_world.proofs.OwnEvents.{is-itself}
 use Rattle.gaspi_world.proofs.Waiting.{at-snoc}
 
@@ -152,10 +152,6 @@ module _ (w : World) (c : CallerId) where
   waits-more : (history : List Event) (looks more ns : List ℕ) → Waited w c history looks ns → Waited w c history (looks ++ more) ns
   waits-more history looks more ns waited place call n at number = looks-more call history place n looks more (waited place call n at number)
 
-  -- at the start of a pass there is none
-  pub waited-none : (looks ns : List ℕ) → Waited w c [] looks ns
-  waited-none looks ns place call n at number = absurd (let no : ⊥ = cc in no)
-
   -- One call more is recorded, behind a history that had no other since.
 
   module _ (call : Call) (reply : Reply) (seen before : List Event) (more : IsPrefix seen before) (same : own_calls c.rank c.thread before ≡ own_calls c.rank c.thread seen) where
@@ -241,38 +237,68 @@ module _ (w : World) (c : CallerId) where
   first-join call [] last joins joined = may-join call last joins joined.0
   first-join call (first ∷ others) last joins joined = may-join call first joins joined.0
 
+-- Beginnings.
+
+prefix-own : (c : CallerId) (a b : List Event) → IsPrefix a b → IsPrefix (own_calls c.rank c.thread a) (own_calls c.rank c.thread b)
+prefix-own c a b more = (own_calls c.rank c.thread more.0, sym (own-append c a more.0) ∙ ap (λ (h : List Event). own_calls c.rank c.thread h) more.1)
+
+-- of two lists each of which is a beginning of the other
+prefix-both : {A : Type 0} (a b : List A) → IsPrefix a b → IsPrefix b a → a ≡ b
+prefix-both {A} a b ab ba = go ab.0 ab.1
+  where
+    go : (rest : List A) → a ++ rest ≡ b → a ≡ b
+    go [] is = sym (append-nil a) ∙ is
+    go (x ∷ rest) is = absurd (let m = ap length is in let l = length-append a (x ∷ rest) in let p = ap length ba.1 in let q = length-append b ba.0 in omega arith)
+
 module _ {S : Type 0} (w : World) (c : CallerId) where
-  own-on : (v n : Known S Event) (events : List Event) → events_of c v.seen ≡ v.mine → events_of c n.seen ≡ n.mine → n.mine ≡ v.mine ++ events
-      → own_calls c.rank c.thread n.seen ≡ own_calls c.rank c.thread v.seen ++ own_calls c.rank c.thread events
-  own-on v n events was is mine =
-      sym (own-among c n.seen) ∙ (ap (λ (h : List Event). own_calls c.rank c.thread h) (is ∙ mine) ∙ (own-append c v.mine events
-      ∙ ap (λ (ps : List (Call × Reply)). ps ++ own_calls c.rank c.thread events) (ap (λ (h : List Event). own_calls c.rank c.thread h) (sym was) ∙ own-among c v.seen)))
+  -- a pass that did nothing yet
+  pub waited-fresh : (v : Known S Event) → v.mine ≡ [] → HaveWaited w c [] v
+  waited-fresh v none = record {
+    waited = λ place call n at number. (let no : ⊥ = cc in absurd no);
+    each = ap (λ (h : List Event). length (own_calls c.rank c.thread h)) (sym none);
+    seen = subst (λ (h : List Event). IsPrefix (own_calls c.rank c.thread h) (own_calls c.rank c.thread v.seen)) (sym none) (own_calls c.rank c.thread v.seen, refl);
+  }
+
+  -- what the caller calls is in what was seen
+  own-seen : (n : Known S Event) → events_of c n.seen ≡ n.mine → own_calls c.rank c.thread n.seen ≡ own_calls c.rank c.thread n.mine
+  own-seen n own = sym (own-among c n.seen) ∙ ap (λ (h : List Event). own_calls c.rank c.thread h) own
+
+  -- all calls before were seen before
+  own-before : (v : Known S Event) (before : List Event) → IsPrefix (own_calls c.rank c.thread v.mine) (own_calls c.rank c.thread v.seen) → IsPrefix v.seen before → own_calls c.rank c.thread before ≡ own_calls c.rank c.thread v.mine
+      → own_calls c.rank c.thread before ≡ own_calls c.rank c.thread v.seen
+  own-before v before seen more same =
+      let up : IsPrefix (own_calls c.rank c.thread before) (own_calls c.rank c.thread v.seen) = subst (λ (ps : List (Call × Reply)). IsPrefix ps (own_calls c.rank c.thread v.seen)) (sym same) seen in
+      prefix-both (own_calls c.rank c.thread before) (own_calls c.rank c.thread v.seen) up (prefix-own c v.seen before more)
 
   -- a call that is recorded: a timeout has so many looks
-  pub waited-called : (call : Call) (timeout : timeouts.Timeout) (reply : Reply) (v n : Known S Event) (ns : List ℕ) (k : ℕ) → events_of c v.seen ≡ v.mine → Waited w c v.seen v.looks ns → length ns ≡ length (own_calls c.rank c.thread v.seen)
-      → IsCalled w c call timeout reply v n → (reply ≡ Timeout → looks_of timeout ≡ Some k)
-      → Waited w c n.seen n.looks (ns ++ k ∷ []) × (length (ns ++ k ∷ []) ≡ length (own_calls c.rank c.thread n.seen))
-  waited-called call timeout reply v n ns k was waited lengths called asked = (
-    subst (λ (h : List Event). Waited w c h n.looks (ns ++ k ∷ [])) (sym called.ends)
+  pub waited-called : (call : Call) (timeout : timeouts.Timeout) (reply : Reply) (v n : Known S Event) (ns : List ℕ) (k : ℕ) → HaveWaited w c ns v → IsCalled w c call timeout reply v n → (reply ≡ Timeout → looks_of timeout ≡ Some k) → HaveWaited w c (ns ++ k ∷ []) n
+  waited-called call timeout reply v n ns k so_far called asked = record {
+    waited =
+        subst (λ (h : List Event). Waited w c h n.looks (ns ++ k ∷ [])) (sym called.ends)
         (subst (λ (ks : List ℕ). Waited w c (called.before ++ Called c call reply ∷ []) ks (ns ++ k ∷ [])) (sym called.looks.looks)
-        (recorded w c call reply v.seen called.before more same v.looks ns k (called.earlier ++ called.last ∷ []) waited lengths many
-        (λ j h at. ((called.looks.between j h at).0, called.after_looks j h at)) (λ times j h at. unready times j h (at-snoc called.earlier called.last j h at)))),
-    length-append ns (k ∷ []) ∙ (ap (λ (m : ℕ). m + 1) lengths ∙ sym (ap length made ∙ length-append (own_calls c.rank c.thread v.seen) ((call, reply) ∷ []))),
-  )
+        (recorded w c call reply v.seen called.before more same v.looks ns k (called.earlier ++ called.last ∷ []) so_far.waited (so_far.each ∙ ap length (sym made_before ∙ same)) many
+        (λ j h at. ((called.looks.between j h at).0, called.after_looks j h at)) (λ times j h at. unready times j h (at-snoc called.earlier called.last j h at))));
+    each = length-append ns (k ∷ []) ∙ (ap (λ (m : ℕ). m + 1) so_far.each ∙ sym (ap length made ∙ length-append (own_calls c.rank c.thread v.mine) ((call, reply) ∷ [])));
+    seen = subst (IsPrefix (own_calls c.rank c.thread n.mine)) (sym (own-seen n called.goes_on.own)) (prefix_self (own_calls c.rank c.thread n.mine));
+  }
     where
-      made : own_calls c.rank c.thread n.seen ≡ own_calls c.rank c.thread v.seen ++ (call, reply) ∷ []
+      made : own_calls c.rank c.thread n.mine ≡ own_calls c.rank c.thread v.mine ++ (call, reply) ∷ []
       made =
-          own-on v n (called.joins ++ Called c call reply ∷ []) was called.goes_on.own (called.mine ∙ append_assoc v.mine called.joins (Called c call reply ∷ []))
-          ∙ ap (λ (ps : List (Call × Reply)). own_calls c.rank c.thread v.seen ++ ps) (own-append c called.joins (Called c call reply ∷ [])
-          ∙ (ap (λ (ps : List (Call × Reply)). ps ++ own_calls c.rank c.thread (Called c call reply ∷ [])) (first-join w c call called.earlier called.last called.joins called.joined) ∙ own-called c call reply []))
+          ap (λ (h : List Event). own_calls c.rank c.thread h) (called.mine ∙ append_assoc v.mine called.joins (Called c call reply ∷ []))
+          ∙ (own-append c v.mine (called.joins ++ Called c call reply ∷ [])
+          ∙ ap (λ (ps : List (Call × Reply)). own_calls c.rank c.thread v.mine ++ ps) (own-append c called.joins (Called c call reply ∷ [])
+          ∙ (ap (λ (ps : List (Call × Reply)). ps ++ own_calls c.rank c.thread (Called c call reply ∷ [])) (first-join w c call called.earlier called.last called.joins called.joined) ∙ own-called c call reply [])))
 
-      same : own_calls c.rank c.thread called.before ≡ own_calls c.rank c.thread v.seen
-      same = append_cancel_right (own_calls c.rank c.thread called.before) (own_calls c.rank c.thread v.seen) ((call, reply) ∷ [])
+      made_before : own_calls c.rank c.thread called.before ≡ own_calls c.rank c.thread v.mine
+      made_before = append_cancel_right (own_calls c.rank c.thread called.before) (own_calls c.rank c.thread v.mine) ((call, reply) ∷ [])
           (ap (λ (ps : List (Call × Reply)). own_calls c.rank c.thread called.before ++ ps) (sym (own-called c call reply []))
-          ∙ (sym (own-append c called.before (Called c call reply ∷ [])) ∙ (ap (λ (h : List Event). own_calls c.rank c.thread h) (sym called.ends) ∙ made)))
+          ∙ (sym (own-append c called.before (Called c call reply ∷ [])) ∙ (ap (λ (h : List Event). own_calls c.rank c.thread h) (sym called.ends) ∙ (own-seen n called.goes_on.own ∙ made))))
 
       more : IsPrefix v.seen called.before
       more = prefix_trans v.seen called.last called.before (called.looks.between (length called.earlier) called.last (at-end called.earlier called.last)).0 (called.after_looks (length called.earlier) called.last (at-end called.earlier called.last))
+
+      same : own_calls c.rank c.thread called.before ≡ own_calls c.rank c.thread v.seen
+      same = own-before v called.before so_far.seen more made_before
 
       many : reply ≡ Timeout → k ≤ length (called.earlier ++ called.last ∷ [])
       many times =
@@ -286,15 +312,17 @@ module _ {S : Type 0} (w : World) (c : CallerId) where
       unready times j h (inr is) = ap (λ (x : List Event). is_waiting (found_after w c call x)) is ∙ called.timely times
 
   -- a call that is not recorded
-  pub waited-stopped : (call : Call) (full : Bool) (v n : Known S Event) (ns : List ℕ) → events_of c v.seen ≡ v.mine → Waited w c v.seen v.looks ns → length ns ≡ length (own_calls c.rank c.thread v.seen) → IsStopped w c call full v n
-      → Waited w c n.seen n.looks ns × (length ns ≡ length (own_calls c.rank c.thread n.seen))
-  waited-stopped call full v n ns was waited lengths stopped =
+  pub waited-stopped : (call : Call) (full : Bool) (v n : Known S Event) (ns : List ℕ) → HaveWaited w c ns v → IsStopped w c call full v n → HaveWaited w c ns n
+  waited-stopped call full v n ns so_far stopped =
       let none = first-join w c call stopped.earlier stopped.last stopped.joins stopped.joined in
-      let same : own_calls c.rank c.thread n.seen ≡ own_calls c.rank c.thread v.seen = own-on v n stopped.joins was stopped.goes_on.own stopped.mine
-      ∙ (ap (λ (ps : List (Call × Reply)). own_calls c.rank c.thread v.seen ++ ps) none ∙ append-nil (own_calls c.rank c.thread v.seen)) in
+      let mine : own_calls c.rank c.thread n.mine ≡ own_calls c.rank c.thread v.mine = ap (λ (h : List Event). own_calls c.rank c.thread h) stopped.mine
+      ∙ (own-append c v.mine stopped.joins ∙ (ap (λ (ps : List (Call × Reply)). own_calls c.rank c.thread v.mine ++ ps) none ∙ append-nil (own_calls c.rank c.thread v.mine))) in
       let more = stopped.goes_on.seen in
-      let on = waits-last w c v.seen more.0 v.looks ns waited (ap (λ (h : List Event). own_calls c.rank c.thread h) more.1 ∙ same) in
-      let now = subst (λ (h : List Event). Waited w c h v.looks ns) more.1 on in (
-        subst (λ (ks : List ℕ). Waited w c n.seen ks ns) (sym stopped.looks.looks) (waits-more w c n.seen v.looks (map length (stopped.earlier ++ stopped.last ∷ [])) ns now),
-        lengths ∙ ap length (sym same),
-      )
+      let same : own_calls c.rank c.thread n.seen ≡ own_calls c.rank c.thread v.seen = own-before v n.seen so_far.seen more (own-seen n stopped.goes_on.own ∙ mine) in
+      let on = waits-last w c v.seen more.0 v.looks ns so_far.waited (ap (λ (h : List Event). own_calls c.rank c.thread h) more.1 ∙ same) in
+      let now = subst (λ (h : List Event). Waited w c h v.looks ns) more.1 on in
+      record {
+        waited = subst (λ (ks : List ℕ). Waited w c n.seen ks ns) (sym stopped.looks.looks) (waits-more w c n.seen v.looks (map length (stopped.earlier ++ stopped.last ∷ [])) ns now);
+        each = so_far.each ∙ ap length (sym mine);
+        seen = subst (IsPrefix (own_calls c.rank c.thread n.mine)) (sym (own-seen n stopped.goes_on.own)) (prefix_self (own_calls c.rank c.thread n.mine));
+      }

@@ -29,11 +29,12 @@ use Rattle.timeout_state.specs.declared.budget.Look.{Look}
 use Rattle.timeout_state.specs.declared.budget.Look.TheVariants.{More, Final}
 use Rattle.commit_table.specs.declared.views.Known.{Known}
 use Rattle.commit_table.proofs.Lists.{prefix_self, prefix_trans}
-use Rattle.gaspi_world.specs.Attempts.{is_waiting, found_after, is_pending_after, MayHaveJoined, GoesOn, IsLook, IsBusy, IsNotYet, IsRecorded, IsAtLimit, IsOutOfMemory}
+use Rattle.gaspi_world.specs.Attempts.{is_waiting, found_after, is_pending_after, MayHaveJoined, GoesOn, HasCommitted, IsLook, IsBusy, IsNotYet, IsRecorded, IsAtLimit, IsOutOfMemory}
 use Rattle.gaspi_world.specs.Callers.{events_of, is_event_of}
 use Rattle.gaspi_world.specs.Calling.{AreUnready, JoinedFirst, AreLooks, IsCalled, IsStopped, HasWaited}
 use Rattle.gaspi_world.proofs.Recordable.{join-group}
 use Rattle.gaspi_world.proofs.StaysPending.{pending-stays}
+use Rattle.gaspi_world.proofs.Working.{committed-both}
 
 -- What stands in a list with one item more at its end.
 pub at-snoc : {A : Type 0} (xs : List A) (x : A) (k : ℕ) (y : A) → slice_get (xs ++ x ∷ []) k ≡ Some y → (slice_get xs k ≡ Some y) ⊎ (y ≡ x)
@@ -155,6 +156,7 @@ module _ {S : Type 0} (w : World) (c : CallerId) (call : Call) where
     joins = [];
     joined = refl;
     mine = sym (append-nil v.mine);
+    commits = record { places = []; commits = sym (append-nil v.commits); many = refl };
     own = λ k h at. absurd (none-at k h at);
     pending = λ k h at. absurd (none-at k h at);
   }
@@ -198,6 +200,7 @@ module _ {S : Type 0} (w : World) (c : CallerId) (call : Call) where
         joins = waited.joins;
         joined = waited.joined;
         mine = busy.missed.mine ∙ waited.mine;
+        commits = record { places = waited.commits.places; commits = busy.missed.commits ∙ waited.commits.commits; many = waited.commits.many };
         own = λ k h at. busy.goes_on.own;
         pending = λ k h at collective. subst (λ (s : List Event). is_pending_after w c call s ≡ true) seen (waited.pending k h at collective);
       }
@@ -215,6 +218,7 @@ module _ {S : Type 0} (w : World) (c : CallerId) (call : Call) where
         joins = waited.joins ++ early.joins;
         joined = joined-more w c call earlier early.history waited.joins early.joins waited.joined pending early.joined;
         mine = early.mine ∙ (ap (λ (es : List Event). es ++ early.joins) waited.mine ∙ append_assoc v.mine waited.joins early.joins);
+        commits = committed-both v m n waited.joins early.joins waited.commits early.commits;
         own = λ k h at. early.goes_on.own;
         pending = λ k h at collective. unready-pends w c call n.seen world early.still collective;
       }
@@ -245,6 +249,7 @@ module _ {S : Type 0} (w : World) (c : CallerId) (call : Call) where
         ends = done.ends;
         after_looks = λ k h at. before k h (at-snoc earlier done.history k h at);
         mine = done.mine ∙ ap (λ (es : List Event). es ++ Called c call reply ∷ []) (ap (λ (es : List Event). es ++ done.joins) waited.mine ∙ append_assoc v.mine waited.joins done.joins);
+        commits = subst (λ (es : List Event). HasCommitted es v n) (sym (append_assoc waited.joins done.joins (Called c call reply ∷ []))) (committed-both v m n waited.joins (done.joins ++ Called c call reply ∷ []) waited.commits done.commits);
         room = done.room;
         spent = λ times. final-spent (length earlier) (looks_of timeout) (sym last ∙ done.last times);
         timely = done.unready;
@@ -266,7 +271,9 @@ module _ {S : Type 0} (w : World) (c : CallerId) (call : Call) where
         joins = waited.joins;
         joined = subst (JoinedFirst w c call (earlier ++ n.seen ∷ [])) (append-nil waited.joins) (joined-more w c call earlier n.seen waited.joins [] waited.joined pending (inl refl));
         mine = stop.mine ∙ waited.mine;
+        commits = record { places = waited.commits.places; commits = stop.commits ∙ waited.commits.commits; many = waited.commits.many };
         room = stop.full;
+        now = λ full. refl;
       }
 
   pub stopped-empty : (v m n : Known S Event) (earlier : List (List Event)) → IsWorld w → HasWaited w c call earlier v m → IsOutOfMemory w c call m n → IsStopped w c call false v n
@@ -281,5 +288,7 @@ module _ {S : Type 0} (w : World) (c : CallerId) (call : Call) where
         joins = waited.joins ++ stop.joins;
         joined = joined-more w c call earlier stop.history waited.joins stop.joins waited.joined pending stop.joined;
         mine = stop.mine ∙ (ap (λ (es : List Event). es ++ stop.joins) waited.mine ∙ append_assoc v.mine waited.joins stop.joins);
+        commits = committed-both v m n waited.joins stop.joins waited.commits stop.commits;
         room = stop.room;
+        now = λ full. (let no : ⊥ = cc in absurd no);
       }

@@ -1,8 +1,8 @@
 -- What is done of a call while its pass holds the shard.
-use Rattle.std.proofs.Common.{◌≡◌, ℕ, ◌+◌, ◌<◌, ◌≤◌, Bool, true, false, not, List, [], ◌∷◌, ◌++◌, Option, Some, Result, Ok, Err, inl, inr, refl, sym, ap, ◌∙◌, subst, arith}
+use Rattle.std.proofs.Common.{◌≡◌, ℕ, ◌+◌, ◌<◌, ◌≤◌, Bool, true, false, not, List, [], ◌∷◌, ◌++◌, length, length-append, Option, Some, Result, Ok, Err, inl, inr, refl, sym, ap, ◌∙◌, subst, arith}
 use Rattle.std.specs.List.{list_any}
 use Rattle.std.proofs.lemmas.Bool.{lt-ltb}
-use Rattle.std.proofs.lemmas.List.{append-nil}
+use Rattle.std.proofs.lemmas.List.{append_assoc, append-nil}
 use mathlib.Core.List.{IsPrefix}
 use Rattle.gaspi_types.specs.CallRows.{need_of}
 use Rattle.gaspi_types.specs.World.{World, IsWorld, is_caller}
@@ -25,7 +25,7 @@ use Rattle.timeout_state.specs.declared.budget.Look.TheVariants.{More, Final}
 use Rattle.commit_table.specs.Attempts.{LookedOnly, Missed}
 use Rattle.commit_table.specs.Views.{mine_after, gave_back}
 use Rattle.commit_table.specs.declared.views.Known.{Known}
-use Rattle.gaspi_world.specs.Attempts.{is_waiting, is_full_in, found_after, is_full_after, GoesOn, LookedOnce, IsBusy, Attempted}
+use Rattle.gaspi_world.specs.Attempts.{is_waiting, is_full_in, found_after, is_full_after, GoesOn, HasCommitted, LookedOnce, IsBusy, Attempted}
 use Rattle.gaspi_world.specs.Callers.{IsPassOf}
 use Rattle.gaspi_world.specs.Holds.{Holds, Added}
 use Rattle.gaspi_world.specs.Shards.{shard_part}
@@ -47,6 +47,35 @@ has-room s c call room =
 party-is : (w : World) (c : CallerId) → list_any (is_caller c.rank c.thread) w.callers ≡ true → caller_party w.callers c ≡ Some (number_of w.callers c)
 party-is w c there = rw there refl
 
+-- how much was committed
+module _ {S : Type 0} where
+  committed-none : (v : Known S Event) → HasCommitted [] v v
+  committed-none v = record { places = []; commits = sym (append-nil v.commits); many = refl }
+
+  committed-one : (v n : Known S Event) (e : Event) → n.commits ≡ v.commits ++ length v.seen ∷ [] → HasCommitted (e ∷ []) v n
+  committed-one v n e is = record { places = length v.seen ∷ []; commits = is; many = refl }
+
+  pub committed-both : (v m n : Known S Event) (first second : List Event) → HasCommitted first v m → HasCommitted second m n → HasCommitted (first ++ second) v n
+  committed-both v m n first second one two = record {
+    places = one.places ++ two.places;
+    commits = two.commits ∙ (ap (λ (ks : List ℕ). ks ++ two.places) one.commits ∙ append_assoc v.commits one.places two.places);
+    many = length-append one.places two.places ∙ (ap (λ (k : ℕ). k + length two.places) one.many ∙ (ap (λ (k : ℕ). length first + k) two.many ∙ sym (length-append first second)));
+  }
+
+  committed-more : (v m n : Known S Event) (events : List Event) (e : Event) → HasCommitted events v m → n.commits ≡ m.commits ++ length m.seen ∷ [] → HasCommitted (events ++ e ∷ []) v n
+  committed-more v m n events e before is = committed-both v m n events (e ∷ []) before (committed-one m n e is)
+
+  committed-all : (v n : Known S Event) (events : List Event) → HasCommitted (events ++ []) v n → HasCommitted events v n
+  committed-all v n events all = subst (λ (es : List Event). HasCommitted es v n) (append-nil events) all
+
+  -- a look commits nothing
+  committed-since : (v m n : Known S Event) (events : List Event) → m.commits ≡ v.commits → HasCommitted events m n → HasCommitted events v n
+  committed-since v m n events same all = record {
+    places = all.places;
+    commits = all.commits ∙ ap (λ (ks : List ℕ). ks ++ all.places) same;
+    many = all.many;
+  }
+
 module _ {S : Type 0} (w : World) (c : CallerId) (call : Call) where
   pub found-in : (x : WorldPart) (v : Known S Event) → Holds w x v → found_after w c call v.seen ≡ answer_in x.state c.rank c.thread call
   found-in x v holds = rw holds.state refl
@@ -59,6 +88,7 @@ module _ {S : Type 0} (w : World) (c : CallerId) (call : Call) where
   worked-none v n same = subst (Worked w c call [] [] v) (sym same) (record {
     seen = sym (append-nil (v.seen ++ []) ∙ append-nil v.seen);
     mine = sym (append-nil (v.mine ++ []) ∙ append-nil v.mine);
+    commits = committed-none v;
     joined = inl refl;
     looks = refl;
     missed = refl;
@@ -73,6 +103,7 @@ module _ {S : Type 0} (w : World) (c : CallerId) (call : Call) where
   worked-joined v n args pass found added = record {
     seen = added.seen ∙ sym (append-nil (v.seen ++ join_event c call args ∷ []));
     mine = mine-more v n (join_event c call args) pass refl added ∙ sym (append-nil (v.mine ++ join_event c call args ∷ []));
+    commits = committed-one v n (join_event c call args) added.commits;
     joined = inr (args, refl, found);
     looks = added.looks;
     missed = added.missed;
@@ -84,6 +115,7 @@ module _ {S : Type 0} (w : World) (c : CallerId) (call : Call) where
   worked-called joins v m n reply pass worked added = record {
     seen = added.seen ∙ ap (λ (es : List Event). es ++ Called c call reply ∷ []) (worked.seen ∙ append-nil (v.seen ++ joins));
     mine = mine-more m n (Called c call reply) (pass.0, worked.party ∙ pass.1) refl added ∙ ap (λ (es : List Event). es ++ Called c call reply ∷ []) (worked.mine ∙ append-nil (v.mine ++ joins));
+    commits = committed-more v m n joins (Called c call reply) (committed-all v m joins worked.commits) added.commits;
     joined = worked.joined;
     looks = added.looks ∙ worked.looks;
     missed = added.missed ∙ worked.missed;
@@ -175,6 +207,7 @@ module _ {S : Type 0} (w : World) (c : CallerId) where
     joins = joins;
     joined = worked.joined;
     mine = worked.mine ∙ ap (λ (es : List Event). (es ++ joins) ++ Called c call reply ∷ []) looks.mine;
+    commits = committed-since v m n (joins ++ Called c call reply ∷ []) looks.commits worked.commits;
     room = room;
     last = last;
     unready = unready;
@@ -186,6 +219,7 @@ module _ {S : Type 0} (w : World) (c : CallerId) where
     joins = joins;
     joined = worked.joined;
     mine = worked.mine ∙ (append-nil (m.mine ++ joins) ∙ ap (λ (es : List Event). es ++ joins) looks.mine);
+    commits = committed-since v m n joins looks.commits (committed-all m n joins worked.commits);
     room = room;
     more = more;
     unready = unready;
@@ -198,6 +232,7 @@ module _ {S : Type 0} (w : World) (c : CallerId) where
     joins = joins;
     joined = worked.joined;
     mine = worked.mine ∙ (append-nil (m.mine ++ joins) ∙ ap (λ (es : List Event). es ++ joins) looks.mine);
+    commits = committed-since v m n joins looks.commits (committed-all m n joins worked.commits);
     room = room;
   }
   attempted call look v m n x (Err EventLimit) world pass looks holds (same, full) =
@@ -207,6 +242,7 @@ module _ {S : Type 0} (w : World) (c : CallerId) where
         goes_on = goes-on v m n [] [] call world pass looks x holds worked;
         looked = subst (LookedOnce w c v (gave_back n 0)) seen (looked-once v m n [] [] call world pass looks worked);
         mine = ap (λ (k : Known S Event). k.mine) same ∙ looks.mine;
+        commits = ap (λ (k : Known S Event). k.commits) same ∙ looks.commits;
         full = ap (is_full_after w c call) (sym seen) ∙ full;
       }
   attempted call look v m n x (Err Busy) world pass looks holds never = absurd never

@@ -1,5 +1,5 @@
 -- What an attempt of a call tells.
-use Rattle.std.specs.Prelude.{◌≡◌, ◌⊎◌, ◌+◌, Bool, true, false, not, nat_lt, List, [], ◌∷◌, ◌++◌, length, Option, None, Some, Result, Ok, Err}
+use Rattle.std.specs.Prelude.{◌≡◌, ◌⊎◌, ℕ, ◌+◌, Bool, true, false, not, nat_lt, List, [], ◌∷◌, ◌++◌, length, Option, None, Some, Result, Ok, Err}
 use mathlib.Core.List.{IsPrefix}
 use Rattle.gaspi_types.specs.CallRows.{need_of}
 use Rattle.gaspi_types.specs.World.{World}
@@ -66,6 +66,12 @@ module _ (w : World) (c : CallerId) (call : Call) where
   abbrev pub MayHaveJoined : List Event → List Event → Type 0
   MayHaveJoined history joins = (joins ≡ []) ⊎ ((args : Args) × (joins ≡ join_event c call args ∷ []) × (found_after history ≡ Some (ready.Join args)))
 
+-- These events were committed, one after another, and nothing else was.
+pub record HasCommitted {S : Type 0} (events : List Event) (v n : Known S Event) : Type 0 where
+  pub places : List ℕ
+  pub commits : n.commits ≡ v.commits ++ places
+  pub many : length places ≡ length events
+
 module _ {S : Type 0} (w : World) (c : CallerId) where
   -- What a pass has seen goes on from what it had seen, is a legal history, and has of the caller just what the pass did.
   pub record GoesOn (v n : Known S Event) : Type 0 where
@@ -100,6 +106,7 @@ module _ {S : Type 0} (w : World) (c : CallerId) where
     pub joins : List Event
     pub joined : MayHaveJoined w c call history joins
     pub mine : n.mine ≡ (v.mine ++ joins) ++ Called c call reply ∷ []
+    pub commits : HasCommitted (joins ++ Called c call reply ∷ []) v n
     pub room : is_full_after w c call history ≡ false
     pub last : reply ≡ Timeout → look ≡ Final
     pub unready : reply ≡ Timeout → is_waiting (found_after w c call history) ≡ true
@@ -112,6 +119,7 @@ module _ {S : Type 0} (w : World) (c : CallerId) where
     pub joins : List Event
     pub joined : MayHaveJoined w c call history joins
     pub mine : n.mine ≡ v.mine ++ joins
+    pub commits : HasCommitted joins v n
     pub room : is_full_after w c call history ≡ false
     pub more : look ≡ More
     pub unready : is_waiting (found_after w c call history) ≡ true
@@ -122,6 +130,7 @@ module _ {S : Type 0} (w : World) (c : CallerId) where
     pub goes_on : GoesOn v n
     pub looked : LookedOnce v n n.seen
     pub mine : n.mine ≡ v.mine
+    pub commits : n.commits ≡ v.commits
     pub full : is_full_after w c call n.seen ≡ true
 
   -- There was no memory. The call may have joined; it is not recorded.
@@ -132,6 +141,7 @@ module _ {S : Type 0} (w : World) (c : CallerId) where
     pub joins : List Event
     pub joined : MayHaveJoined w c call history joins
     pub mine : n.mine ≡ v.mine ++ joins
+    pub commits : HasCommitted joins v n
     pub room : is_full_after w c call history ≡ false
 
   -- The shard was missed, which another pass held, and no look was made.

@@ -12,7 +12,7 @@ use Rattle.gaspi_types.specs.declared.replies.Reply.TheVariants.{Timeout}
 use Rattle.gaspi_types.specs.declared.shapes.CallerId.{CallerId}
 use Rattle.timeout_state.specs.Looks.{looks_of}
 use Rattle.commit_table.specs.declared.views.Known.{Known}
-use Rattle.gaspi_world.specs.Attempts.{is_waiting, found_after, is_full_after, is_pending_after, MayHaveJoined, GoesOn}
+use Rattle.gaspi_world.specs.Attempts.{is_waiting, found_after, is_full_after, is_pending_after, MayHaveJoined, GoesOn, HasCommitted}
 use Rattle.commit_table.specs.Calls.{TableValue, PassValue, IsOf, HoldsNone}
 use Rattle.gaspi_world.specs.Callers.{events_of, IsPassOf}
 use Rattle.gaspi_world.specs.declared.calling.Stop.{Stop}
@@ -53,11 +53,13 @@ module _ {S : Type 0} (w : World) (c : CallerId) where
     pub ends : n.seen ≡ before ++ Called c call reply ∷ []
     pub after_looks : (k : ℕ) (h : List Event) → slice_get (earlier ++ last ∷ []) k ≡ Some h → IsPrefix h before
     pub mine : n.mine ≡ (v.mine ++ joins) ++ Called c call reply ∷ []
+    pub commits : HasCommitted (joins ++ Called c call reply ∷ []) v n
     pub room : is_full_after w c call last ≡ false
     pub spent : reply ≡ Timeout → looks_of timeout ≡ Some (length earlier + 1)
     pub timely : reply ≡ Timeout → is_waiting (found_after w c call last) ≡ true
 
-  -- The call was not recorded, after a last look at which its rank had no room for what it needs, or had.
+  -- The call was not recorded, after a last look at which its rank had no room for what it needs, or had. Where it had none, nothing
+  -- was seen since that look.
   pub record IsStopped (call : Call) (full : Bool) (v n : Known S Event) : Type 0 where
     pub goes_on : GoesOn w c v n
     pub earlier : List (List Event)
@@ -67,7 +69,9 @@ module _ {S : Type 0} (w : World) (c : CallerId) where
     pub joins : List Event
     pub joined : JoinedFirst w c call (earlier ++ last ∷ []) joins
     pub mine : n.mine ≡ v.mine ++ joins
+    pub commits : HasCommitted joins v n
     pub room : is_full_after w c call last ≡ full
+    pub now : full ≡ true → last ≡ n.seen
 
   abbrev pub Calls : Call → timeouts.Timeout → Known S Event → Result Reply Stop → Known S Event → Type 0
   Calls call timeout v (Ok reply) n = IsCalled call timeout reply v n
@@ -84,6 +88,7 @@ module _ {S : Type 0} (w : World) (c : CallerId) where
     pub joins : List Event
     pub joined : JoinedFirst w c call earlier joins
     pub mine : n.mine ≡ v.mine ++ joins
+    pub commits : HasCommitted joins v n
     -- once there was a look
     pub own : (k : ℕ) (h : List Event) → slice_get earlier k ≡ Some h → events_of c n.seen ≡ n.mine
     pub pending : (k : ℕ) (h : List Event) → slice_get earlier k ≡ Some h → is_collective call ≡ true → is_pending_after w c call n.seen ≡ true

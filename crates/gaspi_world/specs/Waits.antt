@@ -1,5 +1,6 @@
 -- Whether the timeouts of a caller came only when its looks were spent. (GASPI: timeouts)
 use Rattle.std.specs.Prelude.{◌≡◌, ℕ, ◌<◌, ◌≤◌, true, List, ◌++◌, length, take, slice_get, Some}
+use mathlib.Core.List.{IsPrefix}
 use Rattle.gaspi_types.specs.World.{World}
 use Rattle.gaspi_types.specs.declared.calls.Call.{Call}
 use Rattle.gaspi_types.specs.declared.events.Event.{Event}
@@ -8,6 +9,7 @@ use Rattle.gaspi_types.specs.declared.replies.Reply.{Reply}
 use Rattle.gaspi_types.specs.declared.replies.Reply.TheVariants.{Timeout}
 use Rattle.gaspi_types.specs.declared.shapes.CallerId.{CallerId}
 use Rattle.gaspi_model.specs.Step.{own_calls}
+use Rattle.commit_table.specs.declared.views.Known.{Known}
 use Rattle.gaspi_world.specs.Attempts.{is_waiting, found_after}
 
 module _ (w : World) (c : CallerId) where
@@ -32,3 +34,10 @@ module _ (w : World) (c : CallerId) where
   Waited history looks ns =
       (place : ℕ) (call : Call) (n : ℕ) → slice_get history place ≡ Some (Called c call Timeout) → slice_get ns (length (own_calls c.rank c.thread (take place history))) ≡ Some n
       → HasLooks call history place looks n
+
+  -- So it is of what the pass of the caller has seen, where ns has a number for each of its calls, in order; and what it has seen has
+  -- them all.
+  pub record HaveWaited {S : Type 0} (ns : List ℕ) (v : Known S Event) : Type 0 where
+    pub waited : Waited v.seen v.looks ns
+    pub each : length ns ≡ length (own_calls c.rank c.thread v.mine)
+    pub seen : IsPrefix (own_calls c.rank c.thread v.mine) (own_calls c.rank c.thread v.seen)

@@ -13,7 +13,7 @@ use Rattle.gaspi_model.specs.Calls.{recorded_reply}
 use Rattle.timeout_state.specs.declared.budget.Look.{Look}
 use Rattle.timeout_state.specs.declared.budget.Look.TheVariants.{More, Final}
 use Rattle.commit_table.specs.declared.views.Known.{Known}
-use Rattle.gaspi_world.specs.Attempts.{is_waiting, found_after, is_full_after, MayHaveJoined}
+use Rattle.gaspi_world.specs.Attempts.{is_waiting, found_after, is_full_after, MayHaveJoined, HasCommitted}
 use Rattle.gaspi_world.specs.Holds.{Added}
 use Rattle.gaspi_world.specs.declared.attempts.Halt.{Halt}
 use Rattle.gaspi_world.specs.declared.attempts.Halt.TheVariants.{Busy, NotYet, NoMemory, EventLimit}
@@ -38,6 +38,7 @@ module _ {S : Type 0} (w : World) (c : CallerId) (call : Call) where
   pub record Worked (joins calls : List Event) (v n : Known S Event) : Type 0 where
     pub seen : n.seen ≡ (v.seen ++ joins) ++ calls
     pub mine : n.mine ≡ (v.mine ++ joins) ++ calls
+    pub commits : HasCommitted (joins ++ calls) v n
     pub joined : MayHaveJoined w c call v.seen joins
     pub looks : n.looks ≡ v.looks
     pub missed : n.missed ≡ v.missed

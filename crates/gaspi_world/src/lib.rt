@@ -25,7 +25,7 @@ pub use attempts::Halt;
 pub use calling::Stop;
 pub use closing::{Tally, Unclosed};
 pub use launching::{Body, Task, launch};
-pub use laws::{waits_last, world_histories};
+pub use laws::{waits_last, waits_on, world_histories};
 pub use moving::Moving;
 pub use ranks::{Note, Rank};
 pub use shards::{Placed, WorldShard};

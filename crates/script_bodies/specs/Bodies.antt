@@ -23,8 +23,8 @@ pub record IsFresh (script : Script) (t : TableValue Start) (p : PassValue Start
   pub caller : IsPassOf t.start.shape script.caller p.known
   pub fresh : p.known.mine ≡ []
 
--- The caller has run its script and ended, as the outcome says. Its pass is still one of its world, and holds no shard.
-pub record HasRunScript (script : Script) (outcome : Option RunOutcome) (p q : PassValue Start Event) : Type 0 where
+-- The caller has run its script and ended, as the outcome says, with so many looks for a call that blocks. Its pass is still one of its world, and holds no shard.
+pub record HasRunScript (script : Script) (limit : ℕ) (outcome : Option RunOutcome) (p q : PassValue Start Event) : Type 0 where
   pub table : q.table ≡ p.table
   pub free : HoldsNone q.known
-  pub run : (start : Start) → p.known.start ≡ Some start → (told : RunOutcome) × (outcome ≡ Some told) × HasRun start.shape script.caller script.lines told p.known q.known
+  pub run : (start : Start) → p.known.start ≡ Some start → (told : RunOutcome) × (outcome ≡ Some told) × HasRun start.shape script.caller script.lines limit told p.known q.known

@@ -1,8 +1,11 @@
 -- How often the calls of a script may look. (GASPI: timeouts)
-use Rattle.std.specs.Prelude.{ℕ, Bool, true, nat_le, List}
+use Rattle.std.specs.Prelude.{ℕ, Bool, true, nat_le, List, [], ◌∷◌}
 use Rattle.std.specs.List.{list_all}
+use Rattle.gaspi_types.specs.declared.calls.Call.{Call}
 use Rattle.gaspi_types.specs.declared.calls.Timeout.{Timeout}
 use Rattle.gaspi_types.specs.declared.calls.Timeout.TheVariants.{Looks, Block}
+use Rattle.gaspi_types.specs.declared.replies.Reply.{Reply}
+use Rattle.rank_script.specs.Runs.{Progress, Going, Over, advanced}
 use Rattle.rank_script.specs.declared.scripts.ScriptLine.{ScriptLine}
 
 -- a call that may look at all
@@ -16,7 +19,18 @@ has_look line = has_look_in line.timeout
 abbrev pub have_looks : List ScriptLine → Bool
 have_looks lines = list_all has_look lines
 
--- a timeout with an end: a call that blocks may look so often
+-- how many looks a call has: one that blocks has so many
+abbrev pub looks_in : ℕ → Timeout → ℕ
+looks_in limit (Looks looks) = looks
+looks_in limit Block = limit
+
+-- a timeout with an end
 abbrev pub bounded : ℕ → Timeout → Timeout
-bounded limit (Looks looks) = Looks looks
-bounded limit Block = Looks limit
+bounded limit timeout = Looks (looks_in limit timeout)
+
+-- How many looks each call of a run has, in order: those of its line. The end of the caller, which never times out, has those of the
+-- line before which the run was stopped, else one.
+abbrev pub looks_along : ℕ → Progress → List (Call × Reply) → List ℕ
+looks_along limit p [] = []
+looks_along limit (Over outcome) (pair ∷ pairs) = 1 ∷ looks_along limit (Over outcome) pairs
+looks_along limit (Going line made lines) (pair ∷ pairs) = looks_in limit line.timeout ∷ looks_along limit (advanced (Going line made lines) pair.1) pairs

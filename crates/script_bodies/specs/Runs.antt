@@ -1,10 +1,13 @@
 -- What comes of a script that its caller runs in a world, and how the caller ends. (own choice)
-use Rattle.std.specs.Prelude.{◌≡◌, ℕ, true, List, ◌++◌, Option, Some, Result, Ok, Err}
+use Rattle.std.specs.Prelude.{◌≡◌, ℕ, true, List, [], ◌∷◌, ◌++◌, Option, Some, Result, Ok, Err}
 use mathlib.Core.List.{IsPrefix}
 use Rattle.gaspi_types.specs.World.{World}
 use Rattle.gaspi_types.specs.declared.calls.Call.{Call}
+use Rattle.gaspi_types.specs.declared.calls.Call.TheVariants.{End}
 use Rattle.gaspi_types.specs.declared.events.Event.{Event}
+use Rattle.gaspi_types.specs.declared.events.Event.TheVariants.{Called}
 use Rattle.gaspi_types.specs.declared.replies.Reply.{Reply}
+use Rattle.gaspi_types.specs.declared.replies.Reply.TheVariants.{Done}
 use Rattle.gaspi_types.specs.declared.shapes.CallerId.{CallerId}
 use Rattle.gaspi_model.specs.Step.{own_calls}
 use Rattle.commit_table.specs.declared.views.Known.{Known}
@@ -14,9 +17,12 @@ use Rattle.rank_script.specs.declared.scripts.RunOutcome.{RunOutcome}
 use Rattle.rank_script.specs.declared.scripts.RunOutcome.TheVariants as outcomes
 use Rattle.rank_script.specs.declared.scripts.ScriptLine.{ScriptLine}
 use Rattle.gaspi_world.specs.Attempts.{is_full_after, GoesOn}
+use Rattle.gaspi_world.specs.Callers.{events_of}
+use Rattle.gaspi_world.specs.Waits.{HaveWaited}
 use Rattle.gaspi_world.specs.declared.calling.Stop.{Stop}
 use Rattle.gaspi_world.specs.declared.calling.Stop.TheVariants as stops
 use Rattle.script_bodies.specs.Joins.{AreJoinsFollowed}
+use Rattle.script_bodies.specs.Looks.{looks_along}
 
 -- after what came of the present call: it goes on after its reply, and ends before a call that was not made
 abbrev pub moved : Progress → Result Reply Stop → Progress
@@ -26,7 +32,7 @@ moved p (Err stops.NoMemory) = stopped p halts.NoMemory
 
 module _ (w : World) (c : CallerId) (lines : List ScriptLine) where
   -- The line of that number is the one that a run comes to by all calls of the caller but its end, and after a history that what is
-  -- seen goes on from, which has them all, its rank had no room for the line's call.
+  -- seen goes on from, which has all that the caller did but its end, its rank had no room for the line's call.
   pub record HadNoRoom {S : Type 0} (number : ℕ) (n : Known S Event) : Type 0 where
     pub line : ScriptLine
     pub made : ℕ
@@ -35,7 +41,7 @@ module _ (w : World) (c : CallerId) (lines : List ScriptLine) where
     pub history : List Event
     pub begins : IsPrefix history n.seen
     pub follows : Follows (going_on lines) (own_calls c.rank c.thread history) (Going line made later)
-    pub all : own_calls c.rank c.thread history ++ end_pair ≡ own_calls c.rank c.thread n.mine
+    pub events : events_of c history ++ Called c End Done ∷ [] ≡ n.mine
     pub full : is_full_after w c line.call history ≡ true
 
   -- why the run ended where it was stopped for want of room
@@ -58,11 +64,13 @@ module _ (w : World) (c : CallerId) (lines : List ScriptLine) where
     pub is_stopped : IsStopped line.number outcome
 
   -- The caller ran these lines and ended: its calls, the end among them, are a whole run of the lines with that outcome. Each of its
-  -- joins is of the call that it makes next, or of the one before which the run was stopped.
-  pub record HasRun {S : Type 0} (outcome : RunOutcome) (v n : Known S Event) : Type 0 where
+  -- joins is of the call that it makes next, or of the one before which the run was stopped. Its timeouts came only when the looks of
+  -- their lines were spent, where a call that blocks has so many.
+  pub record HasRun {S : Type 0} (limit : ℕ) (outcome : RunOutcome) (v n : Known S Event) : Type 0 where
     pub goes_on : GoesOn w c v n
     pub run : IsRun lines (own_calls c.rank c.thread n.mine) outcome
     pub cause : HasCause outcome n
     pub unmade : Option Call
     pub stopped_before : (call : Call) → unmade ≡ Some call → IsStoppedBefore outcome n call
     pub followed : AreJoinsFollowed unmade n.mine
+    pub waited : HaveWaited w c (looks_along limit (going_on lines) (own_calls c.rank c.thread n.mine)) n

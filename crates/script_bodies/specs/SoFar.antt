@@ -13,18 +13,21 @@ use Rattle.rank_script.specs.declared.scripts.RunOutcome.{RunOutcome}
 use Rattle.rank_script.specs.declared.scripts.RunOutcome.TheVariants.{Limit}
 use Rattle.rank_script.specs.declared.scripts.ScriptLine.{ScriptLine}
 use Rattle.gaspi_world.specs.Attempts.{is_full_after}
+use Rattle.gaspi_world.specs.Callers.{events_of}
+use Rattle.gaspi_world.specs.Waits.{HaveWaited}
 use Rattle.script_bodies.specs.Joins.{AreJoinsFollowed, IsJoinOf}
+use Rattle.script_bodies.specs.Looks.{looks_along}
 
 -- no call of the caller among these events is its end
 abbrev pub HasNoEnd : CallerId → List Event → Type 0
 HasNoEnd c events = (k : ℕ) (reply : Reply) → slice_get (own_calls c.rank c.thread events) k ≡ Some (End, reply) → ⊥
 
-module _ {S : Type 0} (w : World) (c : CallerId) (lines : List ScriptLine) where
-  -- a history that what is seen goes on from, with all calls of the caller, after which its rank had no room for the line's call
+module _ {S : Type 0} (w : World) (c : CallerId) (lines : List ScriptLine) (limit : ℕ) where
+  -- a history that what is seen goes on from, with all that the caller did, after which its rank had no room for the line's call
   pub record IsFullAt (line : ScriptLine) (n : Known S Event) : Type 0 where
     pub history : List Event
     pub begins : IsPrefix history n.seen
-    pub all : own_calls c.rank c.thread history ≡ own_calls c.rank c.thread n.mine
+    pub events : events_of c history ≡ n.mine
     pub full : is_full_after w c line.call history ≡ true
 
   -- the calls that were made lead there, each join is of the call behind it, and the run was not stopped
@@ -57,6 +60,6 @@ module _ {S : Type 0} (w : World) (c : CallerId) (lines : List ScriptLine) where
     pub seen : IsPrefix v.seen n.seen
     pub party : n.party ≡ v.party
     pub start : n.start ≡ v.start
-    pub own : IsPrefix (own_calls c.rank c.thread n.mine) (own_calls c.rank c.thread n.seen)
+    pub waited : HaveWaited w c (looks_along limit (going_on lines) (own_calls c.rank c.thread n.mine)) n
     pub active : HasNoEnd c n.mine
     pub comes : ComesTo p n

@@ -22,7 +22,7 @@ impl<'a> Body for ScriptBody<'a> {
 
     ghost needs = { λ body world pass. IsRunnable body.script.now body.limit × IsFresh body.script.now world pass };
 
-    ghost did = { λ body pass next after. (next.script ≡ body.script) × (next.limit ≡ body.limit) × HasRunScript body.script.now next.outcome pass after };
+    ghost did = { λ body pass next after. (next.script ≡ body.script) × (next.limit ≡ body.limit) × HasRunScript body.script.now body.limit next.outcome pass after };
 
     /// Runs the script: it makes the calls of its lines, and then, however the run ended, the end of the caller.
     fn run<R: Wait>(&mut self, rt: &R, alloc: Global, world: &World, pass: &mut Pass) {

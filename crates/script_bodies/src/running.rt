@@ -66,7 +66,7 @@ pub(crate) fn run_lines<R: Wait>(
     requires pass { IsFresh script.now world.now pass.old }
     ensures table { pass.new.table ≡ pass.old.table }
     ensures free { HoldsNone pass.new.known }
-    ensures run { HasComeTo world.now.start.shape script.now.caller script.now.lines (Over result) pass.old.known pass.new.known }
+    ensures run { HasComeTo world.now.start.shape script.now.caller script.now.lines limit (Over result) pass.old.known pass.new.known }
 {
     enabled();
     runs();
