@@ -1,7 +1,8 @@
 //! The arguments of lines.
 
-ghost use Rattle.std.specs.Prelude.{◌≡◌, map, length, Some, None, if◌then◌else◌};
+ghost use Rattle.std.specs.Prelude.{◌≡◌, map, length, true, Some, None, IfSome, if◌then◌else◌};
 ghost use Rattle.gaspi_types.specs.World.{world_of};
+ghost use Rattle.rank_script.specs.PlainScripts.{has_look_in};
 ghost use Rattle.rank_script.specs.WorldText.{all_numbers, number_at, limits_of, timeout_of, is_timeout_within, as_timeout, are_tries_within, is_section_line};
 
 use crate::line_parts::is_word;
@@ -92,7 +93,8 @@ pub(crate) fn read_looks(word: &[u8]) -> Option<Option<u64>>
 
 /// The timeout of that many looks, where they are within the limits.
 pub(crate) fn timeout_of(looks: Option<u64>) -> Option<Timeout>
-    ensures { result ≡ (if is_timeout_within looks then Some (as_timeout looks) else None) }
+    ensures timeout { result ≡ (if is_timeout_within looks then Some (as_timeout looks) else None) }
+    ensures look { IfSome result (λ timeout. has_look_in timeout ≡ true) }
 {
     match looks {
         None => Some(Timeout::Block),

@@ -4,7 +4,7 @@ ghost use Rattle.std.specs.Prelude.{◌≡◌, ◌<◌, ◌+◌, map, length, tr
 ghost use Rattle.rank_script.specs.WorldText.{WorldLine, SegmentLine, SectionLine, CallLine, is_comment, is_unknown, lacks_world, is_misplaced, is_miscounted};
 ghost use Rattle.rank_script.specs.CutLines.{line_in, call_in};
 ghost use Rattle.rank_script.specs.Readings.{fault_for, GivesLine};
-ghost use Rattle.rank_script.specs.PlainScripts.{IsPlain};
+ghost use Rattle.rank_script.specs.PlainScripts.{IsPlain, MayLook};
 ghost use Rattle.rank_script.specs.declared.scripts.ScriptFault.TheVariants.{At};
 
 use crate::arguments::{read_section, read_segment, read_shape, timeout_of, tries_of};
@@ -221,6 +221,7 @@ impl Reading {
 fn read_script_line(alloc: Global, number: u64, parts: CallParts) -> Result<ScriptLine, ScriptFault>
     ensures exact { GivesLine result number (call_in parts.entry) }
     ensures plain { IfOk result IsPlain }
+    ensures look { IfOk result MayLook }
 {
     let Some(tries) = parts.read_tries() else {
         return Err(malformed(number));

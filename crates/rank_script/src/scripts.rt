@@ -72,7 +72,7 @@ impl From<NoMemory> for ScriptFault {
 }
 
 /// The scripts of a world, in the order of its callers. No line of them makes an end: a caller's end is no call of its
-/// script.
+/// script. The call of each line may look at least once.
 #[derive(Debug, Drop)]
 pub struct Scripts {
     scripts: Rows<Script>,
@@ -81,18 +81,18 @@ pub struct Scripts {
 impl Model for Scripts {
     ghost use Rattle.std.specs.Prelude.{List};
     ghost use Rattle.rank_script.specs.declared.scripts.Script.{Script};
-    ghost use Rattle.rank_script.specs.PlainScripts.{ArePlain};
+    ghost use Rattle.rank_script.specs.PlainScripts.{ArePlain, AreLooking};
 
     ghost Value = { List Script };
 
     ghost view = { λ s. s.scripts };
 
-    ghost invariant = { λ s. ArePlain s.scripts };
+    ghost invariant = { λ s. ArePlain s.scripts × AreLooking s.scripts };
 }
 
 impl Scripts {
     ghost use Rattle.rank_script.specs.WorldText.{is_script_of, with_section, with_line};
-    ghost use Rattle.rank_script.specs.PlainScripts.{IsPlain, ArePlain};
+    ghost use Rattle.rank_script.specs.PlainScripts.{IsPlain, MayLook, ArePlain, AreLooking};
 
     /// No script. It takes no memory.
     pub fn new(alloc: Global) -> Scripts
@@ -107,6 +107,7 @@ impl Scripts {
     pub fn len(&self) -> usize
         ensures count { result ≡ length self.now }
         ensures plain { ArePlain self.now }
+        ensures looks { AreLooking self.now }
     {
         self.scripts.len()
     }
@@ -151,6 +152,7 @@ impl Scripts {
     pub(crate) fn add_line(&mut self, line: ScriptLine) -> Result<(), NoMemory>
         requires some { 0 < length self.old }
         requires plain { IsPlain line }
+        requires look { MayLook line }
         ensures ok { OnOk result (self.new ≡ with_line self.old (Some line)) }
         ensures err { OnErr result (self.new ≡ self.old) }
     {

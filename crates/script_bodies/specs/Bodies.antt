@@ -1,19 +1,18 @@
 -- What a caller needs to run its script, and what it makes of its pass. (own choice)
-use Rattle.std.specs.Prelude.{◌≡◌, ℕ, ◌≤◌, true, [], Option, Some}
+use Rattle.std.specs.Prelude.{◌≡◌, ℕ, ◌≤◌, [], Option, Some}
 use Rattle.gaspi_types.specs.declared.events.Event.{Event}
 use Rattle.commit_table.specs.Calls.{TableValue, PassValue, IsOf, HoldsNone}
-use Rattle.rank_script.specs.PlainScripts.{HasPlainLines}
+use Rattle.rank_script.specs.PlainScripts.{HasPlainLines, HasLookingLines}
 use Rattle.rank_script.specs.declared.scripts.RunOutcome.{RunOutcome}
 use Rattle.rank_script.specs.declared.scripts.Script.{Script}
 use Rattle.gaspi_world.specs.Callers.{IsPassOf}
 use Rattle.gaspi_world.specs.declared.starts.Start.{Start}
-use Rattle.script_bodies.specs.Looks.{have_looks}
 use Rattle.script_bodies.specs.Runs.{HasRun}
 
 -- no line is an end, and each may look, also one that blocks
 pub record IsRunnable (script : Script) (limit : ℕ) : Type 0 where
   pub plain : HasPlainLines script
-  pub looks : have_looks script.lines ≡ true
+  pub looks : HasLookingLines script
   pub blocks : 1 ≤ limit
 
 -- the pass is that of the script's caller in this world, and has done nothing yet

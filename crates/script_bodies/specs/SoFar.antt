@@ -22,7 +22,7 @@ use Rattle.script_bodies.specs.Looks.{looks_along}
 abbrev pub HasNoEnd : CallerId → List Event → Type 0
 HasNoEnd c events = (k : ℕ) (reply : Reply) → slice_get (own_calls c.rank c.thread events) k ≡ Some (End, reply) → ⊥
 
-module _ {S : Type 0} (w : World) (c : CallerId) (lines : List ScriptLine) (limit : ℕ) where
+module _ {S : Type 0} (w : World) (c : CallerId) (lines : List ScriptLine) where
   -- a history that what is seen goes on from, with all that the caller did, after which its rank had no room for the line's call
   pub record IsFullAt (line : ScriptLine) (n : Known S Event) : Type 0 where
     pub history : List Event
@@ -56,7 +56,7 @@ module _ {S : Type 0} (w : World) (c : CallerId) (lines : List ScriptLine) (limi
   ComesTo p n = IsOnWay p n ⊎ ((outcome : RunOutcome) × (p ≡ Over outcome) × WasStopped outcome n)
 
   -- The caller ran these lines so far, and has not ended.
-  pub record HasComeTo (p : Progress) (v n : Known S Event) : Type 0 where
+  pub record HasComeTo (limit : ℕ) (p : Progress) (v n : Known S Event) : Type 0 where
     pub seen : IsPrefix v.seen n.seen
     pub party : n.party ≡ v.party
     pub start : n.start ≡ v.start

@@ -9,7 +9,6 @@ mod looks;
 mod running;
 
 pub use bodies::ScriptBody;
-pub use looks::have_looks;
 
 #[cfg(test)]
 mod tests;

@@ -4,7 +4,7 @@ ghost use Rattle.std.specs.Prelude.{◌≡◌, [], ◌∷◌, length};
 ghost use Rattle.std.specs.List.{All};
 ghost use Rattle.script_bodies.specs.Bodies.{IsRunnable, IsFresh, HasRunScript};
 
-use crate::{ScriptBody, have_looks};
+use crate::ScriptBody;
 use gaspi_world::{Pass, Started, Task, World, launch};
 use rank_script::{RunOutcome, Script, read_world};
 use std::alloc::Global;
@@ -61,9 +61,6 @@ fn outcome_of<R: Threads + Wait + Sync>(
         return Ok(None);
     }
     let script = scripts.at(0);
-    if !have_looks(script) {
-        return Ok(None);
-    }
     let Started { world, mut passes } = World::start(alloc, &shape, 0)?;
     match passes.pop() {
         Some(pass) => run_one(rt, alloc, &world, pass, script),
