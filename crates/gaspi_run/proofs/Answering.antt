@@ -1,28 +1,30 @@
--- The answer to an input with a fault.
-use Rattle.std.proofs.Common.{◌≡◌, ℕ, ◌+◌, ◌<◌, ◌≤◌, ◌⊎◌, inl, inr, List, [], replicate, Option, None, Some, Err, length, refl, arith}
+-- The answer to an input: to what was told of it, to its fault, and to one that could not be read.
+use Rattle.std.proofs.Common.{◌≡◌, ℕ, ◌+◌, ◌<◌, ◌≤◌, ◌⊎◌, inl, inr, List, [], replicate, Option, None, Some, Result, Ok, Err, IfOk, IsErrOf, length, refl, arith}
 use Rattle.std.specs.Option.{ForSome}
 use Rattle.std.proofs.lemmas.Bool.{lt-ltb}
 use Rattle.std.proofs.lemmas.List.{length-replicate}
 use Rattle.gaspi_io.specs.Faults.{HasCause}
-use Rattle.gaspi_io.specs.Sink.{with_more, AddsFront}
 use Rattle.gaspi_io.specs.Source.{without, TakesAtMost}
+use Rattle.gaspi_io.specs.declared.read.ReadStop.{ReadStop}
+use Rattle.gaspi_io.specs.declared.read.ReadStop.TheVariants as stops
 use Rattle.rank_script.specs.Lines.{input_limit}
 use Rattle.rank_script.specs.WorldText.{TextFault}
-use Rattle.gaspi_run.specs.Command.{fault_text, world_read, Answers}
+use Rattle.rank_script.specs.declared.scripts.ScriptFault.{ScriptFault}
+use Rattle.rank_script.specs.declared.scripts.ScriptFault.TheVariants.{At, NoMemory}
+use Rattle.gaspi_run.specs.Command.{IsTold, TellsFault, world_read, Answers}
+use Rattle.gaspi_run.specs.Saying.{SaysFault, Says, SaysStop}
 use Rattle.command_line.specs.declared.words.Command.{Command}
-use Rattle.command_line.specs.declared.words.Command.TheVariants.{Step, Check}
+use Rattle.command_line.specs.declared.words.Command.TheVariants.{Run, Step, Check}
 use Rattle.gaspi_run.specs.declared.commands.Answer.{Answer}
+use Rattle.gaspi_run.specs.declared.telling.Told.{Told}
 
--- what is known of an input with a fault: its bytes, where the source tells them
-pub record KnowsFault (command : Command) (before after : Option (List ℕ)) (fault : TextFault) : Type 0 where
-  input : List ℕ
-  all : ForSome before (λ told. input ≡ told)
-  end : length input ≤ input_limit → ForSome before (λ told. after ≡ Some [])
-  past : input_limit < length input → after ≡ without before (input_limit + 1)
-  is : world_read command input ≡ Err fault
+pub if-ok : {A E : Type 0} (P Q : A → Type 0) (r : Result A E) → ((x : A) → P x → Q x) → IfOk r P → IfOk r Q
+if-ok P Q (Ok x) f p = f x p
+if-ok P Q (Err e) f p = tt
 
 -- an input that is too long
 long-text : (command : Command) (text : List ℕ) → input_limit < length text → world_read command text ≡ Err (record { number = 1; line = 0 })
+long-text (Run workers limit brief) text long = rw (lt-ltb input_limit (length text) long) refl
 long-text (Step seed limit brief) text long = rw (lt-ltb input_limit (length text) long) refl
 long-text Check text long = rw (lt-ltb input_limit (length text) long) refl
 
@@ -30,7 +32,15 @@ long-text Check text long = rw (lt-ltb input_limit (length text) long) refl
 some-longer : (n : ℕ) → (text : List ℕ) × (n < length text)
 some-longer n = (replicate (n + 1) 0, (let many = length-replicate {A = ℕ} (n + 1) 0 in omega arith))
 
-pub long-fault : (command : Command) (before after : Option (List ℕ)) → ForSome before (λ told. input_limit < length told) → after ≡ without before (input_limit + 1) → KnowsFault command before after (record { number = 1; line = 0 })
+-- what is known of an input with a fault: its bytes, where the source tells them
+record KnowsFault (command : Command) (before after : Option (List ℕ)) (fault : TextFault) : Type 0 where
+  input : List ℕ
+  all : ForSome before (λ told. input ≡ told)
+  end : length input ≤ input_limit → ForSome before (λ told. after ≡ Some [])
+  past : input_limit < length input → after ≡ without before (input_limit + 1)
+  is : world_read command input ≡ Err fault
+
+long-fault : (command : Command) (before after : Option (List ℕ)) → ForSome before (λ told. input_limit < length told) → after ≡ without before (input_limit + 1) → KnowsFault command before after (record { number = 1; line = 0 })
 long-fault command (Some told) after long past = record {
   input = told;
   all = λ x is. (let same : told ≡ x = cc in same);
@@ -48,34 +58,80 @@ long-fault command None after long past =
       is = long-text command text.0 text.1;
     }
 
-pub read-fault : (command : Command) (before after : Option (List ℕ)) (input : List ℕ) (fault : TextFault) → length input ≤ input_limit → ForSome before (λ told. input ≡ told)
-    → ForSome before (λ told. after ≡ Some []) → world_read command input ≡ Err fault → KnowsFault command before after fault
-read-fault command before after input fault short all end faulty = record { input = input; all = all; end = λ fits. end; past = λ long. absurd (omega arith); is = faulty }
+module _ (command : Command) (before after held held' : Option (List ℕ)) (faults faults' sink_faults sink_faults' : ℕ) (answer : Answer) (taken : TakesAtMost (input_limit + 1) before after) where
+  abbrev IsAnswered : Type 0
+  IsAnswered = Answers command before after faults faults' held held' sink_faults sink_faults' answer
 
-pub fault-answer : (command : Command) (before after held held' : Option (List ℕ)) (faults faults' sink_faults sink_faults' : ℕ) (answer : Answer) (fault : TextFault) → KnowsFault command before after fault → TakesAtMost (input_limit + 1) before after → faults' ≡ faults
-    → ((answer.status ≡ 2) × (held' ≡ with_more held (fault_text fault)) × (sink_faults' ≡ sink_faults))
-    ⊎ (((answer.status ≡ 6) × AddsFront (fault_text fault) held held' × HasCause sink_faults sink_faults') ⊎ ((answer.status ≡ 7) × (held' ≡ held) × (sink_faults' ≡ sink_faults)))
-    → answer.journal ≡ [] → Answers command before after faults faults' held held' sink_faults sink_faults' answer
-fault-answer command before after held held' faults faults' sink_faults sink_faults' answer fault k taken read (inl told) empty = inr (inl (record {
-  text = fault_text fault;
-  still = (read, told.2);
-  fault = record { input = k.input; fault = fault; all = k.all; end = k.end; past = k.past; is = k.is; text_is = refl };
-  written = told.1;
-  status = told.0;
-  empty = empty;
-}))
-fault-answer command before after held held' faults faults' sink_faults sink_faults' answer fault k taken read (inr (inl failed)) empty = inr (inr (inr (inl (record {
-  text = fault_text fault;
-  of = inr (record { input = k.input; fault = fault; all = k.all; end = k.end; past = k.past; is = k.is; text_is = refl }, empty);
-  front = failed.1;
-  cause = failed.2;
-  still = read;
-  status = failed.0;
-}))))
-fault-answer command before after held held' faults faults' sink_faults sink_faults' answer fault k taken read (inr (inr lacks)) empty = inr (inr (inr (inr (record {
-  taken = taken;
-  kept = lacks.1;
-  still = (read, lacks.2);
-  status = lacks.0;
-  empty = empty;
-}))))
+  answered-fault : (fault : TextFault) → KnowsFault command before after fault → faults' ≡ faults → SaysFault held held' sink_faults sink_faults' answer fault → IsAnswered
+  answered-fault fault k read (inl (inl told), none) = inr (inl (record {
+    text = fault_text fault;
+    still = (read, told.2);
+    fault = record { input = k.input; fault = fault; all = k.all; end = k.end; past = k.past; is = k.is; text_is = refl };
+    written = told.1;
+    status = told.0;
+    empty = none;
+  }))
+  answered-fault fault k read (inl (inr failed), none) = inr (inr (inr (inl (record {
+    text = fault_text fault;
+    of = inr (record { input = k.input; fault = fault; all = k.all; end = k.end; past = k.past; is = k.is; text_is = refl }, none);
+    front = failed.1;
+    cause = failed.2;
+    still = read;
+    status = failed.0;
+  }))))
+  answered-fault fault k read (inr lacks, none) = inr (inr (inr (inr (record {
+    taken = taken;
+    kept = lacks.1;
+    still = (read, lacks.2);
+    status = lacks.0;
+    empty = none;
+  }))))
+
+  -- what was told of an input that was read
+  pub answered-told : (input : List ℕ) (r : Result Told ScriptFault) → length input ≤ input_limit → ForSome before (λ told. input ≡ told) → ForSome before (λ told. after ≡ Some []) → faults' ≡ faults
+      → IfOk r (λ told. IsTold command input told.journal told.tally told.status told.text)
+      → ((number line : ℕ) → IsErrOf r (At number line) → world_read command input ≡ Err (record { number = number; line = line })) → Says held held' sink_faults sink_faults' answer r → IsAnswered
+  answered-told input (Ok told) short all end read tells faulty (inl written, journal, tally) = inl (record {
+    text = told.text;
+    still = (read, written.2);
+    told = record { input = input; all = all; end = end; tells = rw (written.0, journal, tally) tells };
+    written = written.1;
+  })
+  answered-told input (Ok told) short all end read tells faulty (inr failed, journal, tally) = inr (inr (inr (inl (record {
+    text = told.text;
+    of = inl (told.status, record { input = input; all = all; end = end; tells = rw (journal, tally) tells });
+    front = failed.1;
+    cause = failed.2;
+    still = read;
+    status = failed.0;
+  }))))
+  answered-told input (Err (At number line)) short all end read tells faulty says =
+      answered-fault (record { number = number; line = line }) (record { input = input; all = all; end = λ fits. end; past = λ long. absurd (omega arith); is = faulty number line refl }) read says
+  answered-told input (Err NoMemory) short all end read tells faulty (silent, none) = inr (inr (inr (inr (record {
+    taken = taken;
+    kept = silent.1;
+    still = (read, silent.2);
+    status = silent.0;
+    empty = none;
+  }))))
+
+  -- an input that was not read to its end
+  pub answered-stop : (stop : ReadStop) → (stop ≡ stops.Long → ForSome before (λ told. input_limit < length told)) → (stop ≡ stops.Long → after ≡ without before (input_limit + 1)) → (stop ≡ stops.Fault → HasCause faults faults')
+      → (stop ≡ stops.Long → faults' ≡ faults) → (stop ≡ stops.NoMemory → faults' ≡ faults) → SaysStop held held' sink_faults sink_faults' answer stop → IsAnswered
+  answered-stop stops.Fault long past cause still_long still_memory (silent, none) = inr (inr (inl (record {
+    cause = cause refl;
+    still = silent.2;
+    taken = taken;
+    kept = silent.1;
+    status = silent.0;
+    empty = none;
+  })))
+  answered-stop stops.Long long past cause still_long still_memory says =
+      answered-fault (record { number = 1; line = 0 }) (long-fault command before after (long refl) (past refl)) (still_long refl) says
+  answered-stop stops.NoMemory long past cause still_long still_memory (silent, none) = inr (inr (inr (inr (record {
+    taken = taken;
+    kept = silent.1;
+    still = (still_memory refl, silent.2);
+    status = silent.0;
+    empty = none;
+  }))))

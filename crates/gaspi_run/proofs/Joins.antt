@@ -20,7 +20,7 @@ use Rattle.gaspi_model.specs.declared.states.Posts.{Posts}
 use Rattle.gaspi_model.specs.declared.states.State.{State}
 use Rattle.plain_machine.specs.Looking.{group_of, join_event}
 use Rattle.rank_script.specs.declared.scripts.ScriptLine.{ScriptLine}
-use Rattle.gaspi_run.specs.Schedule.{present_need}
+use Rattle.gaspi_run.specs.Endings.{present_need}
 use Rattle.gaspi_run.proofs.Work.{JoinsAreSteps}
 use Rattle.gaspi_run.proofs.RunningAll.{JoinLaws}
 

@@ -15,4 +15,3 @@ pub mod ScheduleLoop
 mod Calling
 mod Transcribing
 mod Answering
-mod ToldInputs

@@ -21,7 +21,8 @@ use Rattle.rank_script.specs.Runs.{Progress, Going, going_on, advanced, Follows}
 use Rattle.rank_script.specs.declared.scripts.Script.{Script}
 use Rattle.rank_script.specs.declared.scripts.ScriptLine.{ScriptLine}
 use Rattle.gaspi_run.specs.declared.turns.Finished.{Finished}
-use Rattle.gaspi_run.specs.Schedule.{with_waiting, own_events}
+use Rattle.gaspi_run.specs.Endings.{own_events}
+use Rattle.gaspi_run.specs.Schedule.{with_waiting}
 use Rattle.gaspi_run.specs.declared.turns.Waiting.{Waiting}
 use Rattle.gaspi_run.specs.declared.turns.Turns.{Turns}
 use Rattle.gaspi_run.proofs.JoinsFollowed.{AreFollowedSoFar, ends_joined, called-ends, called-so-far, joined-so-far}

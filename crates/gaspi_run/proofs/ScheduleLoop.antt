@@ -24,7 +24,8 @@ use Rattle.rank_script.specs.WorldText.{AreScriptsOf}
 use Rattle.rank_script.specs.declared.scripts.Script.{Script}
 use Rattle.rank_script.specs.declared.scripts.ScriptLine.{ScriptLine}
 use Rattle.rank_script.specs.declared.scripts.RunOutcome.{RunOutcome}
-use Rattle.gaspi_run.specs.Schedule.{started, turn, turns, candidates, AreActive, HasSettled, HaveEnded}
+use Rattle.gaspi_run.specs.Endings.{HasSettled, HaveEnded}
+use Rattle.gaspi_run.specs.Schedule.{started, turn, turns, candidates, AreActive}
 use Rattle.gaspi_run.specs.declared.turns.Finished.{Finished}
 use Rattle.gaspi_run.specs.declared.turns.Waiting.{Waiting}
 use Rattle.gaspi_run.specs.declared.turns.Turns.{Turns}

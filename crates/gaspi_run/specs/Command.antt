@@ -6,6 +6,7 @@ use Rattle.std.specs.Fmt.{decimal}
 use Rattle.gaspi_types.specs.World.{World}
 use Rattle.gaspi_types.specs.declared.events.Event.{Event}
 use Rattle.text_lines.specs.Lines.{fed_lines}
+use Rattle.commit_table.specs.Calls.{TallyValue}
 use Rattle.gaspi_io.specs.Faults.{HasCause}
 use Rattle.gaspi_io.specs.Sink.{with_more, AddsFront}
 use Rattle.gaspi_io.specs.Source.{without, TakesAtMost}
@@ -17,13 +18,16 @@ use Rattle.call_journal.specs.Verdicts.{IsVerdict}
 use Rattle.call_journal.specs.declared.verdicts.Verdict.{Verdict}
 use Rattle.call_journal.specs.declared.verdicts.Verdict.TheVariants.{Legal, Illegal}
 use Rattle.command_line.specs.declared.words.Command.{Command}
-use Rattle.command_line.specs.declared.words.Command.TheVariants.{Step, Check}
+use Rattle.command_line.specs.declared.words.Command.TheVariants.{Run, Step, Check}
+use Rattle.gaspi_world.specs.declared.starts.Start.{Start}
 use Rattle.rank_script.specs.Lines.{input_limit}
 use Rattle.rank_script.specs.WorldText.{Said, TextFault, world_text, journal_place, checked_world}
 use Rattle.rank_script.specs.declared.scripts.Script.{Script}
 use Rattle.rank_script.specs.declared.scripts.RunOutcome.{RunOutcome}
 use Rattle.rank_script.specs.declared.scripts.RunOutcome.TheVariants as outcomes
-use Rattle.gaspi_run.specs.Schedule.{IsScheduled, HasSettled, HaveEnded}
+use Rattle.gaspi_run.specs.Endings.{HasSettled, HaveEnded}
+use Rattle.gaspi_run.specs.Schedule.{IsScheduled}
+use Rattle.gaspi_run.specs.Threads.{IsTallied, ComesAfterWrites}
 use Rattle.gaspi_run.specs.Transcripts.{transcripts}
 use Rattle.gaspi_run.specs.declared.turns.Finished.{Finished}
 use Rattle.gaspi_run.specs.declared.commands.Answer.{Answer}
@@ -64,6 +68,32 @@ run_status finished = if is_any_wrong finished then 3 else (if is_any_limit fini
 abbrev pub run_text : Bool → World → List Script → List Event → List ℕ
 run_text true w scripts journal = transcripts w scripts journal
 run_text false w scripts journal = journal_text journal
+
+-- what is known of a world that was run on threads and closed, if there was one
+abbrev pub ToldTally : Type 0
+ToldTally = Option (TallyValue Start Event)
+
+-- What `run` does with its input: the scripts of the world text run on threads, each caller and each worker on one of its own. Its
+-- journal is one legal history of the machine from the start that the text states. Each call that a caller completed stands there
+-- once, with the reply that the caller got, after what the caller had seen; what is told of the closed world says so, and that no
+-- timeout came before its looks were spent. Each caller's calls are a run of its script; every caller has ended, and all that was
+-- posted has arrived, broken queues aside. Every notification came after all earlier writes of its lane. The text that it writes is
+-- the journal, or with `--brief` what the callers were told; its status tells how they ended.
+pub record HasRunOnThreads (limit : ℕ) (brief : Bool) (input : List ℕ) (journal : List Event) (tally : ToldTally) (status : ℕ) (text : List ℕ) : Type 0 where
+  pub world : World
+  pub scripts : List Script
+  pub finished : List Finished
+  pub read : world_text input ≡ Ok (record { world = Some world; scripts = scripts })
+  pub text_is : text ≡ run_text brief world scripts journal
+  pub legal : is_legal world journal ≡ true
+  pub told : TallyValue Start Event
+  pub tally_is : tally ≡ Some told
+  pub tallied : IsTallied world scripts limit journal told
+  pub ended : HaveEnded world scripts journal finished
+  pub settled : HasSettled world journal
+  pub notified : ComesAfterWrites world journal
+  pub ranges : AreInRange journal
+  pub status_is : status ≡ run_status finished
 
 -- What `step` does with its input: the schedule has the seed and the limit of the words. The text that it writes is the
 -- journal, or with `--brief` what the callers were told; its status tells how they ended; and its journal is a legal
@@ -143,18 +173,27 @@ pub record IsChecked (input : List ℕ) (journal : List Event) (status : ℕ) (t
   pub read : checked_world input ≡ Ok (record { world = Some world; scripts = scripts })
   pub result : IsCheckedIn world input (journal_place input) journal status text
 
--- a call that blocks has one look or more
-abbrev pub HasLimit : Command → Type 0
-HasLimit (Step seed limit brief) = 1 ≤ limit
-HasLimit Check = Unit {0}
+-- a call that blocks has one look or more, and there are one to four workers
+abbrev pub IsWithin : Command → Type 0
+IsWithin (Run workers limit brief) = (1 ≤ limit) × ((1 ≤ workers) × (workers ≤ 4))
+IsWithin (Step seed limit brief) = 1 ≤ limit
+IsWithin Check = Unit {0}
+
+-- a command that needs no threads
+abbrev pub is_plain : Command → Bool
+is_plain (Run workers limit brief) = false
+is_plain (Step seed limit brief) = true
+is_plain Check = true
 
 -- What a command tells of an input without a fault, and what it takes the world from.
 
-abbrev pub IsTold : Command → List ℕ → List Event → ℕ → List ℕ → Type 0
-IsTold (Step seed limit brief) input journal status text = IsStepped seed limit brief input journal status text
-IsTold Check input journal status text = IsChecked input journal status text
+abbrev pub IsTold : Command → List ℕ → List Event → ToldTally → ℕ → List ℕ → Type 0
+IsTold (Run workers limit brief) input journal tally status text = HasRunOnThreads limit brief input journal tally status text
+IsTold (Step seed limit brief) input journal tally status text = IsStepped seed limit brief input journal status text × (tally ≡ None)
+IsTold Check input journal tally status text = IsChecked input journal status text × (tally ≡ None)
 
 abbrev pub world_read : Command → List ℕ → Result Said TextFault
+world_read (Run workers limit brief) input = world_text input
 world_read (Step seed limit brief) input = world_text input
 world_read Check input = checked_world input
 
@@ -162,11 +201,11 @@ world_read Check input = checked_world input
 -- tell it.
 
 -- the whole input was read, and the text is what the command tells of it
-pub record TellsInput (command : Command) (before after : Option (List ℕ)) (journal : List Event) (status : ℕ) (text : List ℕ) : Type 0 where
+pub record TellsInput (command : Command) (before after : Option (List ℕ)) (journal : List Event) (tally : ToldTally) (status : ℕ) (text : List ℕ) : Type 0 where
   pub input : List ℕ
   pub all : ForSome before (λ told. input ≡ told)
   pub end : ForSome before (λ told. after ≡ Some [])
-  pub tells : IsTold command input journal status text
+  pub tells : IsTold command input journal tally status text
 
 -- the input has a fault, and the text names the first; the whole input was read, and where it is too long, one byte past
 -- what it may have
@@ -185,11 +224,15 @@ NothingFailed faults faults' sink_faults sink_faults' = (faults' ≡ faults) × 
 
 -- What an answer says. Each case has its statuses.
 
--- the input was told: status 0, 3 or 8 of a run, 0 or 4 of a check
+-- an answer without a history
+abbrev pub HasNoWorld : Answer → Type 0
+HasNoWorld answer = (answer.journal ≡ []) × (answer.tally ≡ None)
+
+-- the input was told: status 0, 3 or 8 of a run on threads or on one, 0 or 4 of a check
 pub record HasTold (command : Command) (before after held held' : Option (List ℕ)) (faults faults' sink_faults sink_faults' : ℕ) (answer : Answer) : Type 0 where
   pub text : List ℕ
   pub still : NothingFailed faults faults' sink_faults sink_faults'
-  pub told : TellsInput command before after answer.journal answer.status text
+  pub told : TellsInput command before after answer.journal answer.tally answer.status text
   pub written : held' ≡ with_more held text
 
 -- a fault was told: status 2
@@ -199,7 +242,7 @@ pub record IsFaulty (command : Command) (before after held held' : Option (List 
   pub fault : TellsFault command before after text
   pub written : held' ≡ with_more held text
   pub status : answer.status ≡ 2
-  pub empty : answer.journal ≡ []
+  pub empty : HasNoWorld answer
 
 -- the input could not be read: status 5; nothing was written, and at most one byte more was taken than an input may have
 pub record CouldNotRead (before after held held' : Option (List ℕ)) (faults faults' sink_faults sink_faults' : ℕ) (answer : Answer) : Type 0 where
@@ -208,12 +251,12 @@ pub record CouldNotRead (before after held held' : Option (List ℕ)) (faults fa
   pub taken : TakesAtMost (input_limit + 1) before after
   pub kept : held' ≡ held
   pub status : answer.status ≡ 5
-  pub empty : answer.journal ≡ []
+  pub empty : HasNoWorld answer
 
 -- the text of the input or of a fault could not be written whole: status 6; what was written is a front part of it
 pub record CouldNotWrite (command : Command) (before after held held' : Option (List ℕ)) (faults faults' sink_faults sink_faults' : ℕ) (answer : Answer) : Type 0 where
   pub text : List ℕ
-  pub of : ((would_be : ℕ) × TellsInput command before after answer.journal would_be text) ⊎ (TellsFault command before after text × (answer.journal ≡ []))
+  pub of : ((would_be : ℕ) × TellsInput command before after answer.journal answer.tally would_be text) ⊎ (TellsFault command before after text × HasNoWorld answer)
   pub front : AddsFront text held held'
   pub cause : HasCause sink_faults sink_faults'
   pub still : faults' ≡ faults
@@ -225,7 +268,7 @@ pub record LacksMemory (before after held held' : Option (List ℕ)) (faults fau
   pub kept : held' ≡ held
   pub still : NothingFailed faults faults' sink_faults sink_faults'
   pub status : answer.status ≡ 7
-  pub empty : answer.journal ≡ []
+  pub empty : HasNoWorld answer
 
 -- the answer of a command
 abbrev pub Answers : Command → Option (List ℕ) → Option (List ℕ) → ℕ → ℕ → Option (List ℕ) → Option (List ℕ) → ℕ → ℕ → Answer → Type 0
@@ -241,4 +284,4 @@ pub record Refuses (held held' : Option (List ℕ)) (faults faults' : ℕ) (answ
   pub says : ((answer.status ≡ 1) × (held' ≡ with_more held refused_text) × (faults' ≡ faults))
       ⊎ (((answer.status ≡ 6) × AddsFront refused_text held held' × HasCause faults faults')
       ⊎ ((answer.status ≡ 7) × (held' ≡ held) × (faults' ≡ faults)))
-  pub empty : answer.journal ≡ []
+  pub empty : HasNoWorld answer

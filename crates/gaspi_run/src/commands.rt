@@ -1,24 +1,29 @@
 //! The commands of the program.
 
-ghost use Rattle.std.specs.Prelude.{◌≡◌, ◌⊎◌, [], map, None, Some, IfOk};
+ghost use Rattle.std.specs.Prelude.{◌≡◌, ◌⊎◌, ◌≤◌, true, [], map, None, Some, Err, IfOk};
 ghost use Rattle.gaspi_io.specs.Faults.{HasCause};
 ghost use Rattle.gaspi_io.specs.Sink.{with_more, AddsFront};
 ghost use Rattle.command_line.specs.Words.{command_of};
 ghost use Rattle.command_line.specs.declared.words.Command.{Command};
-ghost use Rattle.gaspi_run.specs.Command.{fault_text, HasLimit, Refuses, Answers};
+ghost use Rattle.command_line.specs.declared.words.Command.TheVariants as commands;
+ghost use Rattle.rank_script.specs.declared.scripts.ScriptFault.TheVariants as script_faults;
+ghost use Rattle.gaspi_run.specs.Command.{fault_text, IsWithin, is_plain, HasNoWorld, Refuses, Answers};
+ghost use Rattle.gaspi_run.specs.Saying.{IsWritten, SaysFault, Says, SaysStop};
 
-use crate::telling::tell;
+use crate::telling::{Told, tell, tell_run};
 use command_line::{Command, read_words};
 use gaspi_io::{Failed, ReadStop, Sink, Source, read_all, write_all};
 use gaspi_texts::write_number;
 use gaspi_types::{Bytes, NoMemory, Rows};
+use gaspi_world::Tally;
 use journal_texts::Journal;
 use rank_script::{MOST_INPUT_BYTES, ScriptFault};
 use std::alloc::Global;
 use std::sync::Wait;
 use std::thread::Threads;
 
-/// The program's answer: its exit status, and the history of the world that it ran or the journal that it read.
+/// The program's answer: its exit status, the history of the world that it ran or the journal that it read, and what is known of
+/// the closed world where threads ran it.
 ///
 /// | Status | Where |
 /// |---|---|
@@ -31,10 +36,11 @@ use std::thread::Threads;
 /// | 6 | a write failed |
 /// | 7 | want of memory |
 /// | 8 | a caller ended at the event limit, and none has failed or is stuck |
-#[derive(Debug, Drop)]
+#[derive(Drop)]
 pub struct Answer {
     pub status: u8,
     pub journal: Journal,
+    pub tally: Option<Tally>,
 }
 
 /// The line that names a fault.
@@ -63,21 +69,18 @@ fn status_of<K: Sink>(sink: &mut K, text: &[u8], status: u8) -> u8
 
 /// An answer with nothing but a status.
 fn bare(alloc: Global, status: u8) -> Answer
-    ensures { (result.status ≡ status) × (result.journal ≡ []) }
+    ensures { (result.status ≡ status) × HasNoWorld result }
 {
     Answer {
         status,
         journal: Rows::new(alloc),
+        tally: None,
     }
 }
 
 /// Answers a fault of the input.
 fn answer_fault<K: Sink>(alloc: Global, sink: &mut K, number: u32, line: u64) -> Answer
-    ensures told { let text = fault_text (record { number = number; line = line }) in
-        ((result.status ≡ 2) × (K.held sink.new ≡ with_more (K.held sink.old) text) × (K.faults sink.new ≡ K.faults sink.old))
-        ⊎ (((result.status ≡ 6) × AddsFront text (K.held sink.old) (K.held sink.new) × HasCause (K.faults sink.old) (K.faults sink.new))
-        ⊎ ((result.status ≡ 7) × (K.held sink.new ≡ K.held sink.old) × (K.faults sink.new ≡ K.faults sink.old))) }
-    ensures empty { result.journal ≡ [] }
+    ensures { SaysFault (K.held sink.old) (K.held sink.new) (K.faults sink.old) (K.faults sink.new) result (record { number = number; line = line }) }
 {
     let status = match fault_line(alloc, number, line) {
         Ok(text) => status_of(sink, text.as_slice(), 2),
@@ -86,29 +89,17 @@ fn answer_fault<K: Sink>(alloc: Global, sink: &mut K, number: u32, line: u64) ->
     bare(alloc, status)
 }
 
-/// Does what a command asks for with the input that the source has left, and writes what it tells.
-pub fn run_command<S: Source, K: Sink>(
-    alloc: Global,
-    command: Command,
-    source: &mut S,
-    sink: &mut K,
-) -> Answer
-    requires { HasLimit command }
-    ensures { Answers command (S.left source.old) (S.left source.new) (S.faults source.old) (S.faults source.new)
-        (K.held sink.old) (K.held sink.new) (K.faults sink.old) (K.faults sink.new) result }
+/// Answers what was told of an input, or its fault.
+fn answer_told<K: Sink>(alloc: Global, sink: &mut K, told: Result<Told, ScriptFault>) -> Answer
+    ensures { Says (K.held sink.old) (K.held sink.new) (K.faults sink.old) (K.faults sink.new) result told }
 {
-    let input = match read_all(alloc, source, MOST_INPUT_BYTES as u64) {
-        Ok(input) => input,
-        Err(ReadStop::Fault) => return bare(alloc, 5),
-        Err(ReadStop::Long) => return answer_fault(alloc, sink, 1, 0),
-        Err(ReadStop::NoMemory) => return bare(alloc, 7),
-    };
-    match tell(alloc, command, input.as_slice()) {
+    match told {
         Ok(told) => {
             let status = status_of(sink, told.text.as_slice(), told.status);
             Answer {
                 status,
                 journal: told.journal,
+                tally: told.tally,
             }
         }
         Err(ScriptFault::At { number, line }) => answer_fault(alloc, sink, number, line),
@@ -116,9 +107,62 @@ pub fn run_command<S: Source, K: Sink>(
     }
 }
 
-/// A command that runs no threads: does what the words after the program's name ask for with its input, and writes its
-/// output. Words that ask for no such command are refused, and then nothing is read.
-pub fn command<S: Source, K: Sink>(
+/// Answers an input that could not be read.
+fn answer_stop<K: Sink>(alloc: Global, sink: &mut K, stop: ReadStop) -> Answer
+    ensures { SaysStop (K.held sink.old) (K.held sink.new) (K.faults sink.old) (K.faults sink.new) result stop }
+{
+    match stop {
+        ReadStop::Fault => bare(alloc, 5),
+        ReadStop::Long => answer_fault(alloc, sink, 1, 0),
+        ReadStop::NoMemory => bare(alloc, 7),
+    }
+}
+
+/// Does what a command that needs no threads asks for with the input that the source has left, and writes what it tells.
+pub fn run_command<S: Source, K: Sink>(
+    alloc: Global,
+    command: Command,
+    source: &mut S,
+    sink: &mut K,
+) -> Answer
+    requires within { IsWithin command }
+    requires plain { is_plain command ≡ true }
+    ensures { Answers command (S.left source.old) (S.left source.new) (S.faults source.old) (S.faults source.new)
+        (K.held sink.old) (K.held sink.new) (K.faults sink.old) (K.faults sink.new) result }
+{
+    match read_all(alloc, source, MOST_INPUT_BYTES as u64) {
+        Ok(input) => answer_told(alloc, sink, tell(alloc, command, input.as_slice())),
+        Err(stop) => answer_stop(alloc, sink, stop),
+    }
+}
+
+/// Runs the input that the source has left on threads, and writes what it tells.
+pub fn run_threads<R: Threads + Wait + Sync, S: Source, K: Sink>(
+    rt: &R,
+    alloc: Global,
+    workers: u32,
+    limit: u32,
+    brief: bool,
+    source: &mut S,
+    sink: &mut K,
+) -> Answer
+    requires { IsWithin (commands.Run workers limit brief) }
+    ensures { Answers (commands.Run workers limit brief) (S.left source.old) (S.left source.new) (S.faults source.old) (S.faults source.new)
+        (K.held sink.old) (K.held sink.new) (K.faults sink.old) (K.faults sink.new) result }
+{
+    match read_all(alloc, source, MOST_INPUT_BYTES as u64) {
+        Ok(input) => {
+            let told = tell_run(rt, alloc, workers, limit, brief, input.as_slice());
+            answer_told(alloc, sink, told)
+        }
+        Err(stop) => answer_stop(alloc, sink, stop),
+    }
+}
+
+/// The program: does what the words after its name ask for with its input, and writes its output. Words that ask for no command are
+/// refused, and then nothing is read. Of the commands `run` alone uses threads and waits.
+pub fn gaspirun<R: Threads + Wait + Sync, S: Source, K: Sink>(
+    rt: &R,
     alloc: Global,
     words: &[&str],
     source: &mut S,
@@ -131,6 +175,11 @@ pub fn command<S: Source, K: Sink>(
         (K.held sink.old) (K.held sink.new) (K.faults sink.old) (K.faults sink.new) result }
 {
     match read_words(alloc, words) {
+        Ok(Some(Command::Run {
+            workers,
+            limit,
+            brief,
+        })) => run_threads(rt, alloc, workers, limit, brief, source, sink),
         Ok(Some(command)) => run_command(alloc, command, source, sink),
         Ok(None) => {
             let status = status_of(sink, b"gaspirun: words refused\n", 1);
@@ -138,22 +187,4 @@ pub fn command<S: Source, K: Sink>(
         }
         Err(NoMemory) => bare(alloc, 7),
     }
-}
-
-/// The program: does what the words after its name ask for with its input, and writes its output. No command of today
-/// runs threads or waits, so all is left to `command`.
-pub fn gaspirun<R: Threads + Wait + Sync, S: Source, K: Sink>(
-    _rt: &R,
-    alloc: Global,
-    words: &[&str],
-    source: &mut S,
-    sink: &mut K,
-) -> Answer
-    ensures refused { command_of (map (λ word. word.now) words.now) ≡ None
-        → Refuses (K.held sink.old) (K.held sink.new) (K.faults sink.old) (K.faults sink.new) result × (source.new ≡ source.old) }
-    ensures answers { (command : Command) → command_of (map (λ word. word.now) words.now) ≡ Some command
-        → Answers command (S.left source.old) (S.left source.new) (S.faults source.old) (S.faults source.new)
-        (K.held sink.old) (K.held sink.new) (K.faults sink.old) (K.faults sink.new) result }
-{
-    command(alloc, words, source, sink)
 }

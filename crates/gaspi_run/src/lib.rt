@@ -6,10 +6,12 @@ mod moves;
 mod own_calls;
 mod scheduling;
 mod telling;
+mod threads;
 mod transcripts;
 mod turns;
 
-pub use commands::{Answer, command, gaspirun, run_command};
+pub use commands::{Answer, gaspirun, run_command, run_threads};
 pub use scheduling::{Ran, schedule};
+pub use threads::{RanOnThreads, run_on_threads};
 pub use transcripts::write_transcripts;
 pub use turns::Finished;

@@ -4,7 +4,8 @@ ghost use Rattle.std.specs.Prelude.{◌≡◌, ℕ, ◌<◌, ◌≤◌, ◌++◌
 ghost use Rattle.journal_texts.specs.JournalText.{AreInRange, HaveOwnValues};
 ghost use Rattle.gaspi_model.specs.Step.{is_legal};
 ghost use Rattle.rank_script.specs.WorldText.{AreScriptsOf};
-ghost use Rattle.gaspi_run.specs.Schedule.{starts, rank_starts, thread_starts, started, IsScheduled, HasSettled, HaveEnded};
+ghost use Rattle.gaspi_run.specs.Endings.{HasSettled, HaveEnded};
+ghost use Rattle.gaspi_run.specs.Schedule.{starts, rank_starts, thread_starts, started, IsScheduled};
 
 use crate::moves::turn;
 use crate::turns::{Finished, Turns, Waiting};

@@ -1,29 +1,35 @@
 //! What the commands tell of their inputs.
 
-ghost use Rattle.std.specs.Prelude.{◌≡◌, ◌<◌, ◌≤◌, ◌+◌, ◌^◌, ℕ, length, [], IfOk, IsErrOf, Err, true, false};
+ghost use Rattle.std.specs.Prelude.{◌≡◌, ◌<◌, ◌≤◌, ◌+◌, ◌^◌, ℕ, length, [], IfOk, IsErrOf, Err, None, true, false};
 ghost use Rattle.journal_texts.specs.JournalText.{HaveOwnValues};
 ghost use Rattle.rank_script.specs.WorldText.{world_text, checked_world};
 ghost use Rattle.rank_script.specs.declared.scripts.ScriptFault.TheVariants as script_faults;
 ghost use Rattle.text_lines.specs.Lines.{fed_lines};
-ghost use Rattle.gaspi_run.specs.Command.{is_any_wrong, is_any_limit, run_status, run_text, HasLimit, IsStepped, IsChecked, IsTold, IsRead, IsNoJournal, HasVerdict, world_read, why_word, verdict_text, verdict_status};
+ghost use Rattle.gaspi_run.specs.Command.{is_any_wrong, is_any_limit, run_status, run_text, IsWithin, is_plain, HasRunOnThreads, IsStepped, IsChecked, IsTold, IsRead, IsNoJournal, HasVerdict, world_read, why_word, verdict_text, verdict_status};
 
 use crate::scheduling::schedule;
+use crate::threads::run_on_threads;
 use crate::transcripts::write_transcripts;
 use crate::turns::Finished;
 use call_journal::{Verdict, check};
 use command_line::Command;
-use gaspi_model::Why;
+use gaspi_model::{Why, notification_order};
 use gaspi_texts::write_number;
 use gaspi_types::{Bytes, NoMemory, Rows, Shape};
+use gaspi_world::Tally;
 use journal_texts::{Journal, JournalFault, read, write};
 use rank_script::{RunOutcome, ScriptFault, Scripts, read_input, read_world};
 use std::alloc::Global;
+use std::sync::Wait;
+use std::thread::Threads;
 use text_lines::first_line;
 
-/// What a command tells of its input: the history, the status, and the text.
-#[derive(Debug, Drop)]
+/// What a command tells of its input: the history, what is known of the closed world where threads ran it, the status, and the
+/// text.
+#[derive(Drop)]
 pub struct Told {
     pub journal: Journal,
+    pub tally: Option<Tally>,
     pub status: u8,
     pub text: Bytes,
 }
@@ -82,8 +88,36 @@ fn run_text(
     Ok(text)
 }
 
+/// Runs a world text on threads, with so many workers and that many looks for a call that blocks.
+pub fn tell_run<R: Threads + Wait + Sync>(
+    rt: &R,
+    alloc: Global,
+    workers: u32,
+    limit: u32,
+    brief: bool,
+    input: &[u8],
+) -> Result<Told, ScriptFault>
+    requires limit { 1 ≤ limit }
+    requires workers { (1 ≤ workers) × (workers ≤ 4) }
+    ensures told { IfOk result (λ told. HasRunOnThreads limit brief input.now told.journal told.tally told.status told.text) }
+    ensures fault { (number line : ℕ) → IsErrOf result (script_faults.At number line)
+        → world_text input.now ≡ Err (record { number = number; line = line }) }
+{
+    notification_order();
+    let (shape, scripts) = read_world(alloc, input)?;
+    let ran = run_on_threads(rt, alloc, &shape, &scripts, workers, limit)?;
+    let text = run_text(alloc, brief, &shape, &scripts, &ran.journal)?;
+    let status = run_status(ran.outcomes.as_slice());
+    Ok(Told {
+        journal: ran.journal,
+        tally: Some(ran.tally),
+        status,
+        text,
+    })
+}
+
 /// Runs a world text on one thread, from a seed and with that many looks for a call that blocks.
-fn tell_run(
+fn tell_step(
     alloc: Global,
     seed: u32,
     limit: u32,
@@ -91,7 +125,7 @@ fn tell_run(
     input: &[u8],
 ) -> Result<Told, ScriptFault>
     requires { 1 ≤ limit }
-    ensures told { IfOk result (λ told. IsStepped seed limit brief input.now told.journal told.status told.text) }
+    ensures told { IfOk result (λ told. IsStepped seed limit brief input.now told.journal told.status told.text × (told.tally ≡ None)) }
     ensures fault { (number line : ℕ) → IsErrOf result (script_faults.At number line)
         → world_text input.now ≡ Err (record { number = number; line = line }) }
 {
@@ -101,6 +135,7 @@ fn tell_run(
     let status = run_status(ran.outcomes.as_slice());
     Ok(Told {
         journal: ran.journal,
+        tally: None,
         status,
         text,
     })
@@ -153,7 +188,7 @@ fn verdict_status(verdict: Verdict) -> u8
 
 /// Tells that an input has no journal, and at which of its lines.
 fn tell_no_journal(alloc: Global, line: u64) -> Result<Told, NoMemory>
-    ensures { IfOk result (λ told. IsNoJournal line told.journal told.status told.text) }
+    ensures { IfOk result (λ told. IsNoJournal line told.journal told.status told.text × (told.tally ≡ None)) }
 {
     let mut text = Bytes::new(alloc);
     text.append(b"not a journal ")?;
@@ -161,6 +196,7 @@ fn tell_no_journal(alloc: Global, line: u64) -> Result<Told, NoMemory>
     text.append(b"\n")?;
     Ok(Told {
         journal: Rows::new(alloc),
+        tally: None,
         status: 4,
         text,
     })
@@ -169,12 +205,13 @@ fn tell_no_journal(alloc: Global, line: u64) -> Result<Told, NoMemory>
 /// Tells the verdict on a journal.
 fn tell_verdict(alloc: Global, shape: &Shape, journal: Journal) -> Result<Told, NoMemory>
     ensures verdict { IfOk result (λ told. HasVerdict shape.now told.journal told.status told.text) }
-    ensures journal { IfOk result (λ told. told.journal ≡ journal) }
+    ensures journal { IfOk result (λ told. (told.journal ≡ journal) × (told.tally ≡ None)) }
 {
     let verdict = check(alloc, shape, &journal)?;
     let text = verdict_text(alloc, journal.len() as u64, verdict)?;
     Ok(Told {
         journal,
+        tally: None,
         status: verdict_status(verdict),
         text,
     })
@@ -198,7 +235,7 @@ fn line_count(text: &[u8]) -> u64
 /// Reads the journal of an input, which begins at a line of that number, and tells the verdict on it.
 fn tell_journal(alloc: Global, shape: &Shape, text: &[u8], number: u64) -> Result<Told, NoMemory>
     requires { (1 ≤ number) × (number + length text.now < 2 ^ 63) }
-    ensures { IfOk result (λ told. IsRead shape.now text.now number told.journal told.status told.text) }
+    ensures { IfOk result (λ told. IsRead shape.now text.now number told.journal told.status told.text × (told.tally ≡ None)) }
 {
     match read(alloc, text) {
         Ok(journal) => tell_verdict(alloc, shape, journal),
@@ -209,7 +246,7 @@ fn tell_journal(alloc: Global, shape: &Shape, text: &[u8], number: u64) -> Resul
 
 /// Checks the journal of an input against the world text before it.
 fn tell_check(alloc: Global, input: &[u8]) -> Result<Told, ScriptFault>
-    ensures told { IfOk result (λ told. IsChecked input.now told.journal told.status told.text) }
+    ensures told { IfOk result (λ told. IsChecked input.now told.journal told.status told.text × (told.tally ≡ None)) }
     ensures fault { (number line : ℕ) → IsErrOf result (script_faults.At number line)
         → checked_world input.now ≡ Err (record { number = number; line = line }) }
 {
@@ -223,15 +260,17 @@ fn tell_check(alloc: Global, input: &[u8]) -> Result<Told, ScriptFault>
     }
 }
 
-/// What a command tells of an input, or the first fault of the world text in it.
+/// What a command that needs no threads tells of an input, or the first fault of the world text in it.
 pub fn tell(alloc: Global, command: Command, input: &[u8]) -> Result<Told, ScriptFault>
-    requires { HasLimit command }
-    ensures told { IfOk result (λ told. IsTold command input.now told.journal told.status told.text) }
+    requires within { IsWithin command }
+    requires plain { is_plain command ≡ true }
+    ensures told { IfOk result (λ told. IsTold command input.now told.journal told.tally told.status told.text) }
     ensures fault { (number line : ℕ) → IsErrOf result (script_faults.At number line)
         → world_read command input.now ≡ Err (record { number = number; line = line }) }
 {
     match command {
-        Command::Step { seed, limit, brief } => tell_run(alloc, seed, limit, brief, input),
+        Command::Run { .. } => unreachable!(),
+        Command::Step { seed, limit, brief } => tell_step(alloc, seed, limit, brief, input),
         Command::Check => tell_check(alloc, input),
     }
 }

@@ -1,3 +1,4 @@
+pub mod AllNumbers
 pub mod Endings
 pub mod FewCallers
 pub mod Going

@@ -19,7 +19,7 @@ key c = c.rank * 4 + c.thread
 counts-cons : (p : CallerId → Bool) (c : CallerId) (cs : List CallerId) → count_by p (c ∷ cs) ≡ cond (p c) 1 0 + count_by p cs
 counts-cons p c cs = sum_by-cons (λ (d : CallerId). cond (p d) 1 0) c cs
 
-counts-is : (p : CallerId → Bool) (c : CallerId) (cs : List CallerId) (b : Bool) → p c ≡ b → count_by p (c ∷ cs) ≡ cond b 1 0 + count_by p cs
+pub counts-is : (p : CallerId → Bool) (c : CallerId) (cs : List CallerId) (b : Bool) → p c ≡ b → count_by p (c ∷ cs) ≡ cond b 1 0 + count_by p cs
 counts-is p c cs b is = counts-cons p c cs ∙ ap (λ (x : Bool). cond x 1 0 + count_by p cs) is
 
 -- a count over a weaker test is no less
@@ -81,7 +81,7 @@ numbers-rise cs c d there less =
     let at = declared-at c.rank c.thread cs there in
     counts-more (λ e. comes_before e c) (λ e. comes_before e d) cs at.0 c (λ e before. before-less e c d (omega arith) before) at.1 (not-before-itself c) (lt-ltb (key c) (key d) less)
 
-number-below : (cs : List CallerId) (c : CallerId) → list_any (is_caller c.rank c.thread) cs ≡ true → number_of cs c < length cs
+pub number-below : (cs : List CallerId) (c : CallerId) → list_any (is_caller c.rank c.thread) cs ≡ true → number_of cs c < length cs
 number-below cs c there =
     let at = declared-at c.rank c.thread cs there in
     let more = counts-more (λ e. comes_before e c) (λ e. true) cs at.0 c (λ e before. refl) at.1 (not-before-itself c) refl in
@@ -126,7 +126,7 @@ found-first p (d ∷ cs) place c at is only = go (λ earlier here. found-first p
     go rest false meets zero at = absurd (let same : d ≡ c = cc in let no : ◌≡◌ {A = Bool} false true = sym meets ∙ (ap p same ∙ is) in let never : ⊥ = cc in never)
     go rest false meets (suc earlier) at = rw meets (rest earlier at)
 
-there-any : (cs : List CallerId) (place : ℕ) (c : CallerId) → slice_get cs place ≡ Some c → list_any (is_caller c.rank c.thread) cs ≡ true
+pub there-any : (cs : List CallerId) (place : ℕ) (c : CallerId) → slice_get cs place ≡ Some c → list_any (is_caller c.rank c.thread) cs ≡ true
 there-any [] place c at = absurd (let no : ⊥ = cc in no)
 there-any (d ∷ cs) zero c at = (let same : d ≡ c = cc in let rank = eq-eqb d.rank c.rank (ap (λ (e : CallerId). e.rank) same) in let thread = eq-eqb d.thread c.thread (ap (λ (e : CallerId). e.thread) same) in rw (rank, thread) refl)
 there-any (d ∷ cs) (suc place) c at = go (there-any cs place c at) (is_caller c.rank c.thread d) refl

@@ -34,3 +34,5 @@ pub use worlds::{Pass, Passes, Started, World};
 
 #[cfg(test)]
 mod tests;
+#[cfg(test)]
+mod two_senders;

@@ -77,6 +77,7 @@ impl World {
         ensures count { IfOk result (λ started. length started.passes.items ≡ length shape.now.callers + workers) }
         ensures passes { IfOk result (λ started. (k : ℕ) → k < length shape.now.callers + workers
             → slice_get started.passes.items k ≡ Some (record { table = started.world.table; known = new_pass started.world.start (Some k) [] })) }
+        ensures callers { IfOk result (λ started. (k : ℕ) → k < length shape.now.callers → (c : CallerId) × IsPassOf shape.now c (new_pass started.world.start (Some k) [])) }
     {
         let limits = shape.limits();
         let machine = Machine::start(alloc, shape)?;
@@ -116,8 +117,8 @@ impl World {
         table
     }
 
-    /// The caller whose pass this is.
-    pub(crate) fn caller_of(&self, pass: &Pass) -> CallerId
+    /// The caller whose pass this is. It takes no memory.
+    pub fn caller_of(&self, pass: &Pass) -> CallerId
         requires { (c : CallerId) × IsPassOf self.now.start.shape c pass.now.known }
         ensures is { IsPassOf self.now.start.shape result pass.now.known }
         ensures only { (c : CallerId) → IsPassOf self.now.start.shape c pass.now.known → result ≡ c }

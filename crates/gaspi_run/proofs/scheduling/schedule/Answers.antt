@@ -1,7 +1,7 @@
 use Rattle.std.proofs.Common.{◌≡◌, ◌<◌, true, sym, subst}
 use Rattle.journal_texts.specs.JournalText.{HaveOwnValues}
 use Rattle.gaspi_model.specs.Step.{is_legal}
-use Rattle.gaspi_run.specs.Schedule.{HasSettled, HaveEnded}
+use Rattle.gaspi_run.specs.Endings.{HasSettled, HaveEnded}
 use Rattle.gaspi_run.specs.declared.turns.Turns.{Turns}
 use Rattle.gaspi_run.proofs.ScheduleLoop.{known, laws, turned-active, turned-own, turned-less, turned-more, over-legal, over-ended, over-settled, end_laws}
 use Rattle.gaspi_run.proofs.Joins.{join-laws}

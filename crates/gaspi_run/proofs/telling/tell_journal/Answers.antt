@@ -1,6 +1,6 @@
 use Rattle.std.proofs.Common.{Err, ap, inl, arith}
 use Rattle.text_lines.proofs.FedLines.{lines-short}
-use Rattle.gaspi_run.proofs.ToldInputs.{if-ok}
+use Rattle.gaspi_run.proofs.Answering.{if-ok}
 use Rattle.gaspi_run.proofs.telling.tell_journal.Goals as goal
 
 pub overflow_add-number : goal.overflow_add-number

@@ -1,0 +1,47 @@
+-- What is known of a world whose scripts ran on threads, and was closed. (own choice)
+use Rattle.std.specs.Prelude.{◌≡◌, ◌<◌, ℕ, false, List, ◌∷◌, ◌++◌, Some, slice_get}
+use Rattle.std.specs.List.{list_any}
+use mathlib.Core.List.{IsPrefix}
+use Rattle.gaspi_types.specs.World.{World}
+use Rattle.gaspi_types.specs.declared.events.Event.{Event}
+use Rattle.gaspi_types.specs.declared.events.Event.TheVariants.{Put}
+use Rattle.gaspi_types.specs.declared.events.Outcome.TheVariants.{Applied}
+use Rattle.gaspi_model.specs.Order.{IsWriteStanding, IsNotificationStanding, is_purge_of}
+use Rattle.gaspi_model.specs.Step.{own_calls}
+use Rattle.commit_table.specs.Calls.{TallyValue}
+use Rattle.commit_table.specs.declared.views.Known.{Known}
+use Rattle.rank_script.specs.Runs.{going_on}
+use Rattle.rank_script.specs.declared.scripts.Script.{Script}
+use Rattle.gaspi_world.specs.Callers.{events_of, IsPassOf}
+use Rattle.gaspi_world.specs.Waits.{Waited}
+use Rattle.gaspi_world.specs.declared.starts.Start.{Start}
+use Rattle.script_bodies.specs.Looks.{looks_along}
+
+-- The caller of a script had a pass of the world. What it did is in the journal, each call once, in order, with the reply that it got,
+-- and so are its joins; what it had seen is a beginning of the journal. None of its timeouts came before the looks of its line were
+-- spent: so many for a call that blocks. (GASPI: timeouts)
+pub record HadPass (w : World) (limit : ℕ) (journal : List Event) (passes : List (Known Start Event)) (script : Script) : Type 0 where
+  pub place : ℕ
+  pub pass : Known Start Event
+  pub there : slice_get passes place ≡ Some pass
+  pub caller : IsPassOf w script.caller pass
+  pub did : events_of script.caller journal ≡ pass.mine
+  pub saw : IsPrefix pass.seen journal
+  pub waited : Waited w script.caller journal pass.looks (looks_along limit (going_on script.lines) (own_calls script.caller.rank script.caller.thread journal))
+
+-- A closed world began as this one and has this journal, and the callers of these scripts had its passes.
+pub record IsTallied (w : World) (scripts : List Script) (limit : ℕ) (journal : List Event) (tally : TallyValue Start Event) : Type 0 where
+  pub start : Start
+  pub began : tally.start ≡ Some start
+  pub world : start.shape ≡ w
+  pub journal_is : tally.journal ≡ journal
+  pub passes : (place : ℕ) (script : Script) → slice_get scripts place ≡ Some script → HadPass w limit journal tally.passes script
+
+-- Each notification came after all earlier writes of its lane: of each write that stood in the lane with a smaller number, and was not
+-- purged since, the put stands before that of the notification. (GASPI: notification order)
+abbrev pub ComesAfterWrites : World → List Event → Type 0
+ComesAfterWrites w journal =
+    (earlier later rest : List Event) (origin queue target m n : ℕ) → earlier ++ later ++ Put origin queue target n Applied ∷ rest ≡ journal
+    → IsWriteStanding w earlier origin queue target m → IsNotificationStanding w (earlier ++ later) origin queue target n → m < n
+    → list_any (is_purge_of origin queue) later ≡ false
+    → (place : ℕ) × (slice_get later place ≡ Some (Put origin queue target m Applied))
