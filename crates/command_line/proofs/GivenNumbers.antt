@@ -1,6 +1,6 @@
--- `step --seed N --limit N --brief` gives just these numbers, word by word.
-use Rattle.std.proofs.Common.{◌≡◌, ◌∙◌, ◌<◌, ◌≤◌, ◌^◌, ◌==◌, ◌&&◌, ℕ, ℤ, Bool, cond, true, false, refl, sym, ap, ap₂, subst, arith, List, [], ◌∷◌, Option, Some, None, codes, ne_eqb, le-leb, lt-ltb, drop}
-use Rattle.std.specs.Prelude.{pos, neg_ℤ, int_le, fold, option_map, option_and_then}
+-- `run --workers 1 --limit N --brief` and `step --seed N --limit N --brief` give just these numbers, word by word.
+use Rattle.std.proofs.Common.{◌≡◌, ◌∙◌, ◌<◌, ◌≤◌, ◌^◌, ◌==◌, ◌&&◌, ℕ, ℤ, Bool, cond, true, false, refl, sym, ap, ap₂, subst, arith, List, [], ◌∷◌, Some, None, codes, ne_eqb, le-leb, lt-ltb, drop}
+use Rattle.std.specs.Prelude.{pos, neg_ℤ, int_le, fold}
 use Rattle.std.specs.Fmt.{decimal}
 use Rattle.std.specs.Str.{bytes_eq}
 use Rattle.std.specs.Str.Parse.{IsNumeral, digits_value, without_leading_plus, without_leading_sign, starts_with_minus, signed_digits_value}
@@ -15,11 +15,12 @@ use Rattle.clap.specs.Simple.{App, Shape, built, new_shape, rows_at, subcommand_
 use Rattle.clap.specs.declared.builder.value_parser.ValueParser.TheVariants.{Signed}
 use Rattle.clap.specs.declared.parser.matches.ValueSource.TheVariants.{CommandLine}
 use Rattle.clap.proofs.OnLiterals.{clap_on_literals}
-use Rattle.command_line.proofs.Ranges.{taken}
-use Rattle.command_line.proofs.TakenNumbers.{step_shape}
+use Rattle.command_line.proofs.Ranges.{both_given, taken}
+use Rattle.command_line.proofs.TakenNumbers.{run_shape, step_shape}
 use Rattle.command_line.proofs.Reading.{number_given, numeral_passes}
-use Rattle.command_line.specs.Words.{brief_rule, command_of, limit_rule, number_of, seed_rule, step_of, the_app, words_in}
-use Rattle.command_line.specs.declared.words.Command.TheVariants.{Step}
+use Rattle.command_line.specs.Words.{brief_rule, command_of, limit_rule, number_of, seed_rule, the_app, words_in, workers_rule}
+use Rattle.command_line.specs.declared.words.Command.{Command}
+use Rattle.command_line.specs.declared.words.Command.TheVariants.{Run, Step}
 
 -- ---- one word more
 
@@ -71,110 +72,182 @@ pub record IsPlainWord (t : Text) : Type 0 where
   pub long : long_of t ≡ None
   pub short : short_of t ≡ None
 
-module _ (s l : Text) (sp : IsPlainWord s) (lp : IsPlainWord l)
-    (s_in : accepts false (Signed (pos 0) (pos 4294967295)) s ≡ true) (l_in : accepts false (Signed (pos 1) (pos 100000000)) l ≡ true) where
-  abbrev given : List Text
-  given = codes "--seed" ∷ s ∷ codes "--limit" ∷ l ∷ codes "--brief" ∷ []
+-- the subcommands with numbers, and the first option of each
+data Numbered : Type 0 where
+  of_run : Numbered
+  of_step : Numbered
 
-  abbrev seed_row : List Row
-  seed_row = row_given seed_rule s ∷ []
+abbrev name_of : Numbered → Text
+name_of of_run = codes "run"
+name_of of_step = codes "step"
 
-  abbrev end : Walk
-  end = record {
-    held = record { rows = row_given seed_rule s ∷ row_given limit_rule l ∷ row_given (Rattle.clap.specs.Simple.filled brief_rule) (codes "true") ∷ []; pending = None; skip = 0 };
+abbrev shape_of : Numbered → Shape
+shape_of of_run = run_shape
+shape_of of_step = step_shape
+
+abbrev first_rule : Numbered → Rule
+first_rule of_run = workers_rule
+first_rule of_step = seed_rule
+
+abbrev first_word : Numbered → Text
+first_word of_run = codes "--workers"
+first_word of_step = codes "--seed"
+
+abbrev least : Numbered → ℕ
+least of_run = 1
+least of_step = 0
+
+abbrev most : Numbered → ℕ
+most of_run = 1
+most of_step = 4294967295
+
+abbrev command_by : Numbered → ℕ → ℕ → Command
+command_by of_run m n = Run m n true
+command_by of_step m n = Step m n true
+
+module _ (f l : Text) (fp : IsPlainWord f) (lp : IsPlainWord l) where
+  abbrev given : Numbered → List Text
+  given c = first_word c ∷ f ∷ codes "--limit" ∷ l ∷ codes "--brief" ∷ []
+
+  abbrev start : Walk
+  start = walk_from nothing_held
+
+  abbrev at_first : Numbered → Walk
+  at_first c = after_option (first_rule c).id []
+
+  abbrev past_first : Numbered → Walk
+  past_first c = after_value (first_rule c).id [] f
+
+  abbrev at_limit : Numbered → Walk
+  at_limit c = after_option (codes "limit") (row_given (first_rule c) f ∷ [])
+
+  abbrev past_limit : Numbered → Walk
+  past_limit c = after_value (codes "limit") (row_given (first_rule c) f ∷ []) l
+
+  abbrev end : Numbered → Walk
+  end c = record {
+    held = record { rows = row_given (first_rule c) f ∷ row_given limit_rule l ∷ row_given (Rattle.clap.specs.Simple.filled brief_rule) (codes "true") ∷ []; pending = None; skip = 0 };
     waiting = idle;
     position = 1;
     is_trailing = false;
     stopped = None;
   }
 
-  to_seed : walked step_shape.rules [] (walk_from nothing_held) (codes "--seed") ≡ after_option (codes "seed") []
+  first_met : (c : Numbered) → walked (shape_of c).rules [] start (first_word c) ≡ at_first c
   unfolding clap_on_literals
-  to_seed = refl
+  first_met of_run = refl
+  first_met of_step = refl
 
-  past_seed : walked step_shape.rules [] (after_option (codes "seed") []) s ≡ after_value (codes "seed") [] s
+  first_value_met : (c : Numbered) → walked (shape_of c).rules [] (at_first c) f ≡ past_first c
   unfolding walked
-  past_seed = rw (sp.dashes, sp.long, sp.short) refl
+  first_value_met of_run = rw (fp.dashes, fp.long, fp.short) refl
+  first_value_met of_step = rw (fp.dashes, fp.long, fp.short) refl
 
-  to_limit : walked step_shape.rules [] (after_value (codes "seed") [] s) (codes "--limit") ≡ after_option (codes "limit") seed_row
+  limit_met : (c : Numbered) → walked (shape_of c).rules [] (past_first c) (codes "--limit") ≡ at_limit c
   unfolding clap_on_literals
-  to_limit = refl
+  limit_met of_run = refl
+  limit_met of_step = refl
 
-  past_limit : walked step_shape.rules [] (after_option (codes "limit") seed_row) l ≡ after_value (codes "limit") seed_row l
+  limit_value_met : (c : Numbered) → walked (shape_of c).rules [] (at_limit c) l ≡ past_limit c
   unfolding walked
-  past_limit = rw (lp.dashes, lp.long, lp.short) refl
+  limit_value_met of_run = rw (lp.dashes, lp.long, lp.short) refl
+  limit_value_met of_step = rw (lp.dashes, lp.long, lp.short) refl
 
-  to_end : walked step_shape.rules [] (after_value (codes "limit") seed_row l) (codes "--brief") ≡ end
+  brief_met : (c : Numbered) → walked (shape_of c).rules [] (past_limit c) (codes "--brief") ≡ end c
   unfolding clap_on_literals
-  to_end = refl
+  brief_met of_run = refl
+  brief_met of_step = refl
 
-  seed_turn : turn_fault step_shape [] (walk_from nothing_held) (codes "--seed") ≡ []
+  first_turn : (c : Numbered) → turn_fault (shape_of c) [] start (first_word c) ≡ []
   unfolding clap_on_literals
-  seed_turn = refl
+  first_turn of_run = refl
+  first_turn of_step = refl
 
-  seed_value_turn : turn_fault step_shape [] (after_option (codes "seed") []) s ≡ []
-  seed_value_turn = rw (sp.dashes, sp.long, sp.short) refl
+  first_value_turn : (c : Numbered) → turn_fault (shape_of c) [] (at_first c) f ≡ []
+  first_value_turn of_run = rw (fp.dashes, fp.long, fp.short) refl
+  first_value_turn of_step = rw (fp.dashes, fp.long, fp.short) refl
 
-  limit_turn : turn_fault step_shape [] (after_value (codes "seed") [] s) (codes "--limit") ≡ []
+  limit_turn : (c : Numbered) → accepts false (Signed (pos (least c)) (pos (most c))) f ≡ true → turn_fault (shape_of c) [] (past_first c) (codes "--limit") ≡ []
   unfolding clap_on_literals
-  limit_turn = rw s_in refl
+  limit_turn of_run f_in = rw f_in refl
+  limit_turn of_step f_in = rw f_in refl
 
-  limit_value_turn : turn_fault step_shape [] (after_option (codes "limit") seed_row) l ≡ []
-  limit_value_turn = rw (lp.dashes, lp.long, lp.short) refl
+  limit_value_turn : (c : Numbered) → turn_fault (shape_of c) [] (at_limit c) l ≡ []
+  limit_value_turn of_run = rw (lp.dashes, lp.long, lp.short) refl
+  limit_value_turn of_step = rw (lp.dashes, lp.long, lp.short) refl
 
-  brief_turn : turn_fault step_shape [] (after_value (codes "limit") seed_row l) (codes "--brief") ≡ []
+  brief_turn : (c : Numbered) → accepts false (Signed (pos 1) (pos 100000000)) l ≡ true → turn_fault (shape_of c) [] (past_limit c) (codes "--brief") ≡ []
   unfolding clap_on_literals
-  brief_turn = rw l_in refl
+  brief_turn of_run l_in = rw l_in refl
+  brief_turn of_step l_in = rw l_in refl
 
-  words_pass : walk_fault step_shape [] (walk_from nothing_held) given ≡ []
-  unfolding walk_fault
-  words_pass =
-      fault_more step_shape [] (walk_from nothing_held) (after_option (codes "seed") []) (codes "--seed")
-      (s ∷ codes "--limit" ∷ l ∷ codes "--brief" ∷ []) seed_turn to_seed
-      (fault_more step_shape [] (after_option (codes "seed") []) (after_value (codes "seed") [] s) s
-      (codes "--limit" ∷ l ∷ codes "--brief" ∷ []) seed_value_turn past_seed
-      (fault_more step_shape [] (after_value (codes "seed") [] s) (after_option (codes "limit") seed_row) (codes "--limit")
-      (l ∷ codes "--brief" ∷ []) limit_turn to_limit
-      (fault_more step_shape [] (after_option (codes "limit") seed_row) (after_value (codes "limit") seed_row l) l
-      (codes "--brief" ∷ []) limit_value_turn past_limit
-      (fault_more step_shape [] (after_value (codes "limit") seed_row l) end (codes "--brief") [] brief_turn to_end refl))))
-
-  abbrev after : Walk → List Text → Walk
-  after w words = fold (walked step_shape.rules []) w words
-
-  walk_ends : walk step_shape.rules [] nothing_held given ≡ end
-  walk_ends =
-      ap (λ (w : Walk). after w (s ∷ codes "--limit" ∷ l ∷ codes "--brief" ∷ [])) to_seed
-      ∙ ap (λ (w : Walk). after w (codes "--limit" ∷ l ∷ codes "--brief" ∷ [])) past_seed
-      ∙ ap (λ (w : Walk). after w (l ∷ codes "--brief" ∷ [])) to_limit
-      ∙ ap (λ (w : Walk). after w (codes "--brief" ∷ [])) past_limit
-      ∙ to_end
-
-  step_passes : level_fault step_shape [] nothing_held given false [] ≡ []
-  unfolding clap_on_literals
-  step_passes = level_passes step_shape [] given end.held words_pass (ap (λ (w : Walk). w.held) walk_ends) refl refl refl
-
-  all_passes : fault_of the_app (codes "step" ∷ given) ≡ or_else (level_fault step_shape [] nothing_held given false []) []
+  all_pass : (c : Numbered) → fault_of the_app (name_of c ∷ given c) ≡ or_else (level_fault (shape_of c) [] nothing_held (given c) false []) []
   unfolding walked walk_fault defaults_fault
-  all_passes = refl
+  all_pass of_run = refl
+  all_pass of_step = refl
 
-  entered : subcommand_of the_app (codes "step" ∷ given) ≡ Some (codes "step", rows_after step_shape.rules [] given)
+  settles : (c : Numbered) → settle_fault (shape_of c).rules (shape_of c).args_override_self (end c).held ≡ []
+  settles of_run = refl
+  settles of_step = refl
+
+  defaults : (c : Numbered) → defaults_fault (settled (shape_of c).rules (end c).held).rows (shape_of c).rules ≡ []
+  unfolding clap_on_literals
+  defaults of_run = refl
+  defaults of_step = refl
+
+  checks : (c : Numbered) → check_fault (shape_of c) (finished (shape_of c).rules (end c).held) false ≡ []
+  checks of_run = refl
+  checks of_step = refl
+
+  finishes : (c : Numbered) → finished (shape_of c).rules (end c).held ≡ (end c).held.rows
+  finishes of_run = refl
+  finishes of_step = refl
+
+  is_entered : (c : Numbered) → subcommand_of the_app (name_of c ∷ given c) ≡ Some (name_of c, rows_after (shape_of c).rules [] (given c))
   unfolding walked
-  entered = refl
+  is_entered of_run = refl
+  is_entered of_step = refl
 
-  rows_are : rows_after step_shape.rules [] given ≡ end.held.rows
-  rows_are = ap (λ (w : Walk). finished step_shape.rules w.held) walk_ends
+  rows_read : (c : Numbered) (m n : ℕ) → number_of (without_minus f) ≡ Some m → number_of (without_minus l) ≡ Some n
+      → words_in (Some (name_of c, (end c).held.rows)) ≡ Some (command_by c m n)
+  rows_read of_run m n first limit = both_given (λ x y. Run x y true) (number_of (without_minus f)) (number_of (without_minus l)) m n first limit
+  rows_read of_step m n first limit = both_given (λ x y. Step x y true) (number_of (without_minus f)) (number_of (without_minus l)) m n first limit
 
-  step_is : (m n : ℕ) → number_of (without_minus s) ≡ Some m → number_of (without_minus l) ≡ Some n
-      → step_of end.held.rows ≡ Some (Step m n true)
-  step_is m n seed limit =
-      ap₂ (λ (a b : Option ℕ). option_and_then (λ x. option_map (λ y. Step x y true) b) a) seed limit
+  module _ (c : Numbered) (f_in : accepts false (Signed (pos (least c)) (pos (most c))) f ≡ true) (l_in : accepts false (Signed (pos 1) (pos 100000000)) l ≡ true) where
+    abbrev s : Shape
+    s = shape_of c
 
-  given_words : (m n : ℕ) → number_of (without_minus s) ≡ Some m → number_of (without_minus l) ≡ Some n
-      → command_of (codes "step" ∷ given) ≡ Some (Step m n true)
-  given_words m n seed limit =
-      sym (taken (codes "step" ∷ given) (all_passes ∙ ap (λ (kinds : Kinds). or_else kinds []) step_passes))
-      ∙ ap words_in entered ∙ ap step_of rows_are ∙ step_is m n seed limit
+    words_pass : walk_fault s [] start (given c) ≡ []
+    unfolding walk_fault
+    words_pass =
+        fault_more s [] start (at_first c) (first_word c) (f ∷ codes "--limit" ∷ l ∷ codes "--brief" ∷ []) (first_turn c) (first_met c)
+        (fault_more s [] (at_first c) (past_first c) f (codes "--limit" ∷ l ∷ codes "--brief" ∷ []) (first_value_turn c) (first_value_met c)
+        (fault_more s [] (past_first c) (at_limit c) (codes "--limit") (l ∷ codes "--brief" ∷ []) (limit_turn c f_in) (limit_met c)
+        (fault_more s [] (at_limit c) (past_limit c) l (codes "--brief" ∷ []) (limit_value_turn c) (limit_value_met c)
+        (fault_more s [] (past_limit c) (end c) (codes "--brief") [] (brief_turn c l_in) (brief_met c) refl))))
+
+    abbrev after : Walk → List Text → Walk
+    after w words = fold (walked s.rules []) w words
+
+    walk_ends : walk s.rules [] nothing_held (given c) ≡ end c
+    walk_ends =
+        ap (λ (w : Walk). after w (f ∷ codes "--limit" ∷ l ∷ codes "--brief" ∷ [])) (first_met c)
+        ∙ ap (λ (w : Walk). after w (codes "--limit" ∷ l ∷ codes "--brief" ∷ [])) (first_value_met c)
+        ∙ ap (λ (w : Walk). after w (l ∷ codes "--brief" ∷ [])) (limit_met c)
+        ∙ ap (λ (w : Walk). after w (codes "--brief" ∷ [])) (limit_value_met c)
+        ∙ brief_met c
+
+    level_is_free : level_fault s [] nothing_held (given c) false [] ≡ []
+    level_is_free = level_passes s [] (given c) (end c).held words_pass (ap (λ (w : Walk). w.held) walk_ends) (settles c) (defaults c) (checks c)
+
+    rows_are : rows_after s.rules [] (given c) ≡ (end c).held.rows
+    rows_are = ap (λ (w : Walk). finished s.rules w.held) walk_ends ∙ finishes c
+
+    given_words : (m n : ℕ) → number_of (without_minus f) ≡ Some m → number_of (without_minus l) ≡ Some n
+        → command_of (name_of c ∷ given c) ≡ Some (command_by c m n)
+    given_words m n first limit =
+        sym (taken (name_of c ∷ given c) (all_pass c ∙ ap (λ (kinds : Kinds). or_else kinds []) level_is_free))
+        ∙ ap words_in (is_entered c ∙ ap (λ (rows : List Row). Some (name_of c, rows)) rows_are) ∙ rows_read c m n first limit
 
 -- ---- numbers in decimal
 
@@ -222,14 +295,25 @@ read t h n is most =
     let numeral : IsNumeral 10 (without_leading_plus t) = subst (IsNumeral 10) (sym (no_plus t h)) h in
     ap number_of (no_minus t h) ∙ number_given t n numeral (ap (digits_value 10) (no_plus t h) ∙ is) most
 
-pub given_numbers : (seed limit : ℕ) → seed ≤ 4294967295 → 1 ≤ limit → limit ≤ 100000000
-    → command_of (codes "step" ∷ codes "--seed" ∷ decimal seed ∷ codes "--limit" ∷ decimal limit ∷ codes "--brief" ∷ []) ≡ Some (Step seed limit true)
-given_numbers seed limit seed_most limit_least limit_most =
-    let s = decimal_is_IsNumeral seed (omega arith) in
-    let l = decimal_is_IsNumeral limit (omega arith) in
-    given_words (decimal seed) (decimal limit) (plain_numeral (decimal seed) s.0) (plain_numeral (decimal limit) l.0)
-    (accepted (decimal seed) s.0 0 4294967295 seed s.1 (omega arith) seed_most (omega arith))
-    (accepted (decimal limit) l.0 1 100000000 limit l.1 limit_least limit_most (omega arith))
-    seed limit
-    (read (decimal seed) s.0 seed s.1 seed_most)
-    (read (decimal limit) l.0 limit l.1 (omega arith))
+module _ (limit : ℕ) (limit_least : 1 ≤ limit) (limit_most : limit ≤ 100000000) where
+  abbrev limit_numeral : IsNumeral 10 (decimal limit) × (digits_value 10 (decimal limit) ≡ limit)
+  limit_numeral = decimal_is_IsNumeral limit (omega arith)
+
+  limit_accepted : accepts false (Signed (pos 1) (pos 100000000)) (decimal limit) ≡ true
+  limit_accepted = accepted (decimal limit) limit_numeral.0 1 100000000 limit limit_numeral.1 limit_least limit_most (omega arith)
+
+  limit_read : number_of (without_minus (decimal limit)) ≡ Some limit
+  limit_read = read (decimal limit) limit_numeral.0 limit limit_numeral.1 (omega arith)
+
+  pub given_limit : command_of (codes "run" ∷ codes "--workers" ∷ codes "1" ∷ codes "--limit" ∷ decimal limit ∷ codes "--brief" ∷ []) ≡ Some (Run 1 limit true)
+  given_limit =
+      given_words (codes "1") (decimal limit) (record { dashes = refl; long = refl; short = refl }) (plain_numeral (decimal limit) limit_numeral.0)
+      of_run refl limit_accepted 1 limit refl limit_read
+
+  pub given_numbers : (seed : ℕ) → seed ≤ 4294967295
+      → command_of (codes "step" ∷ codes "--seed" ∷ decimal seed ∷ codes "--limit" ∷ decimal limit ∷ codes "--brief" ∷ []) ≡ Some (Step seed limit true)
+  given_numbers seed seed_most =
+      let numeral = decimal_is_IsNumeral seed (omega arith) in
+      given_words (decimal seed) (decimal limit) (plain_numeral (decimal seed) numeral.0) (plain_numeral (decimal limit) limit_numeral.0)
+      of_step (accepted (decimal seed) numeral.0 0 4294967295 seed numeral.1 (omega arith) seed_most (omega arith)) limit_accepted seed limit
+      (read (decimal seed) numeral.0 seed numeral.1 seed_most) limit_read

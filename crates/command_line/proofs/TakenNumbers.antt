@@ -4,7 +4,7 @@ use Rattle.std.specs.Prelude.{⊤, pos, not, find, fold, is_some, option_and_the
 use Rattle.std.specs.Str.{bytes_eq, chars}
 use Rattle.std.specs.Str.Parse.{ParsesUnsigned}
 use Rattle.std.proofs.lemmas.Slice.Eq.{bytes_eq-Decides}
-use Rattle.std.specs.List.{AllByRecursion}
+use Rattle.std.specs.List.{AllByRecursion, list_any}
 use Rattle.std.specs.Option.{option_map_or}
 use Rattle.clap.specs.Lexer.{long_of, short_of, without_minus}
 use Rattle.clap.specs.ValueTests.{accepts}
@@ -13,35 +13,36 @@ use Rattle.clap.specs.declared.error.kind.ErrorKind.{ErrorKind}
 use Rattle.clap.specs.declared.error.kind.ErrorKind.TheVariants.{ArgumentConflict, TooManyValues}
 use Rattle.clap.specs.Kinds.{Kinds, or_else, range_kinds, value_kinds, values_kinds}
 use Rattle.clap.specs.Faults.{check_fault, defaults_fault, flag_word_fault, level_fault, long_fault, option_fault, other_fault, react_fault, repeat_fault, set_fault, settle_fault, step_fault, turn_fault, use_fault, values_fault, walk_fault, word_fault}
-use Rattle.clap.specs.Walk.{Held, Outcome, Row, Rule, Step, Text, Waiting, Walk, after_flag, after_step, arg_by_id, arg_by_long, at_row, bundle_met, bundle_step, default_rows, done, finished, flag_met, has_row, idle, long_met, has_long, long_or_other, more_values, next, nothing_held, option, option_met, option_word, plain, plain_word, positional, reading_by, refused, row_text, rows_after, settled, settled_rows, short_or_plain, subcommand, subcommand_met, subcommand_or_other, takes_values, trailing, used, used_by_id, value, values_or_missing, waits, walk, walk_from, walked, walked_from, with_default, with_values, without, word_met}
-use Rattle.clap.specs.Simple.{Shape, built, filled, new_shape, with_index}
+use Rattle.clap.specs.Walk.{Held, Outcome, Row, Rule, Step, Text, Waiting, Walk, after_flag, after_step, arg_by_id, arg_by_index, arg_by_long, arg_by_short, at_row, bundle_met, bundle_step, default_rows, done, finished, flag_met, has_row, idle, long_met, has_long, long_or_other, more_values, next, nothing_held, option, option_met, option_word, plain, plain_word, positional, reading_by, refused, row_text, rows_after, settled, settled_rows, short_met, short_or_plain, subcommand, subcommand_met, subcommand_or_other, takes_values, to_positional, trailing, used, used_by_id, value, values_or_missing, waits, walk, walk_from, walked, walked_from, with_default, with_values, without, word_met}
+use Rattle.clap.specs.Simple.{Shape, built, filled, new_rule, new_shape, with_index}
 use Rattle.clap.specs.declared.builder.value_parser.ValueParser.{ValueParser}
+use Rattle.clap.specs.declared.builder.action.ArgAction.TheVariants.{Set}
 use Rattle.clap.specs.declared.builder.value_parser.ValueParser.TheVariants.{Signed}
 use Rattle.clap.specs.declared.parser.matches.ValueSource.{ValueSource}
 use Rattle.clap.specs.declared.parser.matches.ValueSource.TheVariants.{CommandLine, DefaultValue}
 use Rattle.clap.proofs.ValueTestLemmas.{accepts-Accepts}
 use Rattle.clap.proofs.CallerReads.{signed_reads}
-use Rattle.command_line.specs.Words.{brief_rule, limit_rule, number_at, number_of, seed_rule, the_app}
+use Rattle.command_line.specs.Words.{brief_rule, number_at, number_of, the_app}
 use Rattle.command_line.proofs.Reading.{reads_own}
 
--- ---- the subcommand as it is built
+-- ---- the subcommands as they are built
 
 abbrev first_shape : List Shape → Shape
 first_shape [] = new_shape []
 first_shape (s ∷ rest) = s
 
-abbrev pub step_shape : Shape
-step_shape = first_shape (built the_app).subs
+abbrev later_shapes : List Shape → List Shape
+later_shapes [] = []
+later_shapes (s ∷ rest) = rest
 
-abbrev second_shape : List Shape → Shape
-second_shape [] = new_shape []
-second_shape (s ∷ rest) = first_shape rest
+abbrev pub run_shape : Shape
+run_shape = first_shape (built the_app).subs
+
+abbrev pub step_shape : Shape
+step_shape = first_shape (later_shapes (built the_app).subs)
 
 abbrev pub check_shape : Shape
-check_shape = second_shape (built the_app).subs
-
-abbrev rules : List Rule
-rules = step_shape.rules
+check_shape = first_shape (later_shapes (later_shapes (built the_app).subs))
 
 -- ---- lists of kinds
 
@@ -99,19 +100,11 @@ no_row id rows e = go (has_row id rows) refl e
     go false is h = is
     go true is h = absurd (cons≢nil h)
 
--- ---- one walk, and what holds of each row of it
+-- ---- what a use of an argument keeps of each row
 
 module _ (P : Row → Type 0) where
   abbrev AllGood : List Row → Type 0
   AllGood rows = AllByRecursion P rows
-
-  -- a use of the argument that clap takes keeps it
-  abbrev Keeps : Rule → Type 0
-  Keeps b = (values : List Text) (rows : List Row) → use_fault false b values rows ≡ [] → AllGood rows → AllGood (used b values rows)
-
-  abbrev FoundKeeps : Option Rule → Type 0
-  FoundKeeps None = ⊤
-  FoundKeeps (Some b) = Keeps b
 
   -- a value set where no row has the id
   set_keeps : (b : Rule) (values : List Text) (rows : List Row) → set_fault false b values rows ≡ []
@@ -123,85 +116,114 @@ module _ (P : Row → Type 0) where
       subst AllGood (sym (ap (with_values b.id (reading_by b) CommandLine values) same ∙ given_at_end b CommandLine values rows free))
       (all_more P rows (new_row b CommandLine values) all (one (none_second _ (values_fault b values) e)))
 
-  module _ (keeps : (p : Rule → Bool) → FoundKeeps (find p rules)) where
-    by_id : (o : Option Rule) → FoundKeeps o → (values : List Text) (rows : List Row)
-        → option_map_or (λ a. use_fault false a values rows) o [] ≡ [] → AllGood rows → AllGood (used_by_id o values rows)
+  -- a use of the argument that clap takes keeps it
+  abbrev Keeps : Bool → Rule → Type 0
+  Keeps again b = (values : List Text) (rows : List Row) → use_fault again b values rows ≡ [] → AllGood rows → AllGood (used b values rows)
+
+  abbrev FoundKeeps : Bool → Option Rule → Type 0
+  FoundKeeps again None = ⊤
+  FoundKeeps again (Some b) = Keeps again b
+
+-- ---- one walk, and what holds of each row of it
+
+-- no argument has a short name or a position
+record HasLongNamesAlone (s : Shape) : Type 0 where
+  shorts : (x : ℕ) → arg_by_short s.rules x ≡ None
+  positionals : (i : ℕ) → arg_by_index s.rules i ≡ None
+
+some≢none : {X : Type 0} {x : X} → Some x ≡ None → ⊥
+some≢none e = true≢false (ap (λ o. is_some o) e)
+
+module _ (s : Shape) (named : HasLongNamesAlone s) (P : Row → Type 0) where
+  abbrev rules : List Rule
+  rules = s.rules
+
+  abbrev again : Bool
+  again = s.args_override_self
+
+  module _ (keeps : (p : Rule → Bool) → FoundKeeps P again (find p rules)) where
+    by_id : (o : Option Rule) → FoundKeeps P again o → (values : List Text) (rows : List Row)
+        → option_map_or (λ a. use_fault again a values rows) o [] ≡ [] → AllGood P rows → AllGood P (used_by_id o values rows)
     by_id None k values rows e all = all
     by_id (Some b) k values rows e all = k values rows e all
 
     pending_keeps : (o : Option (Text × List Text)) (rows : List Row)
-        → option_map_or (λ p. option_map_or (λ a. use_fault false a p.1 rows) (arg_by_id rules p.0) []) o [] ≡ []
-        → AllGood rows → AllGood (settled_rows rules o rows)
+        → option_map_or (λ p. option_map_or (λ a. use_fault again a p.1 rows) (arg_by_id rules p.0) []) o [] ≡ []
+        → AllGood P rows → AllGood P (settled_rows rules o rows)
     pending_keeps None rows e all = all
     pending_keeps (Some p) rows e all = by_id (arg_by_id rules p.0) (keeps (λ a. bytes_eq a.id p.0)) p.1 rows e all
 
-    settled_keeps : (h : Held) → settle_fault rules false h ≡ [] → AllGood h.rows → AllGood (settled rules h).rows
+    settled_keeps : (h : Held) → settle_fault rules again h ≡ [] → AllGood P h.rows → AllGood P (settled rules h).rows
     settled_keeps h e all = pending_keeps h.pending h.rows e all
 
-    reacted_keeps : (b : Rule) → Keeps b → (values : List Text) (h : Held) → react_fault rules false b values h ≡ [] → AllGood h.rows
-        → AllGood (used b values (settled rules h).rows)
+    reacted_keeps : (b : Rule) → Keeps P again b → (values : List Text) (h : Held) → react_fault rules again b values h ≡ [] → AllGood P h.rows
+        → AllGood P (used b values (settled rules h).rows)
     reacted_keeps b k values h e all =
-        k values (settled rules h).rows (none_second (settle_fault rules false h) _ e)
-        (settled_keeps h (none_first (settle_fault rules false h) (use_fault false b values (settled rules h).rows) e) all)
+        k values (settled rules h).rows (none_second (settle_fault rules again h) _ e)
+        (settled_keeps h (none_first (settle_fault rules again h) (use_fault again b values (settled rules h).rows) e) all)
 
-    long_keeps : (o : Option Rule) → FoundKeeps o → (v : Option Text) (h : Held) → long_fault rules false o v h ≡ [] → AllGood h.rows
-        → AllGood (long_met rules o v h).0.rows
+    long_keeps : (o : Option Rule) → FoundKeeps P again o → (v : Option Text) (h : Held) → long_fault rules again o v h ≡ [] → AllGood P h.rows
+        → AllGood P (long_met rules o v h).0.rows
     long_keeps None k v h e all = all
     long_keeps (Some b) k v h e all = go (takes_values b) v e
       where
         go : (t : Bool) (w : Option Text)
-            → (if t then option_fault rules false b w h else (if is_some w then TooManyValues ∷ [] else react_fault rules false b [] h)) ≡ []
-            → AllGood (if t then option_met rules b w h else flag_met rules b w h).0.rows
+            → (if t then option_fault rules again b w h else (if is_some w then TooManyValues ∷ [] else react_fault rules again b [] h)) ≡ []
+            → AllGood P (if t then option_met rules b w h else flag_met rules b w h).0.rows
         go true (Some x) f = reacted_keeps b k (x ∷ []) h f all
         go true None f = settled_keeps h f all
         go false (Some x) f = all
         go false None f = reacted_keeps b k [] h f all
 
-    option_keeps : (o : Option Rule) (id word : Text) (h : Held) → AllGood h.rows → AllGood (option_word o id word h).0.rows
+    option_keeps : (o : Option Rule) (id word : Text) (h : Held) → AllGood P h.rows → AllGood P (option_word o id word h).0.rows
     option_keeps None id word h all = all
     option_keeps (Some a) id word h all = all
 
-    plain_keeps : (waiting : Waiting) (word : Text) (h : Held) → AllGood h.rows → AllGood (plain_word rules waiting word h).0.rows
+    plain_keeps : (waiting : Waiting) (word : Text) (h : Held) → AllGood P h.rows → AllGood P (plain_word rules waiting word h).0.rows
     plain_keeps idle word h all = all
     plain_keeps (option id) word h all = option_keeps (arg_by_id rules id) id word h all
     plain_keeps positional word h all = all
 
-    flag_keeps : (waiting : Waiting) (word : Text) (h : Held) (outcome : Outcome) → AllGood h.rows → AllGood (after_flag rules waiting word h outcome).0.rows
+    flag_keeps : (waiting : Waiting) (word : Text) (h : Held) (outcome : Outcome) → AllGood P h.rows → AllGood P (after_flag rules waiting word h outcome).0.rows
     flag_keeps waiting word h done all = all
     flag_keeps waiting word h (waits id) all = all
     flag_keeps waiting word h plain all = plain_keeps waiting word h all
     flag_keeps waiting word h refused all = plain_keeps waiting word h all
 
-    bundle_keeps : (k : ℕ) (flags : Text) (skip : ℕ) (outcome : Outcome) (h : Held) → AllGood h.rows → AllGood (bundle_met rules k flags skip outcome h).0.rows
+    short_keeps : (o : Option Rule) (rest : Text) (h : Held) (more : Held → Held × Outcome) → o ≡ None → AllGood P h.rows → AllGood P (short_met rules o rest h more).0.rows
+    short_keeps None rest h more none all = all
+    short_keeps (Some b) rest h more none all = absurd (some≢none none)
+
+    bundle_keeps : (k : ℕ) (flags : Text) (skip : ℕ) (outcome : Outcome) (h : Held) → AllGood P h.rows → AllGood P (bundle_met rules k flags skip outcome h).0.rows
     unfolding bundle_met
     bundle_keeps zero flags skip outcome h all = all
     bundle_keeps (suc k) flags skip outcome h all =
         go (slice_get (chars flags) 0) skip (λ rest n. bundle_keeps k rest n outcome h all)
       where
-        go : (c : Option ℕ) (n : ℕ) → ((rest : Text) (m : ℕ) → AllGood (bundle_met rules k rest m outcome h).0.rows)
-            → AllGood (bundle_step rules c flags n outcome h (bundle_met rules k)).0.rows
+        go : (c : Option ℕ) (n : ℕ) → ((rest : Text) (m : ℕ) → AllGood P (bundle_met rules k rest m outcome h).0.rows)
+            → AllGood P (bundle_step rules c flags n outcome h (bundle_met rules k)).0.rows
         go None n more = all
-        go (Some x) zero more = all
+        go (Some x) zero more = short_keeps (arg_by_short rules x) _ h _ (named.shorts x) all
         go (Some x) (suc n) more = more _ n
 
-    short_keeps : (waiting : Waiting) (word : Text) (o : Option Text) (h : Held) → AllGood h.rows → AllGood (short_or_plain rules waiting word o h).0.rows
-    short_keeps waiting word None h all = plain_keeps waiting word h all
-    short_keeps waiting word (Some flags) h all =
+    bundled_keeps : (waiting : Waiting) (word : Text) (o : Option Text) (h : Held) → AllGood P h.rows → AllGood P (short_or_plain rules waiting word o h).0.rows
+    bundled_keeps waiting word None h all = plain_keeps waiting word h all
+    bundled_keeps waiting word (Some flags) h all =
         flag_keeps waiting word _ _ (bundle_keeps (length flags) flags h.skip plain (record h { skip = 0 }) all)
 
-    dashed_keeps : (waiting : Waiting) (word : Text) (o : Option (Text × Option Text)) (h : Held) → flag_word_fault rules false o word h ≡ [] → AllGood h.rows
-        → AllGood (long_or_other rules waiting word o h).0.rows
-    dashed_keeps waiting word None h e all = short_keeps waiting word (short_of word) h all
+    dashed_keeps : (waiting : Waiting) (word : Text) (o : Option (Text × Option Text)) (h : Held) → flag_word_fault rules again o word h ≡ [] → AllGood P h.rows
+        → AllGood P (long_or_other rules waiting word o h).0.rows
+    dashed_keeps waiting word None h e all = bundled_keeps waiting word (short_of word) h all
     dashed_keeps waiting word (Some p) h e all =
         flag_keeps waiting word _ _ (long_keeps (arg_by_long rules p.0) (keeps (λ a. not (is_some a.index) && has_long a p.0)) p.1 h e all)
 
-    named_keeps : (o : Option Text) (waiting : Waiting) (position : ℕ) (word : Text) (h : Held) → o ≡ None → other_fault step_shape o word h ≡ [] → AllGood h.rows
-        → AllGood (subcommand_or_other rules o waiting position word h).0.rows
+    named_keeps : (o : Option Text) (waiting : Waiting) (position : ℕ) (word : Text) (h : Held) → o ≡ None → other_fault s o word h ≡ [] → AllGood P h.rows
+        → AllGood P (subcommand_or_other rules o waiting position word h).0.rows
     named_keeps (Some name) waiting position word h none e all = all
     named_keeps None waiting position word h none e all = go (bytes_eq word (45 ∷ 45 ∷ [])) e
       where
-        go : (b : Bool) → (if b then [] else flag_word_fault rules false (long_of word) word h) ≡ []
-            → AllGood (if b then (h, trailing position) else long_or_other rules waiting word (long_of word) h).0.rows
+        go : (b : Bool) → (if b then [] else flag_word_fault rules again (long_of word) word h) ≡ []
+            → AllGood P (if b then (h, trailing position) else long_or_other rules waiting word (long_of word) h).0.rows
         go true f = all
         go false f = dashed_keeps waiting word (long_of word) h f all
 
@@ -210,19 +232,23 @@ module _ (P : Row → Type 0) where
     no_subcommand (option id) word = refl
     no_subcommand positional word = refl
 
-    word_keeps : (is_trailing : Bool) (waiting : Waiting) (position : ℕ) (word : Text) (h : Held) → word_fault step_shape [] is_trailing waiting word h ≡ []
-        → AllGood h.rows → AllGood (word_met rules [] is_trailing waiting position word h).0.rows
+    word_keeps : (is_trailing : Bool) (waiting : Waiting) (position : ℕ) (word : Text) (h : Held) → word_fault s [] is_trailing waiting word h ≡ []
+        → AllGood P h.rows → AllGood P (word_met rules [] is_trailing waiting position word h).0.rows
     word_keeps true waiting position word h e all = all
     word_keeps false waiting position word h e all =
         named_keeps (subcommand_met [] waiting word) waiting position word h (no_subcommand waiting word) e all
 
-    step_keeps : (word : Text) (w : Walk) (h : Held) (step : Step) → AllGood h.rows → AllGood (after_step rules word w h step).held.rows
+    positional_keeps : (o : Option Rule) (word : Text) (w : Walk) (h : Held) → o ≡ None → AllGood P h.rows → AllGood P (to_positional rules o word w h).held.rows
+    positional_keeps None word w h none all = all
+    positional_keeps (Some b) word w h none all = absurd (some≢none none)
+
+    step_keeps : (word : Text) (w : Walk) (h : Held) (step : Step) → AllGood P h.rows → AllGood P (after_step rules word w h step).held.rows
     step_keeps word w h (next waiting) all = all
     step_keeps word w h (trailing position) all = all
     step_keeps word w h (subcommand name) all = all
-    step_keeps word w h value all = all
+    step_keeps word w h value all = positional_keeps (arg_by_index rules w.position) word w h (named.positionals w.position) all
 
-    turn_keeps : (w : Walk) (word : Text) → turn_fault step_shape [] w word ≡ [] → AllGood w.held.rows → AllGood (walked rules [] w word).held.rows
+    turn_keeps : (w : Walk) (word : Text) → turn_fault s [] w word ≡ [] → AllGood P w.held.rows → AllGood P (walked rules [] w word).held.rows
     unfolding walked
     turn_keeps w word e all = go w.stopped e
       where
@@ -230,21 +256,30 @@ module _ (P : Row → Type 0) where
         met = word_met rules [] w.is_trailing w.waiting w.position word w.held
 
         go : (o : Option (Text × List Text))
-            → (if is_some o then [] else or_else (word_fault step_shape [] w.is_trailing w.waiting word w.held) (step_fault step_shape w.position met.0 met.1)) ≡ []
-            → AllGood (walked_from rules [] o w word).held.rows
+            → (if is_some o then [] else or_else (word_fault s [] w.is_trailing w.waiting word w.held) (step_fault s w.position met.0 met.1)) ≡ []
+            → AllGood P (walked_from rules [] o w word).held.rows
         go (Some p) f = all
         go None f =
             step_keeps word w met.0 met.1
             (word_keeps w.is_trailing w.waiting w.position word w.held
-            (none_first (word_fault step_shape [] w.is_trailing w.waiting word w.held) (step_fault step_shape w.position met.0 met.1) f) all)
+            (none_first (word_fault s [] w.is_trailing w.waiting word w.held) (step_fault s w.position met.0 met.1) f) all)
 
-    walk_keeps : (words : List Text) (w : Walk) → walk_fault step_shape [] w words ≡ [] → AllGood w.held.rows → AllGood (fold (walked rules []) w words).held.rows
+    walk_keeps : (words : List Text) (w : Walk) → walk_fault s [] w words ≡ [] → AllGood P w.held.rows → AllGood P (fold (walked rules []) w words).held.rows
     unfolding walk_fault
     walk_keeps [] w e all = all
     walk_keeps (word ∷ rest) w e all =
         walk_keeps rest (walked rules [] w word)
-        (none_second (turn_fault step_shape [] w word) (walk_fault step_shape [] (walked rules [] w word) rest) e)
-        (turn_keeps w word (none_first (turn_fault step_shape [] w word) (walk_fault step_shape [] (walked rules [] w word) rest) e) all)
+        (none_second (turn_fault s [] w word) (walk_fault s [] (walked rules [] w word) rest) e)
+        (turn_keeps w word (none_first (turn_fault s [] w word) (walk_fault s [] (walked rules [] w word) rest) e) all)
+
+    -- the rows after all the words
+    settled_rows_keep : (words : List Text) → level_fault s [] nothing_held words false [] ≡ [] → AllGood P (settled rules (walk rules [] nothing_held words).held).rows
+    settled_rows_keep words e =
+        let end : Held = (walk rules [] nothing_held words).held in
+        let walked_fault : Kinds = walk_fault s [] (walk_from nothing_held) words in
+        let last : Kinds = or_else (defaults_fault (settled rules end).rows rules) (check_fault s (finished rules end) false) in
+        settled_keeps end (none_first (settle_fault rules again end) last (none_second walked_fault (or_else (settle_fault rules again end) last) e))
+        (walk_keeps words (walk_from nothing_held) (none_first walked_fault (or_else (settle_fault rules again end) last) e) tt)
 
 -- ---- the rows at the end have the option
 
@@ -316,95 +351,165 @@ found id low high (r ∷ rs) e all = go (bytes_eq r.id id) refl e (λ f. found i
     go true is f more = all.0 is
     go false is f more = more f
 
--- ---- the arguments of `step`
+-- ---- the arguments of a subcommand
 
-abbrev seed_built : Rule
-seed_built = with_index 1 (filled seed_rule)
+-- an argument whose uses keep what holds of each row, and whose default meets it
+record Suits (P : Row → Type 0) (again : Bool) (b : Rule) : Type 0 where
+  keeps : Keeps P again b
+  first : Text
+  rest : List Text
+  defaults : b.defaults ≡ first ∷ rest
+  default : P (new_row b DefaultValue (first ∷ rest))
 
-abbrev limit_built : Rule
-limit_built = with_index 1 (filled limit_rule)
+or_true : (x y : Bool) → y ≡ true → (x || y) ≡ true
+or_true true y e = refl
+or_true false y e = e
+
+either : (x y z now : Bool) → (x || (y || z)) ≡ true → (x ≡ true → now ≡ true) → (y ≡ true → now ≡ true) → (now || z) ≡ true
+either true y z now e old new = rw (old refl) refl
+either false true z now e old new = rw (new refl) refl
+either false false true now e old new = or_true now true refl
+either false false false now e old new = absurd (true≢false (sym e))
+
+module _ (P : Row → Type 0) (again : Bool) where
+  all_keep : (rs : List Rule) → AllByRecursion (Suits P again) rs → (p : Rule → Bool) → FoundKeeps P again (find p rs)
+  all_keep [] suits p = tt
+  all_keep (b ∷ rs) suits p = go (p b) (all_keep rs suits.1 p)
+    where
+      go : (x : Bool) → FoundKeeps P again (find p rs) → FoundKeeps P again (if x then Some b else find p rs)
+      go true rest = suits.0.keeps
+      go false rest = rest
+
+  -- the rows with each default, one of which has the id
+  all_defaulted : (id : Text) (rs : List Rule) (rows : List Row) → AllByRecursion (Suits P again) rs → AllByRecursion P rows
+      → (has_row id rows || list_any (λ b. bytes_eq b.id id) rs) ≡ true
+      → AllByRecursion P (fold with_default rows rs) × (has_row id (fold with_default rows rs) ≡ true)
+  all_defaulted id [] rows suits all has = (all, go (has_row id rows) has)
+    where
+      go : (x : Bool) → (x || false) ≡ true → x ≡ true
+      go true e = refl
+      go false e = e
+  all_defaulted id (b ∷ rs) rows suits all has =
+      let one = defaulted P rows b suits.0.first suits.0.rest suits.0.defaults suits.0.default all in
+      let own : bytes_eq b.id id ≡ true → has_row id (with_default rows b) ≡ true
+      = λ same. subst (λ (t : Text). has_row t (with_default rows b) ≡ true) ((bytes_eq-Decides b.id id).0 same) one.has in
+      all_defaulted id rs (with_default rows b) suits.1 one.good
+      (either (has_row id rows) (bytes_eq b.id id) (list_any (λ c. bytes_eq c.id id) rs) (has_row id (with_default rows b)) has (one.kept id) own)
+
+abbrev number_rule : Text → Text → ℕ → ℕ → Rule
+number_rule id default low high = record (new_rule id) {
+  long = Some id;
+  action = Some Set;
+  parser = Some (Signed (pos low) (pos high));
+  defaults = default ∷ [];
+}
+
+abbrev number_built : Text → Text → ℕ → ℕ → Rule
+number_built id default low high = with_index 1 (filled (number_rule id default low high))
 
 abbrev brief_built : Rule
 brief_built = with_index 1 (filled brief_rule)
 
--- a use of another argument leaves the option's row
-other_keeps : (id : Text) (low high : ℕ) (b : Rule) (values : List Text) (rows : List Row) → bytes_eq b.id id ≡ false → set_fault false b values rows ≡ []
-    → AllByRecursion (Holds id low high) rows
-    → AllByRecursion (Holds id low high) (with_values b.id (reading_by b) CommandLine values (without b.id rows))
-other_keeps id low high b values rows other e all =
-    set_keeps (Holds id low high) b values rows e (λ f same. absurd (true≢false (sym same ∙ other))) all
-
-abbrev IsSeed : Row → Type 0
-IsSeed = Holds (codes "seed") 0 4294967295
-
-abbrev IsLimit : Row → Type 0
-IsLimit = Holds (codes "limit") 1 100000000
-
-seed_keeps_seed : Keeps IsSeed seed_built
-seed_keeps_seed [] rows e all = absurd (cons≢nil e)
-seed_keeps_seed (v ∷ vs) rows e all =
-    set_keeps IsSeed seed_built (v ∷ vs) rows (none_second (range_kinds 1 1 (length (v ∷ vs))) (set_fault false seed_built (v ∷ vs) rows) e)
-    (λ f same. accepted 0 4294967295 v (omega arith) (first_taken (Signed (pos 0) (pos 4294967295)) v vs f)) all
-
-limit_keeps_limit : Keeps IsLimit limit_built
-limit_keeps_limit [] rows e all = absurd (cons≢nil e)
-limit_keeps_limit (v ∷ vs) rows e all =
-    set_keeps IsLimit limit_built (v ∷ vs) rows (none_second (range_kinds 1 1 (length (v ∷ vs))) (set_fault false limit_built (v ∷ vs) rows) e)
-    (λ f same. accepted 1 100000000 v (omega arith) (first_taken (Signed (pos 1) (pos 100000000)) v vs f)) all
-
 module _ (id : Text) (low high : ℕ) where
-  seed_keeps_other : bytes_eq (codes "seed") id ≡ false → Keeps (Holds id low high) seed_built
-  seed_keeps_other other values rows e all =
-      other_keeps id low high seed_built (values_or_missing seed_built values) rows other
-      (none_second (range_kinds 1 1 (length values)) (set_fault false seed_built (values_or_missing seed_built values) rows) e) all
+  abbrev IsOption : Row → Type 0
+  IsOption = Holds id low high
 
-  limit_keeps_other : bytes_eq (codes "limit") id ≡ false → Keeps (Holds id low high) limit_built
-  limit_keeps_other other values rows e all =
-      other_keeps id low high limit_built (values_or_missing limit_built values) rows other
-      (none_second (range_kinds 1 1 (length values)) (set_fault false limit_built (values_or_missing limit_built values) rows) e) all
+  -- the option itself
+  own_keeps : (default : Text) → high < 2 ^ 32 → Keeps IsOption false (number_built id default low high)
+  own_keeps default small [] rows e all = absurd (cons≢nil e)
+  own_keeps default small (v ∷ vs) rows e all =
+      set_keeps IsOption (number_built id default low high) (v ∷ vs) rows
+      (none_second (range_kinds 1 1 (length (v ∷ vs))) (set_fault false (number_built id default low high) (v ∷ vs) rows) e)
+      (λ f same. accepted low high v small (first_taken (Signed (pos low) (pos high)) v vs f)) all
 
-  brief_keeps_other : bytes_eq (codes "brief") id ≡ false → Keeps (Holds id low high) brief_built
-  brief_keeps_other other values rows e all =
-      other_keeps id low high brief_built (values_or_missing brief_built values) rows other
-      (none_second (range_kinds 0 0 (length values)) (set_fault false brief_built (values_or_missing brief_built values) rows) e) all
+  own_suits : (default : Text) (n : ℕ) → high < 2 ^ 32 → number_of (without_minus default) ≡ Some n → low ≤ n → n ≤ high
+      → Suits IsOption false (number_built id default low high)
+  own_suits default n small is above below = record {
+    keeps = own_keeps default small;
+    first = default;
+    rest = [];
+    defaults = refl;
+    default = λ same. (n, is, above, below);
+  }
 
-all_keep : (Q : Row → Type 0) → Keeps Q seed_built → Keeps Q limit_built → Keeps Q brief_built → (p : Rule → Bool) → FoundKeeps Q (find p rules)
-all_keep Q seed limit brief p = go (p seed_built) (p limit_built) (p brief_built)
-  where
-    go : (x y z : Bool) → FoundKeeps Q (if x then Some seed_built else (if y then Some limit_built else (if z then Some brief_built else None)))
-    go true y z = seed
-    go false true z = limit
-    go false false true = brief
-    go false false false = tt
+  -- a use of another argument leaves the option's row
+  other_keeps : (b : Rule) (values : List Text) (rows : List Row) → bytes_eq b.id id ≡ false → set_fault false b values rows ≡ []
+      → AllByRecursion IsOption rows → AllByRecursion IsOption (with_values b.id (reading_by b) CommandLine values (without b.id rows))
+  other_keeps b values rows other e all =
+      set_keeps IsOption b values rows e (λ f same. absurd (true≢false (sym same ∙ other))) all
 
--- the rows after all the words
-settled_rows_hold : (Q : Row → Type 0) → ((p : Rule → Bool) → FoundKeeps Q (find p rules)) → (words : List Text)
-    → level_fault step_shape [] nothing_held words false [] ≡ [] → AllByRecursion Q (settled rules (walk rules [] nothing_held words).held).rows
-settled_rows_hold Q keeps words e =
-    let end : Held = (walk rules [] nothing_held words).held in
-    let walked_fault : Kinds = walk_fault step_shape [] (walk_from nothing_held) words in
-    let last : Kinds = or_else (defaults_fault (settled rules end).rows rules) (check_fault step_shape (finished rules end) false) in
-    settled_keeps Q keeps end (none_first (settle_fault rules false end) last (none_second walked_fault (or_else (settle_fault rules false end) last) e))
-    (walk_keeps Q keeps words (walk_from nothing_held) (none_first walked_fault (or_else (settle_fault rules false end) last) e) tt)
+  other_suits : (name default : Text) (least most : ℕ) → bytes_eq name id ≡ false → Suits IsOption false (number_built name default least most)
+  other_suits name default least most other = record {
+    keeps = λ values rows e all.
+        let b : Rule = number_built name default least most in
+        other_keeps b (values_or_missing b values) rows other
+        (none_second (range_kinds 1 1 (length values)) (set_fault false b (values_or_missing b values) rows) e) all;
+    first = default;
+    rest = [];
+    defaults = refl;
+    default = λ same. absurd (true≢false (sym same ∙ other));
+  }
 
-module _ (words : List Text) (e : level_fault step_shape [] nothing_held words false [] ≡ []) where
-  abbrev settled_list : List Row
-  settled_list = (settled rules (walk rules [] nothing_held words).held).rows
+  brief_suits : bytes_eq (codes "brief") id ≡ false → Suits IsOption false brief_built
+  brief_suits other = record {
+    keeps = λ values rows e all.
+        other_keeps brief_built (values_or_missing brief_built values) rows other
+        (none_second (range_kinds 0 0 (length values)) (set_fault false brief_built (values_or_missing brief_built values) rows) e) all;
+    first = codes "false";
+    rest = [];
+    defaults = refl;
+    default = λ same. absurd (true≢false (sym same ∙ other));
+  }
 
-  pub limit_taken : (n : ℕ) × (number_at (codes "limit") (rows_after rules [] words) ≡ Some n) × (1 ≤ n) × (n ≤ 100000000)
-  limit_taken =
-      let keeps = all_keep IsLimit (seed_keeps_other (codes "limit") 1 100000000 refl) limit_keeps_limit (brief_keeps_other (codes "limit") 1 100000000 refl) in
-      let first = defaulted IsLimit settled_list seed_built (codes "0") [] refl (λ same. absurd (true≢false (sym same))) (settled_rows_hold IsLimit keeps words e) in
-      let second = defaulted IsLimit (with_default settled_list seed_built) limit_built (codes "1000000") [] refl (λ same. (1000000, refl, omega arith, omega arith)) first.good in
-      let third = defaulted IsLimit (with_default (with_default settled_list seed_built) limit_built) brief_built (codes "false") [] refl
-      (λ same. absurd (true≢false (sym same))) second.good in
-      found (codes "limit") 1 100000000 (rows_after rules [] words) (third.kept (codes "limit") second.has) third.good
+  -- the number of the option after the words of a subcommand that clap takes
+  abbrev pub IsTaken : Shape → Type 0
+  IsTaken s = (words : List Text) → level_fault s [] nothing_held words false [] ≡ []
+      → (n : ℕ) × (number_at id (rows_after s.rules [] words) ≡ Some n) × (low ≤ n) × (n ≤ high)
 
-  pub seed_taken : (n : ℕ) × (number_at (codes "seed") (rows_after rules [] words) ≡ Some n) × (0 ≤ n) × (n ≤ 4294967295)
-  seed_taken =
-      let keeps = all_keep IsSeed seed_keeps_seed (limit_keeps_other (codes "seed") 0 4294967295 refl) (brief_keeps_other (codes "seed") 0 4294967295 refl) in
-      let first = defaulted IsSeed settled_list seed_built (codes "0") [] refl (λ same. (0, refl, omega arith, omega arith)) (settled_rows_hold IsSeed keeps words e) in
-      let second = defaulted IsSeed (with_default settled_list seed_built) limit_built (codes "1000000") [] refl (λ same. absurd (true≢false (sym same))) first.good in
-      let third = defaulted IsSeed (with_default (with_default settled_list seed_built) limit_built) brief_built (codes "false") [] refl
-      (λ same. absurd (true≢false (sym same))) second.good in
-      found (codes "seed") 0 4294967295 (rows_after rules [] words) (third.kept (codes "seed") (second.kept (codes "seed") first.has)) third.good
+  option_taken : (s : Shape) → HasLongNamesAlone s → AllByRecursion (Suits IsOption s.args_override_self) s.rules
+      → list_any (λ b. bytes_eq b.id id) s.rules ≡ true → IsTaken s
+  option_taken s named suits has words e =
+      let rows : List Row = (settled s.rules (walk s.rules [] nothing_held words).held).rows in
+      let all = settled_rows_keep s named IsOption (all_keep IsOption s.args_override_self s.rules suits) words e in
+      let one : (has_row id rows || list_any (λ b. bytes_eq b.id id) s.rules) ≡ true = or_true (has_row id rows) _ has in
+      let last = all_defaulted IsOption s.args_override_self id s.rules rows suits all one in
+      found id low high (rows_after s.rules [] words) last.1 last.0
+
+-- ---- the numbers of `run` and of `step`
+
+limit_suits : Suits (Holds (codes "limit") 1 100000000) false (number_built (codes "limit") (codes "1000000") 1 100000000)
+limit_suits = own_suits (codes "limit") 1 100000000 (codes "1000000") 1000000 (omega arith) refl (omega arith) (omega arith)
+
+run_names : HasLongNamesAlone run_shape
+run_names = record { shorts = λ x. refl; positionals = λ i. refl }
+
+step_names : HasLongNamesAlone step_shape
+step_names = record { shorts = λ x. refl; positionals = λ i. refl }
+
+pub workers_of_run : IsTaken (codes "workers") 1 1 run_shape
+workers_of_run =
+    option_taken (codes "workers") 1 1 run_shape run_names (
+      own_suits (codes "workers") 1 1 (codes "1") 1 (omega arith) refl (omega arith) (omega arith),
+      (other_suits (codes "workers") 1 1 (codes "limit") (codes "1000000") 1 100000000 refl, (brief_suits (codes "workers") 1 1 refl, tt)),
+    ) refl
+
+pub limit_of_run : IsTaken (codes "limit") 1 100000000 run_shape
+limit_of_run =
+    option_taken (codes "limit") 1 100000000 run_shape run_names (
+      other_suits (codes "limit") 1 100000000 (codes "workers") (codes "1") 1 1 refl,
+      (limit_suits, (brief_suits (codes "limit") 1 100000000 refl, tt)),
+    ) refl
+
+pub seed_of_step : IsTaken (codes "seed") 0 4294967295 step_shape
+seed_of_step =
+    option_taken (codes "seed") 0 4294967295 step_shape step_names (
+      own_suits (codes "seed") 0 4294967295 (codes "0") 0 (omega arith) refl (omega arith) (omega arith),
+      (other_suits (codes "seed") 0 4294967295 (codes "limit") (codes "1000000") 1 100000000 refl, (brief_suits (codes "seed") 0 4294967295 refl, tt)),
+    ) refl
+
+pub limit_of_step : IsTaken (codes "limit") 1 100000000 step_shape
+limit_of_step =
+    option_taken (codes "limit") 1 100000000 step_shape step_names (
+      other_suits (codes "limit") 1 100000000 (codes "seed") (codes "0") 0 4294967295 refl,
+      (limit_suits, (brief_suits (codes "limit") 1 100000000 refl, tt)),
+    ) refl

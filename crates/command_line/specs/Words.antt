@@ -10,9 +10,18 @@ use Rattle.clap.specs.Words.{App, Row, Rule, Shape, Text, fault_of, first_of, ne
 use Rattle.clap.specs.declared.builder.action.ArgAction.TheVariants.{Set, SetTrue}
 use Rattle.clap.specs.declared.builder.value_parser.ValueParser.TheVariants.{Signed}
 use Rattle.command_line.specs.declared.words.Command.{Command}
-use Rattle.command_line.specs.declared.words.Command.TheVariants.{Step, Check}
+use Rattle.command_line.specs.declared.words.Command.TheVariants.{Run, Step, Check}
 
 -- ---- the command as data
+
+-- `--workers N`: the number 1 alone, which it also is where it is not given
+abbrev pub workers_rule : Rule
+workers_rule = record (new_rule (codes "workers")) {
+  long = Some (codes "workers");
+  action = Some Set;
+  parser = Some (Signed (pos 1) (pos 1));
+  defaults = codes "1" ∷ [];
+}
 
 -- `--seed N`: a number from 0 to 4294967295, and 0 where it is not given
 abbrev pub seed_rule : Rule
@@ -39,6 +48,10 @@ brief_rule = record (new_rule (codes "brief")) {
   action = Some SetTrue;
 }
 
+-- `run [--workers N] [--limit N] [--brief]`
+abbrev pub run_app : App
+run_app = with_rule (with_rule (with_rule (new_app (codes "run")) workers_rule) limit_rule) brief_rule
+
 -- `step [--seed N] [--limit N] [--brief]`
 abbrev pub step_app : App
 step_app = with_rule (with_rule (with_rule (new_app (codes "step")) seed_rule) limit_rule) brief_rule
@@ -62,7 +75,7 @@ abbrev pub program_app : App
 program_app = on_top with_settings (new_app (codes "gaspirun"))
 
 abbrev pub the_app : App
-the_app = with_subcommand (with_subcommand program_app step_app.top) check_app.top
+the_app = with_subcommand (with_subcommand (with_subcommand program_app run_app.top) step_app.top) check_app.top
 
 -- ---- what is read of the matches
 
@@ -80,6 +93,10 @@ number_at id rows = option_and_then number_of (one_of id rows)
 abbrev pub flag_at : Text → List Row → Bool
 flag_at id rows = option_map_or (λ text. bytes_eq text (codes "true")) (first_of id rows) false
 
+abbrev pub run_of : List Row → Option Command
+run_of rows = option_and_then (λ workers. option_map (λ limit. Run workers limit (flag_at (codes "brief") rows))
+    (number_at (codes "limit") rows)) (number_at (codes "workers") rows)
+
 abbrev pub step_of : List Row → Option Command
 step_of rows = option_and_then (λ seed. option_map (λ limit. Step seed limit (flag_at (codes "brief") rows))
     (number_at (codes "limit") rows)) (number_at (codes "seed") rows)
@@ -87,8 +104,9 @@ step_of rows = option_and_then (λ seed. option_map (λ limit. Step seed limit (
 -- what the subcommand of a parse and its matches ask for
 abbrev pub words_in : Option (Text × List Row) → Option Command
 words_in None = None
-words_in (Some entered) = if bytes_eq entered.0 (codes "step") then step_of entered.1
-    else (if bytes_eq entered.0 (codes "check") then Some Check else None)
+words_in (Some entered) = if bytes_eq entered.0 (codes "run") then run_of entered.1
+    else (if bytes_eq entered.0 (codes "step") then step_of entered.1
+    else (if bytes_eq entered.0 (codes "check") then Some Check else None))
 
 -- ---- the words
 

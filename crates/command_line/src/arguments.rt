@@ -8,13 +8,27 @@ ghost use Rattle.command_line.specs.Words.{
   check_app,
   limit_rule,
   program_app,
+  run_app,
   seed_rule,
   step_app,
   the_app,
+  workers_rule,
 };
 
 use clap::{Arg, ArgAction, Command, value_parser};
 use std::alloc::{AllocError, Global};
+
+/// `--workers N`: how many workers make the transfers, today one alone.
+fn workers<'a>(alloc: Global) -> Arg<'a>
+    ensures rule { rule_of result ≡ workers_rule }
+    ensures local { result.global ≡ false }
+{
+    Arg::new(alloc, "workers")
+        .long("workers")
+        .action(ArgAction::Set)
+        .value_parser(value_parser!(u32).range(1..=1))
+        .default_value("1")
+}
 
 /// `--seed N`: where the generator starts.
 fn seed<'a>(alloc: Global) -> Arg<'a>
@@ -48,6 +62,17 @@ fn brief<'a>(alloc: Global) -> Arg<'a>
     Arg::new(alloc, "brief")
         .long("brief")
         .action(ArgAction::SetTrue)
+}
+
+/// `run`, with its arguments.
+fn run<'a>(alloc: Global) -> Result<Command<'a>, AllocError>
+    ensures app { IfOk result (λ command. app_of command ≡ run_app) }
+    ensures local { IfOk result (λ command. (fields_of command).has_globals ≡ false) }
+{
+    Command::new(alloc, "run")
+        .arg(workers(alloc))?
+        .arg(limit(alloc))?
+        .arg(brief(alloc))
 }
 
 /// `step`, with its arguments.
@@ -87,6 +112,7 @@ pub(crate) fn program<'a>(alloc: Global) -> Result<Command<'a>, AllocError>
     ensures { IfOk result (λ command. app_of command ≡ the_app) }
 {
     bare_program(alloc)
+        .subcommand(run(alloc)?)?
         .subcommand(step(alloc)?)?
         .subcommand(check(alloc))
 }

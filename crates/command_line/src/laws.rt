@@ -10,6 +10,19 @@ use crate::words::Command;
 /// These words are taken, with these values.
 #[tactic(auto, unfolding(crate::specs::Words::command_of, clap::proofs::OnLiterals::clap_on_literals))]
 pub fn words_that_are_taken()
+    ensures run_plain { command_of (codes "run" ∷ []) ≡ Some (Command.Run 1 1000000 false) }
+    ensures run_brief { command_of (codes "run" ∷ codes "--brief" ∷ [])
+        ≡ Some (Command.Run 1 1000000 true) }
+    ensures run_workers { command_of (codes "run" ∷ codes "--workers" ∷ codes "1" ∷ [])
+        ≡ Some (Command.Run 1 1000000 false) }
+    ensures run_least_limit { command_of (codes "run" ∷ codes "--limit" ∷ codes "1" ∷ [])
+        ≡ Some (Command.Run 1 1 false) }
+    ensures run_most_limit { command_of (codes "run" ∷ codes "--limit" ∷ codes "100000000" ∷ [])
+        ≡ Some (Command.Run 1 100000000 false) }
+    ensures run_all { command_of (codes "run" ∷ codes "--workers" ∷ codes "1" ∷ codes "--limit" ∷ codes "3" ∷ codes "--brief" ∷ [])
+        ≡ Some (Command.Run 1 3 true) }
+    ensures run_other_order { command_of (codes "run" ∷ codes "--brief" ∷ codes "--limit" ∷ codes "3" ∷ codes "--workers" ∷ codes "1" ∷ [])
+        ≡ Some (Command.Run 1 3 true) }
     ensures plain { command_of (codes "step" ∷ []) ≡ Some (Command.Step 0 1000000 false) }
     ensures brief { command_of (codes "step" ∷ codes "--brief" ∷ [])
         ≡ Some (Command.Step 0 1000000 true) }
@@ -34,8 +47,21 @@ pub fn words_that_are_taken()
 pub fn words_that_are_refused()
     ensures nothing { command_of [] ≡ None }
     ensures empty_word { command_of ([] ∷ []) ≡ None }
-    ensures other_command { command_of (codes "run" ∷ []) ≡ None }
-    ensures longer_word { command_of (codes "steps" ∷ []) ≡ None }
+    ensures other_command { command_of (codes "bench" ∷ []) ≡ None }
+    ensures longer_run { command_of (codes "runs" ∷ []) ≡ None }
+    ensures longer_step { command_of (codes "steps" ∷ []) ≡ None }
+    ensures workers_zero { command_of (codes "run" ∷ codes "--workers" ∷ codes "0" ∷ []) ≡ None }
+    ensures workers_past_most { command_of (codes "run" ∷ codes "--workers" ∷ codes "2" ∷ []) ≡ None }
+    ensures workers_without_number { command_of (codes "run" ∷ codes "--workers" ∷ []) ≡ None }
+    ensures workers_no_number { command_of (codes "run" ∷ codes "--workers" ∷ codes "x" ∷ []) ≡ None }
+    ensures workers_twice { command_of (codes "run" ∷ codes "--workers" ∷ codes "1" ∷ codes "--workers" ∷ codes "1" ∷ []) ≡ None }
+    ensures run_limit_zero { command_of (codes "run" ∷ codes "--limit" ∷ codes "0" ∷ []) ≡ None }
+    ensures run_limit_past_most { command_of (codes "run" ∷ codes "--limit" ∷ codes "100000001" ∷ []) ≡ None }
+    ensures run_brief_twice { command_of (codes "run" ∷ codes "--brief" ∷ codes "--brief" ∷ []) ≡ None }
+    ensures run_seed { command_of (codes "run" ∷ codes "--seed" ∷ codes "5" ∷ []) ≡ None }
+    ensures run_twice { command_of (codes "run" ∷ codes "run" ∷ []) ≡ None }
+    ensures step_workers { command_of (codes "step" ∷ codes "--workers" ∷ codes "1" ∷ []) ≡ None }
+    ensures check_workers { command_of (codes "check" ∷ codes "--workers" ∷ codes "1" ∷ []) ≡ None }
     ensures seed_past_most { command_of (codes "step" ∷ codes "--seed" ∷ codes "4294967296" ∷ []) ≡ None }
     ensures limit_zero { command_of (codes "step" ∷ codes "--limit" ∷ codes "0" ∷ []) ≡ None }
     ensures limit_past_most { command_of (codes "step" ∷ codes "--limit" ∷ codes "100000001" ∷ []) ≡ None }
@@ -58,6 +84,8 @@ pub fn help_and_version_are_refused()
     ensures word { command_of (codes "help" ∷ []) ≡ None }
     ensures version { command_of (codes "--version" ∷ []) ≡ None }
     ensures short_version { command_of (codes "-V" ∷ []) ≡ None }
+    ensures of_run { command_of (codes "run" ∷ codes "--help" ∷ []) ≡ None }
+    ensures short_of_run { command_of (codes "run" ∷ codes "-h" ∷ []) ≡ None }
     ensures of_step { command_of (codes "step" ∷ codes "--help" ∷ []) ≡ None }
     ensures short_of_step { command_of (codes "step" ∷ codes "-h" ∷ []) ≡ None }
     ensures of_check { command_of (codes "check" ∷ codes "--help" ∷ []) ≡ None }
@@ -66,6 +94,9 @@ pub fn help_and_version_are_refused()
 /// A number may have a plus and leading zeros, and 0 a minus where `=` joins it; `--` at the end says nothing.
 #[tactic(auto, unfolding(crate::specs::Words::command_of, clap::proofs::OnLiterals::clap_on_literals))]
 pub fn other_forms_that_are_taken()
+    ensures run_plus { command_of (codes "run" ∷ codes "--workers" ∷ codes "+1" ∷ []) ≡ Some (Command.Run 1 1000000 false) }
+    ensures run_zeros { command_of (codes "run" ∷ codes "--workers" ∷ codes "01" ∷ []) ≡ Some (Command.Run 1 1000000 false) }
+    ensures run_dashes { command_of (codes "run" ∷ codes "--" ∷ []) ≡ Some (Command.Run 1 1000000 false) }
     ensures plus { command_of (codes "step" ∷ codes "--seed" ∷ codes "+5" ∷ []) ≡ Some (Command.Step 5 1000000 false) }
     ensures zeros { command_of (codes "step" ∷ codes "--seed" ∷ codes "05" ∷ []) ≡ Some (Command.Step 5 1000000 false) }
     ensures minus { command_of (codes "step" ∷ codes "--seed=-0" ∷ []) ≡ Some (Command.Step 0 1000000 false) }
@@ -73,15 +104,18 @@ pub fn other_forms_that_are_taken()
     ensures check_dashes { command_of (codes "check" ∷ codes "--" ∷ []) ≡ Some Command.Check }
 {}
 
-/// A first word that is neither `step` nor `check` is refused, whatever follows.
+/// A first word that is neither `run` nor `step` nor `check` is refused, whatever follows.
 pub fn other_first_words_are_refused()
-    ensures { (first : List ℕ) (rest : List (List ℕ)) → first ≢ codes "step" → first ≢ codes "check"
+    ensures { (first : List ℕ) (rest : List (List ℕ)) → first ≢ codes "run" → first ≢ codes "step" → first ≢ codes "check"
         → command_of (first ∷ rest) ≡ None }
 {}
 
 /// Every seed and limit in its range, spelled in decimal, gives just these values.
 pub fn numbers_are_read()
-    ensures { (seed limit : ℕ) → seed ≤ 4294967295 → 1 ≤ limit → limit ≤ 100000000
+    ensures run { (limit : ℕ) → 1 ≤ limit → limit ≤ 100000000
+        → command_of (codes "run" ∷ codes "--workers" ∷ codes "1" ∷ codes "--limit" ∷ decimal limit ∷ codes "--brief" ∷ [])
+        ≡ Some (Command.Run 1 limit true) }
+    ensures step { (seed limit : ℕ) → seed ≤ 4294967295 → 1 ≤ limit → limit ≤ 100000000
         → command_of (codes "step" ∷ codes "--seed" ∷ decimal seed ∷ codes "--limit" ∷ decimal limit ∷ codes "--brief" ∷ [])
         ≡ Some (Command.Step seed limit true) }
 {}

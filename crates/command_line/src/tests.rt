@@ -1,6 +1,15 @@
 use super::{Command, read_words};
 use std::test::Fail;
 
+/// `run` with these values.
+fn run(workers: u32, limit: u32, brief: bool) -> Option<Command> {
+    Some(Command::Run {
+        workers,
+        limit,
+        brief,
+    })
+}
+
 /// `step` with its defaults.
 const PLAIN: Command = Command::Step {
     seed: 0,
@@ -15,8 +24,15 @@ fn step(seed: u32, limit: u32, brief: bool) -> Option<Command> {
 
 #[test]
 fn words_are_read(rt: HostRuntime) -> Result<(), Fail> {
-    let rows: [(&[&str], Option<Command>); 62] = [
+    let rows: [(&[&str], Option<Command>); 78] = [
         // What is asked for.
+        (&["run"], run(1, 1_000_000, false)),
+        (&["run", "--workers=1"], run(1, 1_000_000, false)),
+        (&["run", "--limit", "100000000"], run(1, 100_000_000, false)),
+        (
+            &["run", "--brief", "--limit=3", "--workers", "1"],
+            run(1, 3, true),
+        ),
         (&["step"], Some(PLAIN)),
         (&["step", "--brief"], step(0, 1_000_000, true)),
         (&["step", "--seed", "0"], Some(PLAIN)),
@@ -44,11 +60,13 @@ fn words_are_read(rt: HostRuntime) -> Result<(), Fail> {
         ),
         (&["check"], Some(Command::Check)),
         // A number may have a plus, leading zeros, and where it is 0 and joined by `=` a minus.
+        (&["run", "--workers", "+1"], run(1, 1_000_000, false)),
         (&["step", "--seed", "+5"], step(5, 1_000_000, false)),
         (&["step", "--seed", "05"], step(5, 1_000_000, false)),
         (&["step", "--limit", "+007"], step(0, 7, false)),
         (&["step", "--seed=-0"], Some(PLAIN)),
         // `--` ends the options.
+        (&["run", "--"], run(1, 1_000_000, false)),
         (&["step", "--"], Some(PLAIN)),
         (&["step", "--brief", "--"], step(0, 1_000_000, true)),
         (&["check", "--"], Some(Command::Check)),
@@ -61,8 +79,13 @@ fn words_are_read(rt: HostRuntime) -> Result<(), Fail> {
         (&["steps"], None),
         (&["ste"], None),
         (&["Step"], None),
-        (&["run"], None),
+        (&["runs"], None),
+        (&["Run"], None),
+        (&["bench"], None),
         (&["\u{e9}tape"], None),
+        (&["run", "step"], None),
+        (&["run", "--seed", "5"], None),
+        (&["step", "--workers", "1"], None),
         (&["step", "step"], None),
         (&["step", "check"], None),
         (&["check", "step"], None),
@@ -71,6 +94,9 @@ fn words_are_read(rt: HostRuntime) -> Result<(), Fail> {
         (&["--brief"], None),
         (&["--brief", "step"], None),
         // A number that is none, or out of its range.
+        (&["run", "--workers", "0"], None),
+        (&["run", "--workers", "2"], None),
+        (&["run", "--workers=-1"], None),
         (&["step", "--seed"], None),
         (&["step", "--seed", "x"], None),
         (&["step", "--seed="], None),
@@ -83,6 +109,7 @@ fn words_are_read(rt: HostRuntime) -> Result<(), Fail> {
         (&["step", "--limit", "0"], None),
         (&["step", "--limit", "100000001"], None),
         // A flag with a value, an option given twice, a short or an unknown one.
+        (&["run", "1"], None),
         (&["step", "--brief=true"], None),
         (&["step", "--brief", "--brief"], None),
         (&["step", "--seed", "5", "--seed", "5"], None),
@@ -95,6 +122,7 @@ fn words_are_read(rt: HostRuntime) -> Result<(), Fail> {
         (&["-h"], None),
         (&["help"], None),
         (&["-V"], None),
+        (&["run", "-h"], None),
         (&["step", "--help"], None),
         (&["step", "-h"], None),
     ];

@@ -2,7 +2,7 @@
 
 ghost use Rattle.std.specs.Prelude.{◌≡◌, ◌≢◌, ◌≤◌, IfOk, ℕ, Bool, Some, map, None};
 ghost use Rattle.clap.specs.Words.{found_of, kind_of, rows_of, subcommand_rows_of};
-ghost use Rattle.command_line.specs.Words.{command_of, flag_at, number_at, step_of, words_in};
+ghost use Rattle.command_line.specs.Words.{command_of, flag_at, number_at, run_of, step_of, words_in};
 
 use crate::arguments::program;
 use clap::error::ErrorKind;
@@ -13,6 +13,15 @@ use std::alloc::Global;
 /// What the program is asked to do.
 #[derive(Clone, Copy, Debug, PartialEq, Eq)]
 pub enum Command {
+    /// `run`: run a world text on threads.
+    Run {
+        /// How many workers make the transfers: 1, since one alone does today.
+        workers: u32,
+        /// How many looks a call that blocks has, from 1 to 100,000,000.
+        limit: u32,
+        /// Whether the transcripts are written in place of the journal.
+        brief: bool,
+    },
     /// `step`: run a world text on one thread.
     Step {
         /// Where the generator starts.
@@ -43,15 +52,28 @@ fn flag(matches: &ArgMatches<'_>, id: &str) -> bool
     }
 }
 
+/// What the words after `run` ask for.
+fn run(matches: &ArgMatches<'_>) -> Option<Command>
+    ensures { result ≡ run_of (rows_of (found_of matches.now)) }
+{
+    let workers = number(matches, "workers")?;
+    let limit = number(matches, "limit")?;
+    let brief = flag(matches, "brief");
+    Some(Command::Run {
+        workers,
+        limit,
+        brief,
+    })
+}
+
 /// What the words after `step` ask for.
 fn step(matches: &ArgMatches<'_>) -> Option<Command>
     ensures { result ≡ step_of (rows_of (found_of matches.now)) }
 {
-    Some(Command::Step {
-        seed: number(matches, "seed")?,
-        limit: number(matches, "limit")?,
-        brief: flag(matches, "brief"),
-    })
+    let seed = number(matches, "seed")?;
+    let limit = number(matches, "limit")?;
+    let brief = flag(matches, "brief");
+    Some(Command::Step { seed, limit, brief })
 }
 
 /// What the subcommand that was used asks for.
@@ -59,7 +81,9 @@ fn asked(matches: &ArgMatches<'_>) -> Option<Command>
     ensures { result ≡ words_in (subcommand_rows_of matches.now) }
 {
     let (name, inner) = matches.subcommand()?;
-    if name == "step" {
+    if name == "run" {
+        run(inner)
+    } else if name == "step" {
         step(inner)
     } else if name == "check" {
         Some(Command::Check)
@@ -78,10 +102,13 @@ fn refused(error: &Error) -> Result<Option<Command>, NoMemory>
     }
 }
 
-/// What the words after the program's name ask for: `step [--seed N] [--limit N] [--brief]` or `check`. None where the
-/// words are refused.
+/// What the words after the program's name ask for: `run [--workers N] [--limit N] [--brief]`,
+/// `step [--seed N] [--limit N] [--brief]` or `check`. None where the words are refused.
 pub fn read_words(alloc: Global, words: &[&str]) -> Result<Option<Command>, NoMemory>
     ensures command { IfOk result (λ command. command ≡ command_of (map (λ word. word.now) words.now)) }
+    ensures workers { IfOk result (λ command. (workers limit : ℕ) (brief : Bool)
+        → command ≡ Some (Command.Run workers limit brief)
+        → (1 ≤ workers) × (workers ≤ 1) × (1 ≤ limit) × (limit ≤ 100000000)) }
     ensures limit { IfOk result (λ command. (seed limit : ℕ) (brief : Bool)
         → command ≡ Some (Command.Step seed limit brief) → (1 ≤ limit) × (limit ≤ 100000000)) }
 {

@@ -5,7 +5,8 @@ use Rattle.clap.specs.Simple.{App, app_of, is_simple, subcommand_of}
 use Rattle.clap.specs.Faults.{fault_of, is_simple_and_free}
 use Rattle.clap.specs.Kinds.{Kinds, HasKind}
 use Rattle.command_line.specs.Words.{the_app, words_in}
-use Rattle.command_line.proofs.Ranges.{command_range, fails_for, refused, taken, the_app_is_free, the_app_is_simple}
+use Rattle.command_line.specs.declared.words.Command.TheVariants.{Run, Step}
+use Rattle.command_line.proofs.Ranges.{command_read, fails_for, refused, taken, the_app_is_free, the_app_is_simple}
 use Rattle.command_line.proofs.words.read_words.Goals as goal
 
 pub returns-in-Ok-clause-command : goal.returns-in-Ok-clause-command
@@ -17,9 +18,13 @@ returns-in-Ok-clause-command c =
     c.asked.ensures ∙ ap words_in (found ∙ ap (λ (app : App). subcommand_of app words) same)
     ∙ taken words (sym (ap (λ (app : App). fault_of app words) same) ∙ fault)
 
+pub returns-in-Ok-clause-workers : goal.returns-in-Ok-clause-workers
+returns-in-Ok-clause-workers c workers limit brief e =
+    command_read (map (λ word. word.now) c.args.words.now) (Run workers limit brief) (sym (returns-in-Ok-clause-command c) ∙ e)
+
 pub returns-in-Ok-clause-limit : goal.returns-in-Ok-clause-limit
 returns-in-Ok-clause-limit c seed limit brief e =
-    command_range (map (λ word. word.now) c.args.words.now) seed limit brief (sym (returns-in-Ok-clause-command c) ∙ e)
+    command_read (map (λ word. word.now) c.args.words.now) (Step seed limit brief) (sym (returns-in-Ok-clause-command c) ∙ e)
 
 pub returns-in-Err-clause-command : goal.returns-in-Err-clause-command
 returns-in-Err-clause-command c =
