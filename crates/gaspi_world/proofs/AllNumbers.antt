@@ -48,28 +48,28 @@ module _ (f : CallerId → ℕ) where
   below-past : (n : ℕ) (c : CallerId) (cs : List CallerId) → n ≤ f c → hits-below n (c ∷ cs) ≡ hits-below n cs
   unfolding hits-below
   below-past zero c cs past = refl
-  below-past (suc n) c cs past = go (f c == n) refl
+  below-past (suc n) c cs past = go (below-past n c cs (omega arith)) (f c == n) refl
     where
-      go : (b : Bool) → (f c == n) ≡ b → hits n (c ∷ cs) + hits-below n (c ∷ cs) ≡ hits n cs + hits-below n cs
-      go true is = absurd (let same = eqb-true (f c) n is in omega arith)
-      go false is = (let one : hits n (c ∷ cs) ≡ 0 + hits n cs = hit n c cs false is in let rest = below-past n c cs (omega arith) in omega arith)
+      go : hits-below n (c ∷ cs) ≡ hits-below n cs → (b : Bool) → (f c == n) ≡ b → hits n (c ∷ cs) + hits-below n (c ∷ cs) ≡ hits n cs + hits-below n cs
+      go rest true is = absurd (let same = eqb-true (f c) n is in omega arith)
+      go rest false is = (let one : hits n (c ∷ cs) ≡ 0 + hits n cs = hit n c cs false is in omega arith)
 
   below-one : (n : ℕ) (c : CallerId) (cs : List CallerId) → f c < n → hits-below n (c ∷ cs) ≡ 1 + hits-below n cs
   unfolding hits-below
   below-one zero c cs less = absurd (omega arith)
-  below-one (suc n) c cs less = go (f c == n) refl
+  below-one (suc n) c cs less = go (below-one n c cs) (f c == n) refl
     where
-      go : (b : Bool) → (f c == n) ≡ b → hits n (c ∷ cs) + hits-below n (c ∷ cs) ≡ 1 + (hits n cs + hits-below n cs)
-      go true is = (let same = eqb-true (f c) n is in let one : hits n (c ∷ cs) ≡ 1 + hits n cs = hit n c cs true is in let rest = below-past n c cs (omega arith) in omega arith)
-      go false is = (let other = eqb-false (f c) n is in let one : hits n (c ∷ cs) ≡ 0 + hits n cs = hit n c cs false is in let rest = below-one n c cs (omega arith) in omega arith)
+      go : (f c < n → hits-below n (c ∷ cs) ≡ 1 + hits-below n cs) → (b : Bool) → (f c == n) ≡ b → hits n (c ∷ cs) + hits-below n (c ∷ cs) ≡ 1 + (hits n cs + hits-below n cs)
+      go rest true is = (let same = eqb-true (f c) n is in let one : hits n (c ∷ cs) ≡ 1 + hits n cs = hit n c cs true is in let past = below-past n c cs (omega arith) in omega arith)
+      go rest false is = (let other = eqb-false (f c) n is in let one : hits n (c ∷ cs) ≡ 0 + hits n cs = hit n c cs false is in let fewer = rest (omega arith) in omega arith)
 
   below-all : (n : ℕ) (cs : List CallerId) → ((place : ℕ) (c : CallerId) → slice_get cs place ≡ Some c → f c < n) → hits-below n cs ≡ length cs
+  unfolding hits-below hits
   below-all n [] less = none n
     where
       none : (m : ℕ) → hits-below m [] ≡ 0
-      unfolding hits-below, hits
       none zero = refl
-      none (suc m) = none m
+      none (suc m) = (let rest = none m in omega arith)
   below-all n (c ∷ cs) less = (let one = below-one n c cs (less 0 c refl) in let rest = below-all n cs (λ place d at. less (suc place) d at) in omega arith)
 
   below-few : (n : ℕ) (cs : List CallerId) → ((k : ℕ) → k < n → hits k cs ≤ 1) → hits-below n cs ≤ n
@@ -80,11 +80,11 @@ module _ (f : CallerId → ℕ) where
   below-fewer : (n : ℕ) (cs : List CallerId) → ((k : ℕ) → k < n → hits k cs ≤ 1) → (j : ℕ) → j < n → hits j cs ≡ 0 → hits-below n cs < n
   unfolding hits-below
   below-fewer zero cs few j less none = absurd (omega arith)
-  below-fewer (suc n) cs few j less none = go (cases_lt j n)
+  below-fewer (suc n) cs few j less none = go (λ earlier. below-fewer n cs (λ k fewer. few k (omega arith)) j earlier none) (cases_lt j n)
     where
-      go : (j < n) ⊎ (n ≤ j) → hits n cs + hits-below n cs < suc n
-      go (inl earlier) = (let one = few n (omega arith) in let rest = below-fewer n cs (λ k less. few k (omega arith)) j earlier none in omega arith)
-      go (inr last) = (let here : j ≡ n = omega arith in let zero_here : hits n cs ≡ 0 = subst (λ (k : ℕ). hits k cs ≡ 0) here none in let rest = below-few n cs (λ k less. few k (omega arith)) in omega arith)
+      go : (j < n → hits-below n cs < n) → (j < n) ⊎ (n ≤ j) → hits n cs + hits-below n cs < suc n
+      go rest (inl earlier) = (let one = few n (omega arith) in let fewer = rest earlier in omega arith)
+      go rest (inr last) = (let here : j ≡ n = omega arith in let zero_here : hits n cs ≡ 0 = subst (λ (k : ℕ). hits k cs ≡ 0) here none in let all = below-few n cs (λ k fewer. few k (omega arith)) in omega arith)
 
   -- as many callers as numbers, no two of one number: each number has one
   each-hit : (cs : List CallerId) → ((place : ℕ) (c : CallerId) → slice_get cs place ≡ Some c → f c < length cs) → ((k : ℕ) → k < length cs → hits k cs ≤ 1) → (j : ℕ) → j < length cs
@@ -116,5 +116,5 @@ each-number w world k below =
     (λ j less. few-hits (number_of w.callers) w.callers world.once (λ place other c d at_c at_d same. same-number w c d world (there-any w.callers place c at_c) (there-any w.callers other d at_d) same) j) k below in
     (found.1, there-any w.callers found.0 found.1 found.2, found.3)
 
-pub each-pass : (w : World) (start : Start) → IsWorld w → (k : ℕ) → k < length w.callers → (c : CallerId) × IsPassOf w c (let v = new_pass {E = Event} start (Some k) [] in v)
-each-pass w start world k below = (let found = each-number w world k below in (found.0, found.1, ap (λ (n : ℕ). Some n) (sym found.2)))
+pub each-pass : (w : World) (start : Start) → IsWorld w → (k : ℕ) → k < length w.callers → (c : CallerId) × IsPassOf {S = Start} {E = Event} w c (new_pass start (Some k) [])
+each-pass w start world k below = (let found = each-number w world k below in (found.0, (found.1, ap (λ (n : ℕ). Some n) (sym found.2))))

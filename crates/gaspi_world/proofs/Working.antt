@@ -76,6 +76,10 @@ module _ {S : Type 0} where
     many = all.many;
   }
 
+  -- nor does giving the shard back
+  committed-back : (v n : Known S Event) (events : List Event) → HasCommitted events v n → HasCommitted events v (gave_back n 0)
+  committed-back v n events all = record { places = all.places; commits = all.commits; many = all.many }
+
 module _ {S : Type 0} (w : World) (c : CallerId) (call : Call) where
   pub found-in : (x : WorldPart) (v : Known S Event) → Holds w x v → found_after w c call v.seen ≡ answer_in x.state c.rank c.thread call
   found-in x v holds = rw holds.state refl
@@ -207,7 +211,7 @@ module _ {S : Type 0} (w : World) (c : CallerId) where
     joins = joins;
     joined = worked.joined;
     mine = worked.mine ∙ ap (λ (es : List Event). (es ++ joins) ++ Called c call reply ∷ []) looks.mine;
-    commits = committed-since v m n (joins ++ Called c call reply ∷ []) looks.commits worked.commits;
+    commits = committed-back v n (joins ++ Called c call reply ∷ []) (committed-since v m n (joins ++ Called c call reply ∷ []) looks.commits worked.commits);
     room = room;
     last = last;
     unready = unready;
@@ -219,7 +223,7 @@ module _ {S : Type 0} (w : World) (c : CallerId) where
     joins = joins;
     joined = worked.joined;
     mine = worked.mine ∙ (append-nil (m.mine ++ joins) ∙ ap (λ (es : List Event). es ++ joins) looks.mine);
-    commits = committed-since v m n joins looks.commits (committed-all m n joins worked.commits);
+    commits = committed-back v n joins (committed-since v m n joins looks.commits (committed-all m n joins worked.commits));
     room = room;
     more = more;
     unready = unready;
@@ -232,7 +236,7 @@ module _ {S : Type 0} (w : World) (c : CallerId) where
     joins = joins;
     joined = worked.joined;
     mine = worked.mine ∙ (append-nil (m.mine ++ joins) ∙ ap (λ (es : List Event). es ++ joins) looks.mine);
-    commits = committed-since v m n joins looks.commits (committed-all m n joins worked.commits);
+    commits = committed-back v n joins (committed-since v m n joins looks.commits (committed-all m n joins worked.commits));
     room = room;
   }
   attempted call look v m n x (Err EventLimit) world pass looks holds (same, full) =

@@ -2,9 +2,11 @@
 
 ghost use Rattle.std.specs.Prelude.{◌≡◌, ℕ, ◌+◌, ◌<◌, ◌≤◌, IfOk, IsTrue, ◌↔◌, Some, [], length, slice_get};
 ghost use Rattle.commit_table.specs.Views.{new_pass};
+ghost use Rattle.gaspi_types.specs.declared.events.Event.{Event};
 ghost use Rattle.gaspi_types.specs.declared.shapes.CallerId.{CallerId};
 ghost use Rattle.gaspi_world.specs.Callers.{IsPassOf};
 ghost use Rattle.gaspi_world.specs.Passes.{has_number, are_all, AreAll};
+ghost use Rattle.gaspi_world.specs.declared.starts.Start.{Start};
 
 use crate::callers::all_numbered;
 use crate::shards::WorldShard;
@@ -77,7 +79,7 @@ impl World {
         ensures count { IfOk result (λ started. length started.passes.items ≡ length shape.now.callers + workers) }
         ensures passes { IfOk result (λ started. (k : ℕ) → k < length shape.now.callers + workers
             → slice_get started.passes.items k ≡ Some (record { table = started.world.table; known = new_pass started.world.start (Some k) [] })) }
-        ensures callers { IfOk result (λ started. (k : ℕ) → k < length shape.now.callers → (c : CallerId) × IsPassOf shape.now c (new_pass started.world.start (Some k) [])) }
+        ensures callers { IfOk result (λ started. (k : ℕ) → k < length shape.now.callers → (c : CallerId) × IsPassOf {S = Start} {E = Event} shape.now c (new_pass started.world.start (Some k) [])) }
     {
         let limits = shape.limits();
         let machine = Machine::start(alloc, shape)?;

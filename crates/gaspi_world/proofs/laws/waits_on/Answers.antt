@@ -2,11 +2,11 @@
 use Rattle.gaspi_world.proofs.SpentLooks.{waited-fresh, waited-called, waited-stopped}
 use Rattle.gaspi_world.proofs.laws.waits_on.Goals as goal
 
-pub fresh : goal.fresh
-fresh c = waited-fresh
+pub returns-clause-fresh : goal.returns-clause-fresh
+returns-clause-fresh c = waited-fresh
 
-pub called : goal.called
-called c = waited-called
+pub returns-clause-called : goal.returns-clause-called
+returns-clause-called c = waited-called
 
-pub stopped : goal.stopped
-stopped c = waited-stopped
+pub returns-clause-stopped : goal.returns-clause-stopped
+returns-clause-stopped c = waited-stopped

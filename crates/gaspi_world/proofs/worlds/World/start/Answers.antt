@@ -1,4 +1,5 @@
 use Rattle.std.proofs.Common.{arith}
+use Rattle.gaspi_world.proofs.AllNumbers.{each-pass}
 use Rattle.gaspi_world.proofs.FewCallers.{few-callers}
 use Rattle.gaspi_world.proofs.worlds.World.start.Goals as goal
 
@@ -7,3 +8,6 @@ overflow_cast-count c = (let few = few-callers c.args.shape.now c.limits-limits.
 
 pub overflow_add-count : goal.overflow_add-count
 overflow_add-count c = (let few = few-callers c.args.shape.now c.limits-limits.ensures.world in let is = c.callers.ensures in let most = c.requires in rw is (omega arith))
+
+pub returns-clause-callers : goal.returns-clause-callers
+returns-clause-callers c = λ k below. each-pass c.args.shape.now c.in_ok-table.table.start c.limits-limits.ensures.world k below
