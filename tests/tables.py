@@ -10,7 +10,8 @@ from pathlib import Path
 
 TOP = Path(__file__).resolve().parent.parent
 SEEDS = ("0", "1", "4294967295")  # the seeds under which what `step` writes is judged
-COMMANDS = ("step", "step --brief", "check")  # what reads a world text
+RACES = 25  # how often a world with a race is run on threads
+COMMANDS = ("run", "run --brief", "step", "step --brief", "check")  # what reads a world text
 ENDINGS = {"failed": 3, "stuck": 3, "limit": 8}  # how a script may end early, and the status
 ESCAPES = {"t": "\t", "r": "\r", "\\": "\\", '"': '"'}
 END = "--"  # the line that ends a block
@@ -31,6 +32,7 @@ class Case:
     output: bytes | Path | None  # its bytes, what is opened for it and not compared, or None: any legal journal
     status: int
     whole: bool = False  # whether it stands in full; such a case is run by the launcher
+    once: tuple[bytes, ...] = ()  # what each stands in exactly one line of the journal, where any legal one will do
 
 
 def under_seeds(place: str, name: str, world: bytes) -> Iterator[Case]:
@@ -98,6 +100,7 @@ class Table:
         sections = {
             "case": self.case,
             "stepped": self.stepped,
+            "raced": self.raced,
             "scripts": self.scripts,
             "calls": self.calls,
             "journals": self.journals,
@@ -204,6 +207,14 @@ class Table:
         """A world of which nothing is said but that what `step` writes is legal."""
         place, title = self.place(), self.new_title(name)
         yield from under_seeds(place, title, encoded(self.block()))
+
+    def raced(self, name: str) -> Iterator[Case]:
+        """A world that is run on threads again and again: each journal is legal, and has each text in one line."""
+        place, title, world = self.place(), self.new_title(name), encoded(self.block())
+        once = tuple(encoded(row) for row in self.rows())
+        for turn in range(1, RACES + 1):
+            words = [b"run", b"--limit", b"100000000"]
+            yield Case(place, f"{title}: run {turn}", words, world, None, 0, once=once)
 
     def scripts(self, world: str) -> Iterator[Case]:
         """Scripts of 0.0 behind a world, parted by empty lines."""

@@ -8,7 +8,7 @@ ghost use Rattle.text_lines.specs.Lines.{fed_lines};
 ghost use Rattle.gaspi_run.specs.Command.{is_any_wrong, is_any_limit, run_status, run_text, IsWithin, is_plain, HasRunOnThreads, IsStepped, IsChecked, IsTold, IsRead, IsNoJournal, HasVerdict, world_read, why_word, verdict_text, verdict_status};
 
 use crate::scheduling::schedule;
-use crate::threads::run_on_threads;
+use crate::threads::{RanOnThreads, run_on_threads};
 use crate::transcripts::write_transcripts;
 use crate::turns::Finished;
 use call_journal::{Verdict, check};
@@ -105,12 +105,16 @@ pub fn tell_run<R: Threads + Wait + Sync>(
 {
     notification_order();
     let (shape, scripts) = read_world(alloc, input)?;
-    let ran = run_on_threads(rt, alloc, &shape, &scripts, workers, limit)?;
-    let text = run_text(alloc, brief, &shape, &scripts, &ran.journal)?;
-    let status = run_status(ran.outcomes.as_slice());
+    let RanOnThreads {
+        journal,
+        tally,
+        outcomes,
+    } = run_on_threads(rt, alloc, &shape, &scripts, workers, limit)?;
+    let text = run_text(alloc, brief, &shape, &scripts, &journal)?;
+    let status = run_status(outcomes.as_slice());
     Ok(Told {
-        journal: ran.journal,
-        tally: Some(ran.tally),
+        journal,
+        tally: Some(tally),
         status,
         text,
     })
