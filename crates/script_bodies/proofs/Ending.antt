@@ -1,7 +1,6 @@
 -- The end of a caller is recorded, and done.
-use Rattle.std.proofs.Common.{◌≡◌, ℕ, Bool, true, false, List, [], ◌∷◌, ◌++◌, Option, None, Some, Result, Ok, Err, refl, sym, ap, ◌∙◌, subst, is_ok}
+use Rattle.std.proofs.Common.{◌≡◌, true, false, List, [], ◌∷◌, ◌++◌, Option, Some, Result, Ok, Err, refl, sym, ap, ◌∙◌, subst}
 use Rattle.std.specs.List.{list_any}
-use mathlib.Core.List.{IsPrefix}
 use Rattle.gaspi_types.specs.World.{World, IsWorld, is_caller}
 use Rattle.gaspi_types.specs.declared.calls.Call.{Call}
 use Rattle.gaspi_types.specs.declared.calls.Call.TheVariants.{End}
@@ -26,7 +25,7 @@ use Rattle.gaspi_world.specs.declared.calling.Stop.{Stop}
 use Rattle.gaspi_world.specs.declared.calling.Stop.TheVariants.{NoMemory, EventLimit}
 use Rattle.script_bodies.specs.SoFar.{HasNoEnd}
 use Rattle.script_bodies.proofs.Active.{still-active, end-answer, end-has-room}
-use Rattle.script_bodies.proofs.OwnCalls.{own-after, own-events, own-more, prefix-own, same-front, no-end-from, no-end-same}
+use Rattle.script_bodies.proofs.OwnCalls.{own-after, own-events, own-more, same-front, no-end-same}
 
 abbrev Replies : Type 0
 Replies = (s t : State) (c : CallerId) (call : Call) (reply : Reply) → step s (Called c call reply) ≡ Ok t
@@ -40,15 +39,8 @@ module _ {S : Type 0} (w : World) (c : CallerId) (m n : Known S Event) (world : 
       seen : own_calls c.rank c.thread n.seen ≡ own_calls c.rank c.thread m.mine
       seen = sym (own-events c n.seen) ∙ (ap (own_calls c.rank c.thread) (stop.goes_on.own ∙ stop.mine) ∙ own-after w c End stop.earlier stop.last m.mine stop.joins stop.joined)
 
-      last-prefix : IsPrefix stop.last n.seen
-      last-prefix = last-of stop.earlier stop.looks.between
-        where
-          last-of : (earlier : List (List Event)) → ((k : ℕ) (h : List Event) → Rattle.std.specs.List.slice_get (earlier ++ stop.last ∷ []) k ≡ Some h → IsPrefix m.seen h × IsPrefix h n.seen) → IsPrefix stop.last n.seen
-          last-of [] between = (between 0 stop.last refl).1
-          last-of (x ∷ xs) between = last-of xs (λ k h at. between (Rattle.std.proofs.Common.suc k) h at)
-
       none : HasNoEnd c stop.last
-      none = no-end-from c stop.last n.seen (prefix-own c stop.last n.seen last-prefix) (no-end-same c n.seen m.mine seen active)
+      none = subst (HasNoEnd c) (sym (stop.now refl)) (no-end-same c n.seen m.mine seen active)
 
       go : (r : Result State Why) → reached w stop.last ≡ r → ⊥
       go (Err why) at = (let never : false ≡ true = rw at at stop.room in let no : ⊥ = cc in no)

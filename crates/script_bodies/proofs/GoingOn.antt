@@ -1,14 +1,11 @@
 -- A run of a script goes on with each call, and the caller's end makes it whole.
-use Rattle.std.proofs.Common.{◌≡◌, ℕ, suc, ◌+◌, ◌-◌, ◌<◌, ◌≤◌, Bool, true, false, ◌&&◌, nat_lt, List, [], ◌∷◌, ◌++◌, Option, None, Some, Result, Ok, Err, inl, inr, refl, sym, ap, ◌∙◌, subst, arith, if◌then◌else◌, append_assoc, append-nil}
+use Rattle.std.proofs.Common.{◌≡◌, ℕ, ◌+◌, ◌-◌, ◌<◌, ◌≤◌, Bool, true, false, ◌&&◌, nat_lt, List, [], ◌∷◌, ◌++◌, Option, None, Some, Result, Ok, Err, inl, inr, refl, sym, ap, ◌∙◌, subst, arith, if◌then◌else◌, append_assoc, append-nil}
 use Rattle.std.specs.List.{All, slice_get, sum_by}
-use Rattle.std.proofs.lemmas.Bool.{ltb-true, leb-true}
+use Rattle.std.proofs.lemmas.Bool.{ltb-true}
 use Rattle.std.proofs.lemmas.List.Elements.{All-nil, All-cons, All-head, All-tail}
 use Rattle.std.proofs.lemmas.List.Sums.{sum_by-cons}
-use Rattle.timeout_state.specs.Looks.{looks_of, HasLook}
-use Rattle.gaspi_types.specs.declared.calls.Timeout.TheVariants.{Looks, Block}
-use Rattle.rank_script.specs.PlainScripts.{IsPlain}
-use Rattle.script_bodies.specs.Looks.{has_look, has_look_in, have_looks, bounded}
-use mathlib.Core.List.{IsPrefix}
+use Rattle.timeout_state.specs.Looks.{looks_of}
+use Rattle.rank_script.specs.PlainScripts.{IsPlain, MayLook}
 use Rattle.gaspi_types.specs.World.{World}
 use Rattle.gaspi_types.specs.declared.calls.Call.{Call}
 use Rattle.gaspi_types.specs.declared.calls.Call.TheVariants.{End}
@@ -16,24 +13,28 @@ use Rattle.gaspi_types.specs.declared.calls.Timeout.{Timeout}
 use Rattle.gaspi_types.specs.declared.events.Event.{Event}
 use Rattle.gaspi_types.specs.declared.events.Event.TheVariants.{Called}
 use Rattle.gaspi_types.specs.declared.replies.Reply.{Reply}
+use Rattle.gaspi_types.specs.declared.replies.Reply.TheVariants as replies
 use Rattle.gaspi_types.specs.declared.replies.Reply.TheVariants.{Done}
 use Rattle.gaspi_types.specs.declared.shapes.CallerId.{CallerId}
 use Rattle.gaspi_model.specs.Step.{own_calls}
 use Rattle.commit_table.specs.declared.views.Known.{Known}
-use Rattle.commit_table.proofs.Lists.{prefix_self, prefix_none, prefix_trans}
+use Rattle.commit_table.proofs.Lists.{prefix_self, prefix_trans}
 use Rattle.rank_script.specs.Runs.{Progress, Going, Over, going_on, advanced, is_stuck, is_retried, is_failed, is_timeout, present_of, Follows, IsStopped, IsRun, end_pair}
 use Rattle.rank_script.specs.declared.scripts.RunOutcome.{RunOutcome}
 use Rattle.rank_script.specs.declared.scripts.RunOutcome.TheVariants as outcomes
 use Rattle.rank_script.specs.declared.scripts.ScriptLine.{ScriptLine}
-use Rattle.gaspi_world.specs.Attempts.{GoesOn}
+use Rattle.gaspi_world.specs.Attempts.{is_full_after}
 use Rattle.gaspi_world.specs.Calling.{IsCalled, IsStopped as IsCallStopped, Calls}
+use Rattle.gaspi_world.specs.Waits.{HaveWaited}
 use Rattle.gaspi_world.specs.declared.calling.Stop.{Stop}
 use Rattle.gaspi_world.specs.declared.calling.Stop.TheVariants.{NoMemory, EventLimit}
+use Rattle.gaspi_world.specs.declared.starts.Start.{Start}
+use Rattle.script_bodies.specs.Looks.{looks_in, bounded, looks_along}
 use Rattle.script_bodies.specs.Runs.{moved, HadNoRoom, IsStoppedBefore, HasCause, HasRun}
 use Rattle.script_bodies.specs.SoFar.{HasNoEnd, ComesTo, HasComeTo}
 use Rattle.script_bodies.specs.Joins.{AreJoinsFollowed}
 use Rattle.script_bodies.proofs.Joins.{Itself, joins-itself, end-adds-nothing, followed-both, followed-all, call-follows, end-follows}
-use Rattle.script_bodies.proofs.OwnCalls.{own-after, own-events, own-more, prefix-own, prefix-both, no-end-more, no-end-same}
+use Rattle.script_bodies.proofs.OwnCalls.{own-after, own-events, own-more, no-end-more, no-end-same}
 
 abbrev Pairs : Type 0
 Pairs = List (Call × Reply)
@@ -50,6 +51,37 @@ Ended = (lines : List ScriptLine) (pairs : Pairs) (outcome : RunOutcome) → Fol
 abbrev pub Stopped : Type 0
 Stopped = (lines : List ScriptLine) (pairs : Pairs) (line : ScriptLine) (made : ℕ) (rest : List ScriptLine) (outcome : RunOutcome)
     → Follows (going_on lines) pairs (Going line made rest) → IsStopped line.number outcome → IsRun lines (pairs ++ end_pair) outcome
+
+-- The laws of waits.
+
+abbrev pub WaitsFresh : Type 0
+WaitsFresh = (w : World) (c : CallerId) (v : Known Start Event) → v.mine ≡ [] → HaveWaited w c [] v
+
+abbrev pub WaitsCalled : Type 0
+WaitsCalled = (w : World) (c : CallerId) (call : Call) (timeout : Timeout) (reply : Reply) (v n : Known Start Event) (ns : List ℕ) (k : ℕ) → HaveWaited w c ns v
+    → IsCalled w c call timeout reply v n → (reply ≡ replies.Timeout → looks_of timeout ≡ Some k) → HaveWaited w c (ns ++ k ∷ []) n
+
+abbrev pub WaitsStopped : Type 0
+WaitsStopped = (w : World) (c : CallerId) (call : Call) (full : Bool) (v n : Known Start Event) (ns : List ℕ) → HaveWaited w c ns v → IsCallStopped w c call full v n → HaveWaited w c ns n
+
+-- How many looks the calls of a run have, with one call more.
+
+-- at a line those of the line
+along-line : (limit : ℕ) (p : Progress) (pairs : Pairs) (line : ScriptLine) (made : ℕ) (later : List ScriptLine) (pair : Call × Reply) → Follows p pairs (Going line made later)
+    → looks_along limit p (pairs ++ pair ∷ []) ≡ looks_along limit p pairs ++ looks_in limit line.timeout ∷ []
+along-line limit p [] line made later pair there = ap (λ (q : Progress). looks_along limit q (pair ∷ [])) (sym there)
+along-line limit (Over outcome) (first ∷ pairs) line made later pair there = absurd there
+along-line limit (Going here tried lines) (first ∷ pairs) line made later pair there =
+    ap (λ (ns : List ℕ). looks_in limit here.timeout ∷ ns) (along-line limit (advanced (Going here tried lines) first.1) pairs line made later pair there.1)
+
+-- anywhere some number
+along-any : (limit : ℕ) (p : Progress) (pairs : Pairs) (pair : Call × Reply) → (k : ℕ) × (looks_along limit p (pairs ++ pair ∷ []) ≡ looks_along limit p pairs ++ k ∷ [])
+along-any limit (Over outcome) [] pair = (1, refl)
+along-any limit (Going line made lines) [] pair = (looks_in limit line.timeout, refl)
+along-any limit (Over outcome) (first ∷ pairs) pair = (let rest = along-any limit (Over outcome) pairs pair in (rest.0, ap (λ (ns : List ℕ). 1 ∷ ns) rest.1))
+along-any limit (Going line made lines) (first ∷ pairs) pair =
+    let rest = along-any limit (advanced (Going line made lines) first.1) pairs pair in
+    (rest.0, ap (λ (ns : List ℕ). looks_in limit line.timeout ∷ ns) rest.1)
 
 -- A run goes on by its lines, and is never stopped by a reply.
 
@@ -69,194 +101,192 @@ advanced-no-limit line made lines reply number = go (is_stuck line reply) (is_re
     go false false true is = cc
     go false false false is = going-no-limit lines number is
 
-same-prefix : {A : Type 0} (a b : List A) → a ≡ b → IsPrefix a b
-same-prefix {A} a b same = subst (IsPrefix a) same (prefix_self a)
-
-module _ (w : World) (c : CallerId) (lines : List ScriptLine) where
+module _ (w : World) (c : CallerId) (lines : List ScriptLine) (limit : ℕ) where
   abbrev own : List Event → Pairs
   own events = own_calls c.rank c.thread events
 
-  module _ {S : Type 0} where
-    pub comes-first : (v : Known S Event) → v.mine ≡ [] → HasComeTo w c lines (going_on lines) v v
-    comes-first v none =
-        let calls : own v.mine ≡ [] = ap own none in
+  -- how many looks each of these calls has
+  abbrev along : Pairs → List ℕ
+  along pairs = looks_along limit (going_on lines) pairs
+
+  pub comes-first : WaitsFresh → (v : Known Start Event) → v.mine ≡ [] → HasComeTo w c lines limit (going_on lines) v v
+  comes-first fresh v none =
+      let calls : own v.mine ≡ [] = ap own none in
+      record {
+        seen = prefix_self v.seen;
+        party = refl;
+        start = refl;
+        waited = subst (λ (ps : Pairs). HaveWaited w c (along ps) v) (sym calls) (fresh w c v none);
+        active = λ k reply at. (let no : ⊥ = let here = subst (λ (ps : Pairs). slice_get ps k ≡ Some (End, reply)) calls at in cc in no);
+        comes = inl (record {
+          follows = subst (λ (ps : Pairs). Follows (going_on lines) ps (going_on lines)) (sym calls) refl;
+          no_limit = going-no-limit lines;
+          followed = subst (AreJoinsFollowed None) (sym none) tt;
+        });
+      }
+
+  module _ (v m n : Known Start Event) (line : ScriptLine) (made : ℕ) (later : List ScriptLine) where
+    -- where the run has come to a line, its calls lead there
+    leads-there : ComesTo w c lines (Going line made later) m → Follows (going_on lines) (own m.mine) (Going line made later)
+    leads-there (inl way) = way.follows
+    leads-there (inr (outcome, over, stop)) = cc
+
+    joins-followed : ComesTo w c lines (Going line made later) m → AreJoinsFollowed None m.mine
+    joins-followed (inl way) = way.followed
+    joins-followed (inr (outcome, over, stop)) = cc
+
+    comes-called : Onward → Itself → WaitsCalled → (reply : Reply) → (line.call ≡ End → ⊥) → HasComeTo w c lines limit (Going line made later) v m → IsCalled w c line.call (bounded limit line.timeout) reply m n
+        → HasComeTo w c lines limit (advanced (Going line made later) reply) v n
+    comes-called onward itself on reply plain so_far called =
+        let before = own-after w c line.call called.earlier called.last m.mine called.joins called.joined in
+        let calls : own n.mine ≡ own m.mine ++ (line.call, reply) ∷ [] = ap own called.mine ∙ (own-more c (m.mine ++ called.joins) line.call reply ∙ ap (λ (ps : Pairs). ps ++ (line.call, reply) ∷ []) before) in
         record {
-          seen = prefix_self v.seen;
-          party = refl;
-          start = refl;
-          own = subst (λ (ps : Pairs). IsPrefix ps (own v.seen)) (sym calls) (prefix_none (own v.seen));
-          active = λ k reply at. (let no : ⊥ = let here = subst (λ (ps : Pairs). slice_get ps k ≡ Some (End, reply)) calls at in cc in no);
+          seen = prefix_trans v.seen m.seen n.seen so_far.seen called.goes_on.seen;
+          party = called.goes_on.party ∙ so_far.party;
+          start = called.goes_on.start ∙ so_far.start;
+          waited = subst (λ (ns : List ℕ). HaveWaited w c ns n) (sym (ap along calls ∙ along-line limit (going_on lines) (own m.mine) line made later (line.call, reply) (leads-there so_far.comes)))
+              (on w c line.call (bounded limit line.timeout) reply m n (along (own m.mine)) (looks_in limit line.timeout) so_far.waited called (λ late. refl));
+          active = subst (HasNoEnd c) (sym called.mine) (no-end-more c (m.mine ++ called.joins) line.call reply plain (no-end-same c (m.mine ++ called.joins) m.mine before so_far.active));
           comes = inl (record {
-            follows = subst (λ (ps : Pairs). Follows (going_on lines) ps (going_on lines)) (sym calls) refl;
-            no_limit = going-no-limit lines;
-            followed = subst (AreJoinsFollowed None) (sym none) tt;
+            follows = subst (λ (ps : Pairs). Follows (going_on lines) ps (advanced (Going line made later) reply)) (sym calls) (onward (going_on lines) (own m.mine) line made later reply (leads-there so_far.comes));
+            no_limit = advanced-no-limit line made later reply;
+            followed = subst (AreJoinsFollowed None) (sym (called.mine ∙ append_assoc m.mine called.joins (Called c line.call reply ∷ [])))
+                (followed-both None m.mine (called.joins ++ Called c line.call reply ∷ []) (joins-followed so_far.comes) (call-follows c line.call reply called.joins (joins-itself w c itself line.call called.earlier called.last called.joins called.joined)));
           });
         }
 
-    module _ (v m n : Known S Event) (line : ScriptLine) (made : ℕ) (later : List ScriptLine) (timeout : Timeout) where
-      -- where the run has come to a line, its calls lead there
-      leads-there : ComesTo w c lines (Going line made later) m → Follows (going_on lines) (own m.mine) (Going line made later)
-      leads-there (inl way) = way.follows
-      leads-there (inr (outcome, over, stop)) = cc
+    comes-stopped : Itself → WaitsStopped → (full : Bool) (outcome : RunOutcome) → IsStopped line.number outcome → (outcome ≡ outcomes.Limit line.number → full ≡ true) → HasComeTo w c lines limit (Going line made later) v m
+        → IsCallStopped w c line.call full m n → HasComeTo w c lines limit (Over outcome) v n
+    comes-stopped itself still full outcome is_stopped no_room so_far stop =
+        let calls : own n.mine ≡ own m.mine = ap own stop.mine ∙ own-after w c line.call stop.earlier stop.last m.mine stop.joins stop.joined in
+        record {
+          seen = prefix_trans v.seen m.seen n.seen so_far.seen stop.goes_on.seen;
+          party = stop.goes_on.party ∙ so_far.party;
+          start = stop.goes_on.start ∙ so_far.start;
+          waited = subst (λ (ps : Pairs). HaveWaited w c (along ps) n) (sym calls) (still w c line.call full m n (along (own m.mine)) so_far.waited stop);
+          active = no-end-same c n.mine m.mine calls so_far.active;
+          comes = inr (
+            outcome,
+            refl,
+            record {
+              line = line;
+              made = made;
+              later = later;
+              follows = subst (λ (ps : Pairs). Follows (going_on lines) ps (Going line made later)) (sym calls) (leads-there so_far.comes);
+              is_stopped = is_stopped;
+              cause = λ is. record {
+                history = n.seen;
+                begins = prefix_self n.seen;
+                events = stop.goes_on.own;
+                full = ap (is_full_after w c line.call) (sym (stop.now (no_room is))) ∙ (stop.room ∙ no_room is);
+              };
+              before = m.mine;
+              followed = joins-followed so_far.comes;
+              joins = stop.joins;
+              joined = joins-itself w c itself line.call stop.earlier stop.last stop.joins stop.joined;
+              mine = stop.mine;
+            },
+          );
+        }
 
-      joins-followed : ComesTo w c lines (Going line made later) m → AreJoinsFollowed None m.mine
-      joins-followed (inl way) = way.followed
-      joins-followed (inr (outcome, over, stop)) = cc
+    pub comes-going : Onward → Itself → WaitsCalled → WaitsStopped → (r : Result Reply Stop) → (line.call ≡ End → ⊥) → HasComeTo w c lines limit (Going line made later) v m → Calls w c line.call (bounded limit line.timeout) m r n
+        → HasComeTo w c lines limit (moved (Going line made later) r) v n
+    comes-going onward itself on still (Ok reply) plain so_far told = comes-called onward itself on reply plain so_far told
+    comes-going onward itself on still (Err EventLimit) plain so_far told = comes-stopped itself still true (outcomes.Limit line.number) (inl refl) (λ is. refl) so_far told
+    comes-going onward itself on still (Err NoMemory) plain so_far told = comes-stopped itself still false (outcomes.NoMemory line.number) (inr refl) (λ is. (let no : ⊥ = cc in absurd no)) so_far told
 
-      own-seen : GoesOn w c m n → own n.mine ≡ own n.seen
-      own-seen on = sym (ap own on.own) ∙ own-events c n.seen
+  -- the end makes the run whole
+  pub has-run : Ended → Stopped → WaitsCalled → (v m n : Known Start Event) (outcome : RunOutcome) (timeout : Timeout) → HasComeTo w c lines limit (Over outcome) v m → IsCalled w c End timeout Done m n
+      → HasRun w c lines limit outcome v n
+  has-run ended stopped on v m n outcome timeout so_far called = record {
+    goes_on = record {
+      seen = prefix_trans v.seen m.seen n.seen so_far.seen called.goes_on.seen;
+      legal = called.goes_on.legal;
+      own = called.goes_on.own;
+      party = called.goes_on.party ∙ so_far.party;
+      start = called.goes_on.start ∙ so_far.start;
+    };
+    run = subst (λ (ps : Pairs). IsRun lines ps outcome) (sym calls) (whole so_far.comes);
+    cause = caused outcome so_far.comes;
+    unmade = left-unmade so_far.comes;
+    stopped_before = before-it so_far.comes;
+    followed = subst (AreJoinsFollowed (left-unmade so_far.comes)) (sym ends) (all-followed so_far.comes);
+    waited = subst (λ (ns : List ℕ). HaveWaited w c ns n) (sym (ap along calls ∙ one.1)) (on w c End timeout Done m n (along (own m.mine)) one.0 so_far.waited called (λ late. (let no : ⊥ = cc in absurd no)));
+  }
+    where
+      calls : own n.mine ≡ own m.mine ++ end_pair
+      calls = ap own called.mine ∙ (own-more c (m.mine ++ called.joins) End Done ∙ ap (λ (ps : Pairs). ps ++ (End, Done) ∷ []) (own-after w c End called.earlier called.last m.mine called.joins called.joined))
 
-      comes-called : Onward → Itself → (reply : Reply) → (line.call ≡ End → ⊥) → HasComeTo w c lines (Going line made later) v m → IsCalled w c line.call timeout reply m n → HasComeTo w c lines (advanced (Going line made later) reply) v n
-      comes-called onward itself reply plain so_far called =
-          let before = own-after w c line.call called.earlier called.last m.mine called.joins called.joined in
-          let calls : own n.mine ≡ own m.mine ++ (line.call, reply) ∷ [] = ap own called.mine ∙ (own-more c (m.mine ++ called.joins) line.call reply ∙ ap (λ (ps : Pairs). ps ++ (line.call, reply) ∷ []) before) in
+      ends : n.mine ≡ m.mine ++ Called c End Done ∷ []
+      ends = called.mine ∙ ap (λ (es : List Event). es ++ Called c End Done ∷ []) (ap (λ (es : List Event). m.mine ++ es) (end-adds-nothing w c called.earlier called.last called.joins called.joined) ∙ append-nil m.mine)
+
+      -- the end has some number of looks, and never times out
+      one : (k : ℕ) × (along (own m.mine ++ end_pair) ≡ along (own m.mine) ++ k ∷ [])
+      one = along-any limit (going_on lines) (own m.mine) (End, Done)
+
+      whole : ComesTo w c lines (Over outcome) m → IsRun lines (own m.mine ++ end_pair) outcome
+      whole (inl way) = ended lines (own m.mine) outcome way.follows
+      whole (inr (o, over, stop)) =
+          let same : o ≡ outcome = cc in
+          stopped lines (own m.mine) stop.line stop.made stop.later outcome stop.follows (subst (IsStopped stop.line.number) same stop.is_stopped)
+
+      at-limit : (number : ℕ) → ComesTo w c lines (Over (outcomes.Limit number)) m → HadNoRoom w c lines number n
+      at-limit number (inl way) = absurd (way.no_limit number refl)
+      at-limit number (inr (o, over, stop)) =
+          let same : o ≡ outcomes.Limit number = cc in
+          let line_is : outcomes.Limit number ≡ outcomes.Limit stop.line.number = limit-is (subst (IsStopped stop.line.number) same stop.is_stopped) in
+          let number_is : stop.line.number ≡ number = cc in
+          let cause = stop.cause (same ∙ line_is) in
           record {
-            seen = prefix_trans v.seen m.seen n.seen so_far.seen called.goes_on.seen;
-            party = called.goes_on.party ∙ so_far.party;
-            start = called.goes_on.start ∙ so_far.start;
-            own = same-prefix (own n.mine) (own n.seen) (own-seen called.goes_on);
-            active = subst (HasNoEnd c) (sym called.mine) (no-end-more c (m.mine ++ called.joins) line.call reply plain (no-end-same c (m.mine ++ called.joins) m.mine before so_far.active));
-            comes = inl (record {
-              follows = subst (λ (ps : Pairs). Follows (going_on lines) ps (advanced (Going line made later) reply)) (sym calls) (onward (going_on lines) (own m.mine) line made later reply (leads-there so_far.comes));
-              no_limit = advanced-no-limit line made later reply;
-              followed = subst (AreJoinsFollowed None) (sym (called.mine ∙ append_assoc m.mine called.joins (Called c line.call reply ∷ [])))
-                  (followed-both None m.mine (called.joins ++ Called c line.call reply ∷ []) (joins-followed so_far.comes) (call-follows c line.call reply called.joins (joins-itself w c itself line.call called.earlier called.last called.joins called.joined)));
-            });
+            line = stop.line;
+            made = stop.made;
+            later = stop.later;
+            is_line = number_is;
+            history = cause.history;
+            begins = prefix_trans cause.history m.seen n.seen cause.begins called.goes_on.seen;
+            follows = subst (λ (ps : Pairs). Follows (going_on lines) ps (Going stop.line stop.made stop.later)) (sym (ap own cause.events) ∙ own-events c cause.history) stop.follows;
+            events = ap (λ (es : List Event). es ++ Called c End Done ∷ []) cause.events ∙ sym ends;
+            full = cause.full;
+          }
+        where
+          limit-is : {k : ℕ} → IsStopped k (outcomes.Limit number) → outcomes.Limit number ≡ outcomes.Limit k
+          limit-is (inl is) = is
+          limit-is (inr is) = cc
+
+      -- the call that was not made
+      left-unmade : ComesTo w c lines (Over outcome) m → Option Call
+      left-unmade (inl way) = None
+      left-unmade (inr (o, over, stop)) = Some stop.line.call
+
+      before-it : (come : ComesTo w c lines (Over outcome) m) → (call : Call) → left-unmade come ≡ Some call → IsStoppedBefore w c lines outcome n call
+      before-it (inl way) call is = absurd (let no : ⊥ = cc in no)
+      before-it (inr (o, over, stop)) call is =
+          let same : o ≡ outcome = cc in
+          let call_is : stop.line.call ≡ call = cc in
+          record {
+            line = stop.line;
+            made = stop.made;
+            later = stop.later;
+            pairs = own m.mine;
+            follows = stop.follows;
+            all = sym calls;
+            is_call = call_is;
+            is_stopped = subst (IsStopped stop.line.number) same stop.is_stopped;
           }
 
-      -- the last look of a call is one after a history between
-      last-between : (earlier : List (List Event)) (last : List Event) → ((k : ℕ) (h : List Event) → slice_get (earlier ++ last ∷ []) k ≡ Some h → IsPrefix m.seen h × IsPrefix h n.seen) → IsPrefix m.seen last × IsPrefix last n.seen
-      last-between [] last between = between 0 last refl
-      last-between (x ∷ xs) last between = last-between xs last (λ k h at. between (suc k) h at)
+      all-followed : (come : ComesTo w c lines (Over outcome) m) → AreJoinsFollowed (left-unmade come) (m.mine ++ Called c End Done ∷ [])
+      all-followed (inl way) = followed-both None m.mine (Called c End Done ∷ []) way.followed tt
+      all-followed (inr (o, over, stop)) =
+          subst (λ (es : List Event). AreJoinsFollowed (Some stop.line.call) (es ++ Called c End Done ∷ [])) (sym stop.mine)
+          (subst (AreJoinsFollowed (Some stop.line.call)) (sym (append_assoc stop.before stop.joins (Called c End Done ∷ [])))
+          (followed-both (Some stop.line.call) stop.before (stop.joins ++ Called c End Done ∷ []) (followed-all (Some stop.line.call) stop.before stop.followed) (end-follows c stop.line.call Done stop.joins stop.joined)))
 
-      comes-stopped : Itself → (full : Bool) (outcome : RunOutcome) → IsStopped line.number outcome → (outcome ≡ outcomes.Limit line.number → full ≡ true) → HasComeTo w c lines (Going line made later) v m → IsCallStopped w c line.call full m n → HasComeTo w c lines (Over outcome) v n
-      comes-stopped itself full outcome is_stopped limit so_far stop =
-          let calls : own n.mine ≡ own m.mine = ap own stop.mine ∙ own-after w c line.call stop.earlier stop.last m.mine stop.joins stop.joined in
-          let between = last-between stop.earlier stop.last stop.looks.between in
-          let up : IsPrefix (own n.mine) (own stop.last) =
-          subst (λ (ps : Pairs). IsPrefix ps (own stop.last)) (sym calls) (prefix_trans (own m.mine) (own m.seen) (own stop.last) so_far.own (prefix-own c m.seen stop.last between.0)) in
-          let down : IsPrefix (own stop.last) (own n.mine) = subst (IsPrefix (own stop.last)) (sym (own-seen stop.goes_on)) (prefix-own c stop.last n.seen between.1) in
-          record {
-            seen = prefix_trans v.seen m.seen n.seen so_far.seen stop.goes_on.seen;
-            party = stop.goes_on.party ∙ so_far.party;
-            start = stop.goes_on.start ∙ so_far.start;
-            own = same-prefix (own n.mine) (own n.seen) (own-seen stop.goes_on);
-            active = no-end-same c n.mine m.mine calls so_far.active;
-            comes = inr (
-              outcome,
-              refl,
-              record {
-                line = line;
-                made = made;
-                later = later;
-                follows = subst (λ (ps : Pairs). Follows (going_on lines) ps (Going line made later)) (sym calls) (leads-there so_far.comes);
-                is_stopped = is_stopped;
-                cause = λ is. record {
-                  history = stop.last;
-                  begins = between.1;
-                  all = prefix-both (own stop.last) (own n.mine) down up;
-                  full = stop.room ∙ limit is;
-                };
-                before = m.mine;
-                followed = joins-followed so_far.comes;
-                joins = stop.joins;
-                joined = joins-itself w c itself line.call stop.earlier stop.last stop.joins stop.joined;
-                mine = stop.mine;
-              },
-            );
-          }
-
-      pub comes-going : Onward → Itself → (r : Result Reply Stop) → (line.call ≡ End → ⊥) → HasComeTo w c lines (Going line made later) v m → Calls w c line.call timeout m r n → HasComeTo w c lines (moved (Going line made later) r) v n
-      comes-going onward itself (Ok reply) plain so_far told = comes-called onward itself reply plain so_far told
-      comes-going onward itself (Err EventLimit) plain so_far told = comes-stopped itself true (outcomes.Limit line.number) (inl refl) (λ is. refl) so_far told
-      comes-going onward itself (Err NoMemory) plain so_far told = comes-stopped itself false (outcomes.NoMemory line.number) (inr refl) (λ is. (let no : ⊥ = cc in absurd no)) so_far told
-
-    -- the end makes the run whole
-    pub has-run : Ended → Stopped → (v m n : Known S Event) (outcome : RunOutcome) (timeout : Timeout) → HasComeTo w c lines (Over outcome) v m → IsCalled w c End timeout Done m n → HasRun w c lines outcome v n
-    has-run ended stopped v m n outcome timeout so_far called = record {
-      goes_on = record {
-        seen = prefix_trans v.seen m.seen n.seen so_far.seen called.goes_on.seen;
-        legal = called.goes_on.legal;
-        own = called.goes_on.own;
-        party = called.goes_on.party ∙ so_far.party;
-        start = called.goes_on.start ∙ so_far.start;
-      };
-      run = subst (λ (ps : Pairs). IsRun lines ps outcome) (sym calls) (whole so_far.comes);
-      cause = caused outcome so_far.comes;
-      unmade = left-unmade so_far.comes;
-      stopped_before = before-it so_far.comes;
-      followed = subst (AreJoinsFollowed (left-unmade so_far.comes)) (sym ends) (all-followed so_far.comes);
-    }
-      where
-        calls : own n.mine ≡ own m.mine ++ end_pair
-        calls = ap own called.mine ∙ (own-more c (m.mine ++ called.joins) End Done ∙ ap (λ (ps : Pairs). ps ++ (End, Done) ∷ []) (own-after w c End called.earlier called.last m.mine called.joins called.joined))
-
-        whole : ComesTo w c lines (Over outcome) m → IsRun lines (own m.mine ++ end_pair) outcome
-        whole (inl way) = ended lines (own m.mine) outcome way.follows
-        whole (inr (o, over, stop)) =
-            let same : o ≡ outcome = cc in
-            stopped lines (own m.mine) stop.line stop.made stop.later outcome stop.follows (subst (IsStopped stop.line.number) same stop.is_stopped)
-
-        at-limit : (number : ℕ) → ComesTo w c lines (Over (outcomes.Limit number)) m → HadNoRoom w c lines number n
-        at-limit number (inl way) = absurd (way.no_limit number refl)
-        at-limit number (inr (o, over, stop)) =
-            let same : o ≡ outcomes.Limit number = cc in
-            let line_is : outcomes.Limit number ≡ outcomes.Limit stop.line.number = limit-is (subst (IsStopped stop.line.number) same stop.is_stopped) in
-            let number_is : stop.line.number ≡ number = cc in
-            let cause = stop.cause (same ∙ line_is) in
-            record {
-              line = stop.line;
-              made = stop.made;
-              later = stop.later;
-              is_line = number_is;
-              history = cause.history;
-              begins = prefix_trans cause.history m.seen n.seen cause.begins called.goes_on.seen;
-              follows = subst (λ (ps : Pairs). Follows (going_on lines) ps (Going stop.line stop.made stop.later)) (sym cause.all) stop.follows;
-              all = ap (λ (ps : Pairs). ps ++ end_pair) cause.all ∙ sym calls;
-              full = cause.full;
-            }
-          where
-            limit-is : {k : ℕ} → IsStopped k (outcomes.Limit number) → outcomes.Limit number ≡ outcomes.Limit k
-            limit-is (inl is) = is
-            limit-is (inr is) = cc
-
-        ends : n.mine ≡ m.mine ++ Called c End Done ∷ []
-        ends = called.mine ∙ ap (λ (es : List Event). es ++ Called c End Done ∷ []) (ap (λ (es : List Event). m.mine ++ es) (end-adds-nothing w c called.earlier called.last called.joins called.joined) ∙ append-nil m.mine)
-
-        -- the call that was not made
-        left-unmade : ComesTo w c lines (Over outcome) m → Option Call
-        left-unmade (inl way) = None
-        left-unmade (inr (o, over, stop)) = Some stop.line.call
-
-        before-it : (come : ComesTo w c lines (Over outcome) m) → (call : Call) → left-unmade come ≡ Some call → IsStoppedBefore w c lines outcome n call
-        before-it (inl way) call is = absurd (let no : ⊥ = cc in no)
-        before-it (inr (o, over, stop)) call is =
-            let same : o ≡ outcome = cc in
-            let call_is : stop.line.call ≡ call = cc in
-            record {
-              line = stop.line;
-              made = stop.made;
-              later = stop.later;
-              pairs = own m.mine;
-              follows = stop.follows;
-              all = sym calls;
-              is_call = call_is;
-              is_stopped = subst (IsStopped stop.line.number) same stop.is_stopped;
-            }
-
-        all-followed : (come : ComesTo w c lines (Over outcome) m) → AreJoinsFollowed (left-unmade come) (m.mine ++ Called c End Done ∷ [])
-        all-followed (inl way) = followed-both None m.mine (Called c End Done ∷ []) way.followed tt
-        all-followed (inr (o, over, stop)) =
-            subst (λ (es : List Event). AreJoinsFollowed (Some stop.line.call) (es ++ Called c End Done ∷ [])) (sym stop.mine)
-            (subst (AreJoinsFollowed (Some stop.line.call)) (sym (append_assoc stop.before stop.joins (Called c End Done ∷ [])))
-            (followed-both (Some stop.line.call) stop.before (stop.joins ++ Called c End Done ∷ []) (followed-all (Some stop.line.call) stop.before stop.followed) (end-follows c stop.line.call Done stop.joins stop.joined)))
-
-        caused : (o : RunOutcome) → ComesTo w c lines (Over o) m → HasCause w c lines o n
-        caused outcomes.Ended come = tt
-        caused (outcomes.Failed number) come = tt
-        caused (outcomes.Stuck number) come = tt
-        caused (outcomes.Limit number) come = at-limit number come
-        caused (outcomes.NoMemory number) come = tt
+      caused : (o : RunOutcome) → ComesTo w c lines (Over o) m → HasCause w c lines o n
+      caused outcomes.Ended come = tt
+      caused (outcomes.Failed number) come = tt
+      caused (outcomes.Stuck number) come = tt
+      caused (outcomes.Limit number) come = at-limit number come
+      caused (outcomes.NoMemory number) come = tt
 
 -- The lines that are left of a run.
 
@@ -310,22 +340,15 @@ left-less line made lines (Ok reply) = go (is_stuck line reply) (is_timeout repl
 
 -- A line that may be made.
 abbrev pub IsUsable : ScriptLine → Type 0
-IsUsable line = IsPlain line × (has_look line ≡ true)
+IsUsable line = IsPlain line × MayLook line
 
-all-usable : (lines : List ScriptLine) → All IsPlain lines → have_looks lines ≡ true → All IsUsable lines
+all-usable : (lines : List ScriptLine) → All IsPlain lines → All MayLook lines → All IsUsable lines
 all-usable [] plain looks = All-nil IsUsable
-all-usable (line ∷ lines) plain looks = go (has_look line) refl looks (all-usable lines (All-tail IsPlain line lines plain))
-  where
-    go : (b : Bool) → has_look line ≡ b → (b && have_looks lines) ≡ true → (have_looks lines ≡ true → All IsUsable lines) → All IsUsable (line ∷ lines)
-    go true look all rest = All-cons IsUsable line lines (All-head IsPlain line lines plain, look) (rest all)
-    go false none all rest = absurd (let no : ⊥ = cc in no)
+all-usable (line ∷ lines) plain looks =
+    All-cons IsUsable line lines (All-head IsPlain line lines plain, All-head MayLook line lines looks) (all-usable lines (All-tail IsPlain line lines plain) (All-tail MayLook line lines looks))
 
-pub usable-first : (lines : List ScriptLine) → All IsPlain lines → have_looks lines ≡ true → AllLeft IsUsable (going_on lines)
+pub usable-first : (lines : List ScriptLine) → All IsPlain lines → All MayLook lines → AllLeft IsUsable (going_on lines)
 usable-first lines plain looks = all-going IsUsable lines (all-usable lines plain looks)
-
-pub look-bounded : (limit : ℕ) (timeout : Timeout) → 1 ≤ limit → has_look_in timeout ≡ true → HasLook (looks_of (bounded limit timeout))
-look-bounded limit (Looks looks) one look = leb-true 1 looks look
-look-bounded limit Block one look = one
 
 -- The present line.
 
@@ -341,17 +364,12 @@ left-smaller p call given r is =
     let there = going-there p call given is in
     subst (λ (q : Progress). left (moved q r) < left q) (sym there.3) (left-less there.0 there.1 there.2 r)
 
-pub present-look : (p : Progress) (call : Call) (given : Timeout) (limit : ℕ) → 1 ≤ limit → Some (call, given) ≡ present_of p → AllLeft IsUsable p → HasLook (looks_of (bounded limit given))
-present-look p call given limit one is all =
+pub comes-next : (w : World) (c : CallerId) (lines : List ScriptLine) (limit : ℕ) → Onward → Itself → WaitsCalled → WaitsStopped → (v m n : Known Start Event) (p : Progress) (call : Call) (given timeout : Timeout) (r : Result Reply Stop)
+    → Some (call, given) ≡ present_of p → timeout ≡ bounded limit given → AllLeft IsUsable p → HasComeTo w c lines limit p v m → Calls w c call timeout m r n → HasComeTo w c lines limit (moved p r) v n
+comes-next w c lines limit onward itself on still v m n p call given timeout r is looks all so_far told =
     let there = going-there p call given is in
     let usable = subst (AllLeft IsUsable) there.3 all in
-    look-bounded limit given one (subst (λ (t : Timeout). has_look_in t ≡ true) there.5 usable.0.1)
-
-pub comes-next : {S : Type 0} (w : World) (c : CallerId) (lines : List ScriptLine) → Onward → Itself → (v m n : Known S Event) (p : Progress) (call : Call) (given timeout : Timeout) (r : Result Reply Stop) → Some (call, given) ≡ present_of p
-    → AllLeft IsUsable p → HasComeTo w c lines p v m → Calls w c call timeout m r n → HasComeTo w c lines (moved p r) v n
-comes-next w c lines onward itself v m n p call given timeout r is all so_far told =
-    let there = going-there p call given is in
-    let usable = subst (AllLeft IsUsable) there.3 all in
-    subst (λ (q : Progress). HasComeTo w c lines (moved q r) v n) (sym there.3)
-    (comes-going w c lines v m n there.0 there.1 there.2 timeout onward itself r usable.0.0 (subst (λ (q : Progress). HasComeTo w c lines q v m) there.3 so_far)
-    (subst (λ (x : Call). Calls w c x timeout m r n) (sym there.4) told))
+    let bounds : timeout ≡ bounded limit there.0.timeout = looks ∙ ap (bounded limit) (sym there.5) in
+    subst (λ (q : Progress). HasComeTo w c lines limit (moved q r) v n) (sym there.3)
+    (comes-going w c lines limit v m n there.0 there.1 there.2 onward itself on still r usable.0.0 (subst (λ (q : Progress). HasComeTo w c lines limit q v m) there.3 so_far)
+    (subst (λ (x : Call). Calls w c x (bounded limit there.0.timeout) m r n) (sym there.4) (subst (λ (t : Timeout). Calls w c call t m r n) bounds told)))

@@ -2,7 +2,6 @@
 use Rattle.std.proofs.Common.{◌≡◌, ℕ, zero, suc, Bool, true, false, List, [], ◌∷◌, ◌++◌, length, length-append, Some, refl, sym, ap, ◌∙◌, subst, arith, inl, inr, if◌then◌else◌, append-nil}
 use Rattle.std.specs.List.{slice_get}
 use Rattle.std.proofs.lemmas.Bool.{eq-eqb}
-use mathlib.Core.List.{IsPrefix}
 use Rattle.gaspi_types.specs.World.{World, is_caller}
 use Rattle.gaspi_types.specs.declared.calls.Call.{Call}
 use Rattle.gaspi_types.specs.declared.calls.Call.TheVariants.{End}
@@ -75,19 +74,6 @@ pub own-after : (w : World) (c : CallerId) (call : Call) (earlier : List (List E
 own-after w c call earlier last mine joins joined =
     own_calls-append c.rank c.thread mine joins ∙ (ap (λ (ps : Pairs). own_calls c.rank c.thread mine ++ ps) (joins-call-nothing w c call earlier last joins joined) ∙ append-nil (own_calls c.rank c.thread mine))
 
--- Beginnings.
-
-pub prefix-own : (c : CallerId) (a b : List Event) → IsPrefix a b → IsPrefix (own_calls c.rank c.thread a) (own_calls c.rank c.thread b)
-prefix-own c a b more = (own_calls c.rank c.thread more.0, sym (own_calls-append c.rank c.thread a more.0) ∙ ap (own_calls c.rank c.thread) more.1)
-
--- of two lists each of which is a beginning of the other
-pub prefix-both : {A : Type 0} (a b : List A) → IsPrefix a b → IsPrefix b a → a ≡ b
-prefix-both {A} a b ab ba = go ab.0 ab.1
-  where
-    go : (rest : List A) → a ++ rest ≡ b → a ≡ b
-    go [] is = sym (append-nil a) ∙ is
-    go (x ∷ rest) is = absurd (let m = ap length is in let l = length-append a (x ∷ rest) in let p = ap length ba.1 in let q = length-append b ba.0 in omega arith)
-
 -- the last of a list that is made of two
 pub same-front : {A : Type 0} (a b : List A) (x y : A) → a ++ x ∷ [] ≡ b ++ y ∷ [] → a ≡ b
 same-front [] [] x y h = refl
@@ -99,14 +85,6 @@ same-front {A} (z ∷ a) (u ∷ b) x y h =
     ap (λ (l : List A). z ∷ l) (same-front a b x y tail) ∙ ap (λ (v : A). v ∷ b) head
 
 -- No end.
-
-pub no-end-from : (c : CallerId) (a b : List Event) → IsPrefix (own_calls c.rank c.thread a) (own_calls c.rank c.thread b) → HasNoEnd c b → HasNoEnd c a
-no-end-from c a b more none k reply at = none k reply (subst (λ (ps : Pairs). slice_get ps k ≡ Some (End, reply)) more.1 (still (own_calls c.rank c.thread a) more.0 k (End, reply) at))
-  where
-    still : (xs ys : Pairs) (k : ℕ) (p : Call × Reply) → slice_get xs k ≡ Some p → slice_get (xs ++ ys) k ≡ Some p
-    still [] ys k p at = absurd (let no : ⊥ = cc in no)
-    still (x ∷ xs) ys zero p at = at
-    still (x ∷ xs) ys (suc k) p at = still xs ys k p at
 
 pub no-end-more : (c : CallerId) (events : List Event) (call : Call) (reply : Reply) → (call ≡ End → ⊥) → HasNoEnd c events → HasNoEnd c (events ++ Called c call reply ∷ [])
 no-end-more c events call reply plain none k given at = go (own_calls c.rank c.thread events) k none (subst (λ (ps : Pairs). slice_get ps k ≡ Some (End, given)) (own-more c events call reply) at)

@@ -5,7 +5,6 @@ use Rattle.gaspi_types.specs.declared.calls.Timeout.{Timeout}
 use Rattle.gaspi_types.specs.declared.calls.Timeout.TheVariants.{Looks, Block}
 use Rattle.gaspi_types.specs.declared.replies.Reply.{Reply}
 use Rattle.rank_script.specs.Runs.{Progress, Going, Over, advanced}
-use Rattle.rank_script.specs.declared.scripts.ScriptLine.{ScriptLine}
 
 -- how many looks a call has: one that blocks has so many
 abbrev pub looks_in : ℕ → Timeout → ℕ

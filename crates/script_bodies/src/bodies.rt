@@ -1,7 +1,7 @@
 //! Callers as bodies of a world's threads. (own choice)
 
 use crate::running::{end, run_lines};
-use gaspi_world::{Body, Pass, World};
+use gaspi_world::{Body, Pass, World, waits_on};
 use rank_script::{RunOutcome, Script, runs};
 use std::alloc::Global;
 use std::sync::Wait;
@@ -27,6 +27,7 @@ impl<'a> Body for ScriptBody<'a> {
     /// Runs the script: it makes the calls of its lines, and then, however the run ended, the end of the caller.
     fn run<R: Wait>(&mut self, rt: &R, alloc: Global, world: &World, pass: &mut Pass) {
         runs();
+        waits_on();
         world.shape().limits();
         let outcome = run_lines(rt, alloc, world, pass, self.script, self.limit);
         end(rt, alloc, world, pass);

@@ -19,7 +19,7 @@ ghost use Rattle.script_bodies.specs.SoFar.{HasNoEnd, HasComeTo};
 use crate::looks::bounded;
 use gaspi_model::{enabled, replies};
 use gaspi_types::{Call, Reply, Timeout};
-use gaspi_world::{Pass, Rank, Stop, World};
+use gaspi_world::{Pass, Rank, Stop, World, waits_on};
 use rank_script::{Cursor, Halted, RunOutcome, Script, runs};
 use std::alloc::Global;
 use std::sync::Wait;
@@ -70,6 +70,7 @@ pub(crate) fn run_lines<R: Wait>(
 {
     enabled();
     runs();
+    waits_on();
     let mut cursor = Cursor::new(script);
     while let Some((call, timeout)) = cursor.present() {
         let made = make(rt, alloc, world, pass, call, bounded(timeout, limit));

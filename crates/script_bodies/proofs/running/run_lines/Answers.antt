@@ -9,8 +9,8 @@ loop-call-init g c = (
   refl,
   c.requires.pass.free,
   subst (AllLeft IsUsable) (sym c.new-cursor.ensures) (usable-first c.args.script.now.lines c.requires.script.plain c.requires.script.looks),
-  subst (λ (p : Progress). HasComeTo c.args.world.now.start.shape c.args.script.now.caller c.args.script.now.lines p c.args.pass.now.known c.args.pass.now.known) (sym c.new-cursor.ensures)
-      (comes-first c.args.world.now.start.shape c.args.script.now.caller c.args.script.now.lines c.args.pass.now.known c.requires.pass.fresh),
+  subst (λ (p : Progress). HasComeTo c.args.world.now.start.shape c.args.script.now.caller c.args.script.now.lines c.args.limit p c.args.pass.now.known c.args.pass.now.known) (sym c.new-cursor.ensures)
+      (comes-first c.args.world.now.start.shape c.args.script.now.caller c.args.script.now.lines c.args.limit c.waits_on.ensures.fresh c.args.pass.now.known c.requires.pass.fresh),
 )
 
 pub loop-call-smaller : goal.loop-call-smaller
@@ -22,7 +22,7 @@ loop-call-preserved g c = (
   c.make-made.ensures.calls.0 ∙ c.loop-call.invariant.0,
   c.make-made.ensures.calls.1,
   subst (AllLeft IsUsable) (sym c.move_on.ensures) (all-left IsUsable c.loop-call.cursor c.make-made.result c.loop-call.invariant.2),
-  subst (λ (p : Progress). HasComeTo c.args.world.now.start.shape c.args.script.now.caller c.args.script.now.lines p c.args.pass.now.known c.make-made.new.pass.known) (sym c.move_on.ensures)
-      (comes-next c.args.world.now.start.shape c.args.script.now.caller c.args.script.now.lines c.runs.ensures.onward c.enabled.ensures.itself c.args.pass.now.known c.loop-call.pass.known c.make-made.new.pass.known c.loop-call.cursor
-      c.in-Some.call.now c.in-Some.timeout c.bounded.result c.make-made.result c.in-Some.ensures c.loop-call.invariant.2 c.loop-call.invariant.3 (c.make-made.ensures.calls.2 c.args.script.now.caller (c.requires.pass.caller.0, c.loop-call.invariant.3.party ∙ c.requires.pass.caller.1))),
+  subst (λ (p : Progress). HasComeTo c.args.world.now.start.shape c.args.script.now.caller c.args.script.now.lines c.args.limit p c.args.pass.now.known c.make-made.new.pass.known) (sym c.move_on.ensures)
+      (comes-next c.args.world.now.start.shape c.args.script.now.caller c.args.script.now.lines c.args.limit c.runs.ensures.onward c.enabled.ensures.itself c.waits_on.ensures.called c.waits_on.ensures.stopped c.args.pass.now.known c.loop-call.pass.known c.make-made.new.pass.known c.loop-call.cursor
+      c.in-Some.call.now c.in-Some.timeout c.bounded.result c.make-made.result c.in-Some.ensures c.bounded.ensures c.loop-call.invariant.2 c.loop-call.invariant.3 (c.make-made.ensures.calls.2 c.args.script.now.caller (c.requires.pass.caller.0, c.loop-call.invariant.3.party ∙ c.requires.pass.caller.1))),
 )

@@ -9,7 +9,7 @@ invariant-loop-call g l =
     (l.pass.table ≡ l.fn.pass.table)
     × HoldsNone l.pass.known
     × AllLeft IsUsable l.cursor
-    × HasComeTo l.fn.world.start.shape l.fn.script.caller l.fn.script.lines l.cursor l.fn.pass.known l.pass.known
+    × HasComeTo l.fn.world.start.shape l.fn.script.caller l.fn.script.lines l.limit l.cursor l.fn.pass.known l.pass.known
 
 abbrev pub decreases-loop-call : goal.decreases-loop-call
 decreases-loop-call g l = left l.cursor

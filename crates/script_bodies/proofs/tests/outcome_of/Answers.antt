@@ -7,7 +7,7 @@ use Rattle.gaspi_types.specs.declared.events.Event.{Event}
 use Rattle.gaspi_types.specs.declared.shapes.CallerId.{CallerId}
 use Rattle.commit_table.specs.Calls.{TableValue, PassValue}
 use Rattle.commit_table.specs.Views.{new_pass}
-use Rattle.rank_script.specs.PlainScripts.{HasPlainLines, ArePlain}
+use Rattle.rank_script.specs.PlainScripts.{HasPlainLines, HasLookingLines, ArePlain, AreLooking}
 use Rattle.rank_script.specs.WorldText.{AreScriptsOf}
 use Rattle.rank_script.specs.declared.scripts.Script.{Script}
 use Rattle.gaspi_world.specs.WorldMachine.{number_of}
@@ -31,6 +31,9 @@ not-less n true is = absurd (let less = ltb-true n n is in omega arith)
 
 plain-one : (scripts : List Script) (script : Script) → ArePlain scripts → scripts ≡ script ∷ [] → HasPlainLines script
 plain-one scripts script plain is = All-head HasPlainLines script [] (subst ArePlain is plain)
+
+looking-one : (scripts : List Script) (script : Script) → AreLooking scripts → scripts ≡ script ∷ [] → HasLookingLines script
+looking-one scripts script looks is = All-head HasLookingLines script [] (subst AreLooking is looks)
 
 -- the pass of the only caller
 only-fresh : (w : World) (t : TableValue Start) (scripts : List Script) (script : Script) (passes : List (PassValue Start Event)) (rest : List (PassValue Start Event)) (p : PassValue Start Event)
@@ -59,7 +62,7 @@ run_one-requires-clause-script g c κs within =
     let one = alone c.in-Ok.scripts c.at-script.result.now (sym c.len.ensures.count ∙ c.if-len-ne1.false) c.at-script.ensures in
     record {
       plain = plain-one c.in-Ok.scripts c.at-script.result.now c.len.ensures.plain one;
-      looks = sym c.have_looks.ensures ∙ c.if-not-have_looks.false;
+      looks = looking-one c.in-Ok.scripts c.at-script.result.now c.len.ensures.looks one;
       blocks = omega arith;
     }
 

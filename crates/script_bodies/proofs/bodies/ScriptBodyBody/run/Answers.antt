@@ -19,8 +19,8 @@ returns g c = (
           let same : c.args.world.now.start ≡ start = cc in
           let so_far = c.run_lines-outcome.ensures.run in
           let caller = c.requires.1.caller in
-          subst (λ (s : Start). HasRun s.shape c.args.self.now.script.now.caller c.args.self.now.script.now.lines c.run_lines-outcome.result c.args.pass.now.known c.end.new.pass.known) same
-          (has-run c.args.world.now.start.shape c.args.self.now.script.now.caller c.args.self.now.script.now.lines c.runs.ensures.ended c.runs.ensures.stopped c.args.pass.now.known c.run_lines-outcome.new.pass.known c.end.new.pass.known
+          subst (λ (s : Start). HasRun s.shape c.args.self.now.script.now.caller c.args.self.now.script.now.lines c.args.self.now.limit c.run_lines-outcome.result c.args.pass.now.known c.end.new.pass.known) same
+          (has-run c.args.world.now.start.shape c.args.self.now.script.now.caller c.args.self.now.script.now.lines c.args.self.now.limit c.runs.ensures.ended c.runs.ensures.stopped c.waits_on.ensures.called c.args.pass.now.known c.run_lines-outcome.new.pass.known c.end.new.pass.known
           c.run_lines-outcome.result (Looks 1) so_far (c.end.ensures.ends c.args.self.now.script.now.caller (caller.0, so_far.party ∙ caller.1) so_far.active)),
     );
   },
