@@ -11,7 +11,7 @@ use Rattle.rank_script.specs.Lines.{input_limit}
 use Rattle.rank_script.specs.WorldText.{TextFault}
 use Rattle.rank_script.specs.declared.scripts.ScriptFault.{ScriptFault}
 use Rattle.rank_script.specs.declared.scripts.ScriptFault.TheVariants.{At, NoMemory}
-use Rattle.gaspi_run.specs.Command.{IsTold, TellsFault, world_read, Answers}
+use Rattle.gaspi_run.specs.Command.{fault_text, IsTold, world_read, Answers}
 use Rattle.gaspi_run.specs.Saying.{SaysFault, Says, SaysStop}
 use Rattle.command_line.specs.declared.words.Command.{Command}
 use Rattle.command_line.specs.declared.words.Command.TheVariants.{Run, Step, Check}

@@ -129,7 +129,8 @@ fn tell_step(
     input: &[u8],
 ) -> Result<Told, ScriptFault>
     requires { 1 ≤ limit }
-    ensures told { IfOk result (λ told. IsStepped seed limit brief input.now told.journal told.status told.text × (told.tally ≡ None)) }
+    ensures told { IfOk result (λ told. IsStepped seed limit brief input.now told.journal told.status told.text) }
+    ensures plain { IfOk result (λ told. told.tally ≡ None) }
     ensures fault { (number line : ℕ) → IsErrOf result (script_faults.At number line)
         → world_text input.now ≡ Err (record { number = number; line = line }) }
 {
@@ -192,7 +193,8 @@ fn verdict_status(verdict: Verdict) -> u8
 
 /// Tells that an input has no journal, and at which of its lines.
 fn tell_no_journal(alloc: Global, line: u64) -> Result<Told, NoMemory>
-    ensures { IfOk result (λ told. IsNoJournal line told.journal told.status told.text × (told.tally ≡ None)) }
+    ensures none { IfOk result (λ told. IsNoJournal line told.journal told.status told.text) }
+    ensures plain { IfOk result (λ told. told.tally ≡ None) }
 {
     let mut text = Bytes::new(alloc);
     text.append(b"not a journal ")?;
@@ -209,7 +211,8 @@ fn tell_no_journal(alloc: Global, line: u64) -> Result<Told, NoMemory>
 /// Tells the verdict on a journal.
 fn tell_verdict(alloc: Global, shape: &Shape, journal: Journal) -> Result<Told, NoMemory>
     ensures verdict { IfOk result (λ told. HasVerdict shape.now told.journal told.status told.text) }
-    ensures journal { IfOk result (λ told. (told.journal ≡ journal) × (told.tally ≡ None)) }
+    ensures journal { IfOk result (λ told. told.journal ≡ journal) }
+    ensures plain { IfOk result (λ told. told.tally ≡ None) }
 {
     let verdict = check(alloc, shape, &journal)?;
     let text = verdict_text(alloc, journal.len() as u64, verdict)?;
@@ -239,7 +242,8 @@ fn line_count(text: &[u8]) -> u64
 /// Reads the journal of an input, which begins at a line of that number, and tells the verdict on it.
 fn tell_journal(alloc: Global, shape: &Shape, text: &[u8], number: u64) -> Result<Told, NoMemory>
     requires { (1 ≤ number) × (number + length text.now < 2 ^ 63) }
-    ensures { IfOk result (λ told. IsRead shape.now text.now number told.journal told.status told.text × (told.tally ≡ None)) }
+    ensures read { IfOk result (λ told. IsRead shape.now text.now number told.journal told.status told.text) }
+    ensures plain { IfOk result (λ told. told.tally ≡ None) }
 {
     match read(alloc, text) {
         Ok(journal) => tell_verdict(alloc, shape, journal),
@@ -250,7 +254,8 @@ fn tell_journal(alloc: Global, shape: &Shape, text: &[u8], number: u64) -> Resul
 
 /// Checks the journal of an input against the world text before it.
 fn tell_check(alloc: Global, input: &[u8]) -> Result<Told, ScriptFault>
-    ensures told { IfOk result (λ told. IsChecked input.now told.journal told.status told.text × (told.tally ≡ None)) }
+    ensures told { IfOk result (λ told. IsChecked input.now told.journal told.status told.text) }
+    ensures plain { IfOk result (λ told. told.tally ≡ None) }
     ensures fault { (number line : ℕ) → IsErrOf result (script_faults.At number line)
         → checked_world input.now ≡ Err (record { number = number; line = line }) }
 {

@@ -10,8 +10,8 @@ overflow_add-number c =
     let short = lines-short c.args.text.now in
     omega (arith, c.requires)
 
-pub returns-in-Err-At : goal.returns-in-Err-At
-returns-in-Err-At c =
+pub returns-in-Err-At-clause-read : goal.returns-in-Err-At-clause-read
+returns-in-Err-At-clause-read c =
     if-ok _ _ c.tell_no_journal.result
-    (λ told none. (inl (record { line = c.in-Err-At.line; faulty = c.in-Err-At.ensures.fault c.in-Err-At.line (ap Err c.in-Err-At.field-0-is); none = none.0 }), none.1))
-    c.tell_no_journal.ensures
+    (λ told none. inl (record { line = c.in-Err-At.line; faulty = c.in-Err-At.ensures.fault c.in-Err-At.line (ap Err c.in-Err-At.field-0-is); none = none }))
+    c.tell_no_journal.ensures.none
