@@ -12,6 +12,13 @@ pub mod Joins
 pub mod NumberRanges
 pub mod Started
 pub mod ScheduleLoop
+pub mod CallersEnd
+pub mod CallsOfEvents
+pub mod OneOfEach
+pub mod RanWorlds
+pub mod RunLines
+pub mod RunParts
+pub mod SameCallers
 mod Calling
 mod Transcribing
 mod Answering

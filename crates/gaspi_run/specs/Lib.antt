@@ -6,3 +6,4 @@ pub mod Command
 pub mod Endings
 pub mod Threads
 pub mod Saying
+pub mod Parts

@@ -4,7 +4,9 @@
 mod commands;
 mod moves;
 mod own_calls;
+mod parts;
 mod scheduling;
+mod tasks;
 mod telling;
 mod threads;
 mod transcripts;

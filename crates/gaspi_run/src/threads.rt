@@ -1,22 +1,24 @@
 //! The scripts of a world on threads: each caller and each worker on one of its own.
 
-ghost use Rattle.std.specs.Prelude.{◌≡◌, ◌≤◌, IfOk, true};
+ghost use Rattle.std.specs.Prelude.{◌≡◌, ◌≤◌, IfOk, true, Some, map};
 ghost use Rattle.journal_texts.specs.JournalText.{AreInRange, HaveOwnValues};
+ghost use Rattle.commit_table.specs.Calls.{AreWhole};
 ghost use Rattle.gaspi_model.specs.Step.{is_legal};
+ghost use Rattle.gaspi_world.specs.Closing.{HaveSeen, HaveDone};
 ghost use Rattle.rank_script.specs.WorldText.{AreScriptsOf};
 ghost use Rattle.gaspi_run.specs.Endings.{HasSettled, HaveEnded};
 ghost use Rattle.gaspi_run.specs.Threads.{IsTallied};
 
+use crate::tasks::{RanParts, run_parts};
 use crate::turns::Finished;
+use gaspi_model::settling;
 use gaspi_types::{NoMemory, Rows, Shape};
-use gaspi_world::{Body, Pass, Passes, Started, Tally, Task, World, launch};
-use journal_texts::Journal;
-use rank_script::{RunOutcome, Scripts};
-use script_bodies::ScriptBody;
+use gaspi_world::{Passes, Started, Tally, World, waits_last};
+use journal_texts::{Journal, journal_is_in_range};
+use rank_script::Scripts;
 use std::alloc::Global;
 use std::sync::Wait;
 use std::thread::Threads;
-use transfer_worker::Worker;
 
 /// What a run on threads gave: the events, what is known of the closed world, and how each caller ended, by rank and thread.
 #[derive(Drop)]
@@ -26,10 +28,19 @@ pub struct RanOnThreads {
     pub outcomes: Rows<Finished>,
 }
 
-/// What a thread of the world does: the script of a caller, or transfers until none is left.
-enum Part<'a> {
-    Caller(ScriptBody<'a>),
-    Worker { turns: u64, drained: bool },
+/// Ends a world.
+fn closed(alloc: Global, world: World, passes: Passes) -> Result<(Journal, Tally), NoMemory>
+    requires { AreWhole world passes.items }
+    ensures tally { IfOk result (λ r. (r.1.start ≡ Some world.start) × (r.1.journal ≡ r.0)) }
+    ensures passes { IfOk result (λ r. r.1.passes ≡ map (λ p. p.known) passes.items) }
+    ensures legal { IfOk result (λ r. is_legal world.start.shape r.0 ≡ true) }
+    ensures seen { IfOk result (λ r. HaveSeen r.0 passes.items) }
+    ensures done { IfOk result (λ r. HaveDone world.start.shape r.0 passes.items) }
+{
+    match world.close(alloc, passes) {
+        Ok(closed) => Ok(closed),
+        Err(_) => Err(NoMemory),
+    }
 }
 
 /// Runs the scripts of a world on threads, with so many workers that make its transfers. A call that blocks has `limit` looks,
@@ -52,5 +63,17 @@ pub fn run_on_threads<R: Threads + Wait + Sync>(
     ensures ranges { IfOk result (λ ran. AreInRange ran.journal) }
     ensures values { IfOk result (λ ran. HaveOwnValues ran.journal) }
 {
-    todo
+    settling();
+    waits_last();
+    shape.limits();
+    scripts.len();
+    let Started { world, passes } = World::start(alloc, shape, workers)?;
+    let RanParts { passes, outcomes } = run_parts(rt, alloc, &world, scripts, passes, limit)?;
+    let (journal, tally) = closed(alloc, world, passes)?;
+    journal_is_in_range(&journal);
+    Ok(RanOnThreads {
+        journal,
+        tally,
+        outcomes,
+    })
 }

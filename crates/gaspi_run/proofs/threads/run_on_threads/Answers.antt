@@ -1,0 +1,43 @@
+use Rattle.std.proofs.Common.{◌<◌, Some, [], length, sym, ap, subst, arith}
+use Rattle.gaspi_types.specs.World.{World}
+use Rattle.gaspi_types.specs.declared.events.Event.{Event}
+use Rattle.commit_table.specs.Views.{new_pass}
+use Rattle.gaspi_world.specs.Callers.{IsPassOf}
+use Rattle.gaspi_run.proofs.RanWorlds.{known, legal-has-own, made-each, whole}
+use Rattle.gaspi_run.proofs.threads.run_on_threads.Goals as goal
+
+pub run_parts-requires-clause-passes : goal.run_parts-requires-clause-passes
+run_parts-requires-clause-passes g c κs within = made-each c.in_ok-world.field-0.world _ c.in_ok-world.field-0.passes.items c.in_ok-world.ensures.count c.in_ok-world.ensures.passes
+
+pub run_parts-requires-clause-callers : goal.run_parts-requires-clause-callers
+run_parts-requires-clause-callers g c κs within = λ place less.
+    let world = c.in_ok-world.field-0.world in
+    let start = c.in_ok-world.ensures.start in
+    let same = ap (λ (w : World). length w.callers) start in
+    let below : place < length c.args.shape.now.callers = omega arith in
+    let there = c.in_ok-world.ensures.callers place below in
+    (there.0, subst (λ (w : World). IsPassOf w there.0 (new_pass {E = Event} world.start (Some place) [])) (sym start) there.1)
+
+pub closed-requires : goal.closed-requires
+closed-requires g c = whole c.in_ok-world.field-0.world c.args.scripts.now c.args.limit c.in_ok-passes.field-0.passes.items c.in_ok-passes.field-0.outcomes c.in_ok-passes.ensures
+
+pub journal_is_in_range-requires : goal.journal_is_in_range-requires
+journal_is_in_range-requires g c = legal-has-own c.in_ok-world.field-0.world.start.shape c.in_ok-journal.journal c.in_ok-journal.ensures.legal
+
+pub returns-clause-tally : goal.returns-clause-tally
+returns-clause-tally g c =
+    (known c.in_ok-world.field-0.world c.args.scripts.now c.args.limit c.args.workers c.in_ok-passes.field-0.passes.items c.in_ok-passes.field-0.outcomes c.args.shape.now c.in_ok-journal.journal c.in_ok-journal.tally
+    c.in_ok-world.ensures.start c.in_ok-world.ensures.all c.requires.workers.0 c.limits.ensures.world c.requires.scripts c.len.ensures.plain c.in_ok-passes.ensures
+    c.in_ok-journal.ensures.tally c.in_ok-journal.ensures.passes c.in_ok-journal.ensures.legal c.in_ok-journal.ensures.seen c.in_ok-journal.ensures.done c.settling.ensures.stays c.waits_last.ensures).0
+
+pub returns-clause-runs : goal.returns-clause-runs
+returns-clause-runs g c =
+    (known c.in_ok-world.field-0.world c.args.scripts.now c.args.limit c.args.workers c.in_ok-passes.field-0.passes.items c.in_ok-passes.field-0.outcomes c.args.shape.now c.in_ok-journal.journal c.in_ok-journal.tally
+    c.in_ok-world.ensures.start c.in_ok-world.ensures.all c.requires.workers.0 c.limits.ensures.world c.requires.scripts c.len.ensures.plain c.in_ok-passes.ensures
+    c.in_ok-journal.ensures.tally c.in_ok-journal.ensures.passes c.in_ok-journal.ensures.legal c.in_ok-journal.ensures.seen c.in_ok-journal.ensures.done c.settling.ensures.stays c.waits_last.ensures).1
+
+pub returns-clause-settled : goal.returns-clause-settled
+returns-clause-settled g c =
+    (known c.in_ok-world.field-0.world c.args.scripts.now c.args.limit c.args.workers c.in_ok-passes.field-0.passes.items c.in_ok-passes.field-0.outcomes c.args.shape.now c.in_ok-journal.journal c.in_ok-journal.tally
+    c.in_ok-world.ensures.start c.in_ok-world.ensures.all c.requires.workers.0 c.limits.ensures.world c.requires.scripts c.len.ensures.plain c.in_ok-passes.ensures
+    c.in_ok-journal.ensures.tally c.in_ok-journal.ensures.passes c.in_ok-journal.ensures.legal c.in_ok-journal.ensures.seen c.in_ok-journal.ensures.done c.settling.ensures.stays c.waits_last.ensures).2

@@ -1,0 +1,59 @@
+//! What the threads of a world do: each runs the script of a caller, or makes transfers.
+
+ghost use Rattle.std.specs.Prelude.{◌≡◌, OnOk};
+ghost use Rattle.commit_table.specs.Calls.{IsOf, HoldsNone};
+ghost use Rattle.gaspi_world.specs.Callers.{IsWorkers};
+ghost use Rattle.transfer_worker.specs.Turns.{GoesOn, IsDrained};
+
+use gaspi_types::NoMemory;
+use gaspi_world::{Body, Pass, World};
+use script_bodies::ScriptBody;
+use std::alloc::Global;
+use std::sync::Wait;
+use transfer_worker::Worker;
+
+/// What a thread of a world does.
+#[derive(Drop)]
+pub(crate) enum Part<'a> {
+    /// It runs the script of a caller.
+    Caller(ScriptBody<'a>),
+    /// It makes transfers until none is left, which it then says. Its first turn begins at the rank of that number.
+    Worker { turns: u64, drained: bool },
+}
+
+/// Makes transfers by the pass of a worker until none is left.
+fn drain<R: Wait>(
+    rt: &R,
+    alloc: Global,
+    world: &World,
+    pass: &mut Pass,
+    turns: u64,
+) -> Result<(), NoMemory>
+    requires pass { IsOf world.now pass.old }
+    requires free { HoldsNone pass.old.known }
+    requires worker { IsWorkers world.now.start.shape pass.old.known }
+    ensures table { pass.new.table ≡ pass.old.table }
+    ensures free { HoldsNone pass.new.known }
+    ensures goes_on { GoesOn pass.old.known pass.new.known }
+    ensures drained { OnOk result (IsDrained world.now.start.shape pass.new.known.seen) }
+{
+    Worker { world, pass, turns }.drain(rt, alloc)
+}
+
+impl<'a> Body for Part<'a> {
+    ghost use Rattle.gaspi_run.specs.Parts.{NeedsOf, DidOf};
+
+    ghost needs = { NeedsOf };
+
+    ghost did = { DidOf };
+
+    /// Runs the script, or makes the transfers.
+    fn run<R: Wait>(&mut self, rt: &R, alloc: Global, world: &World, pass: &mut Pass) {
+        match self {
+            Part::Caller(body) => body.run(rt, alloc, world, pass),
+            Part::Worker { turns, drained } => {
+                *drained = drain(rt, alloc, world, pass, *turns).is_ok();
+            }
+        }
+    }
+}

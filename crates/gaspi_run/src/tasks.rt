@@ -1,0 +1,207 @@
+//! The parts of a world with their passes: made, run, and told apart.
+
+ghost use Rattle.std.specs.Prelude.{◌≡◌, ◌+◌, ◌<◌, ◌≤◌, ℕ, IfOk, OnOk, map, length, option_to_list};
+ghost use Rattle.std.specs.List.{All};
+ghost use Rattle.gaspi_types.specs.declared.shapes.CallerId.{CallerId};
+ghost use Rattle.gaspi_world.specs.Callers.{IsPassOf};
+ghost use Rattle.rank_script.specs.WorldText.{AreScriptsOf};
+ghost use Rattle.gaspi_run.specs.Parts.{made_pass, AreCallersThere, EachAt, NeedsOf, IsPartOf, IsReady, HaveAllRun, IsDone, HaveRun, finished_of, finished_in};
+
+use crate::parts::Part;
+use crate::turns::Finished;
+use gaspi_types::{NoMemory, Rows};
+use gaspi_world::{Pass, Passes, Task, World, launch};
+use rank_script::{RunOutcome, Scripts};
+use script_bodies::ScriptBody;
+use std::alloc::Global;
+use std::sync::Wait;
+use std::thread::Threads;
+
+/// The passes of a world once its parts have run, and how its callers ended, by rank and thread.
+#[derive(Drop)]
+pub(crate) struct RanParts {
+    pub passes: Passes,
+    pub outcomes: Rows<Finished>,
+}
+
+/// The script of the caller whose pass this is, to be run.
+fn caller_part<'a>(
+    world: &World,
+    scripts: &'a Scripts,
+    pass: &Pass,
+    place: usize,
+    limit: u32,
+) -> Part<'a>
+    requires pass { pass.now ≡ made_pass world.now place }
+    requires caller { (c : CallerId) × IsPassOf world.now.start.shape c pass.now.known }
+    requires scripts { AreScriptsOf world.now.start.shape scripts.now }
+    ensures { IsPartOf world.now scripts.now limit place result }
+{
+    let caller = world.caller_of(pass);
+    let Some(script) = scripts.of(caller) else {
+        unreachable!()
+    };
+    Part::Caller(ScriptBody {
+        script,
+        limit,
+        outcome: None,
+    })
+}
+
+/// What the thread with a pass does, where the passes of the callers stand first.
+fn part_of<'a>(
+    world: &World,
+    scripts: &'a Scripts,
+    pass: &Pass,
+    place: usize,
+    limit: u32,
+) -> Part<'a>
+    requires pass { pass.now ≡ made_pass world.now place }
+    requires callers { AreCallersThere world.now }
+    requires scripts { AreScriptsOf world.now.start.shape scripts.now }
+    ensures { IsPartOf world.now scripts.now limit place result }
+{
+    let callers = world.shape().callers().len();
+    if place < callers {
+        return caller_part(world, scripts, pass, place, limit);
+    }
+    Part::Worker {
+        turns: (place - callers) as u64,
+        drained: false,
+    }
+}
+
+/// A pass with what its thread does.
+fn task_of<'a>(
+    world: &World,
+    scripts: &'a Scripts,
+    pass: Pass,
+    place: usize,
+    limit: u32,
+) -> Task<Part<'a>>
+    requires pass { pass ≡ made_pass world.now place }
+    requires callers { AreCallersThere world.now }
+    requires scripts { AreScriptsOf world.now.start.shape scripts.now }
+    ensures { IsReady world.now scripts.now limit place result }
+{
+    let body = part_of(world, scripts, &pass, place, limit);
+    Task { body, pass }
+}
+
+/// A task for each pass, in their order.
+fn tasks_of<'a>(
+    alloc: Global,
+    world: &World,
+    scripts: &'a Scripts,
+    passes: Passes,
+    limit: u32,
+) -> Result<Vec<Task<Part<'a>>>, NoMemory>
+    requires passes { EachAt (λ place pass. pass ≡ made_pass world.now place) passes.items }
+    requires callers { AreCallersThere world.now }
+    requires scripts { AreScriptsOf world.now.start.shape scripts.now }
+    ensures ready { IfOk result (λ tasks. EachAt (IsReady world.now scripts.now limit) tasks.items) }
+    ensures count { IfOk result (λ tasks. length tasks.items ≡ length passes.items) }
+{
+    let mut tasks = Vec::with_capacity(alloc, passes.len())?;
+    for pass in passes {
+        let task = task_of(world, scripts, pass, tasks.len(), limit);
+        tasks.push(task)?;
+    }
+    Ok(tasks)
+}
+
+/// Runs the tasks, each on a thread of its own.
+fn run_slice<R: Threads + Wait + Sync>(
+    rt: &R,
+    alloc: Global,
+    world: &World,
+    tasks: &mut [Task<Part<'_>>],
+)
+    requires { All (λ t. NeedsOf t.body world.now t.pass) tasks.old }
+    ensures ran { HaveAllRun tasks.old tasks.new }
+    ensures count { length tasks.new ≡ length tasks.old }
+{
+    launch(rt, alloc, world, tasks);
+}
+
+/// Runs the tasks, each on a thread of its own.
+fn run_tasks<R: Threads + Wait + Sync>(
+    rt: &R,
+    alloc: Global,
+    world: &World,
+    tasks: &mut Vec<Task<Part<'_>>>,
+)
+    requires { All (λ t. NeedsOf t.body world.now t.pass) tasks.old.items }
+    ensures ran { HaveAllRun tasks.old.items tasks.new.items }
+    ensures count { length tasks.new.items ≡ length tasks.old.items }
+{
+    run_slice(rt, alloc, world, tasks.as_mut_slice());
+}
+
+/// How the caller of a part ended, where it is a caller's.
+fn finished_of(part: &Part<'_>) -> Result<Option<Finished>, NoMemory>
+    ensures finished { IfOk result (λ finished. option_to_list finished ≡ finished_of part.now) }
+    ensures told { OnOk result (IsDone part.now) }
+{
+    match part {
+        Part::Caller(body) => match body.outcome {
+            None | Some(RunOutcome::NoMemory { .. }) => Err(NoMemory),
+            Some(outcome) => Ok(Some(Finished {
+                caller: body.script.caller,
+                outcome,
+            })),
+        },
+        Part::Worker { drained: true, .. } => Ok(None),
+        Part::Worker { drained: false, .. } => Err(NoMemory),
+    }
+}
+
+/// How the callers ended, in the order of the tasks.
+fn outcomes_of(alloc: Global, tasks: &[Task<Part<'_>>]) -> Result<Rows<Finished>, NoMemory>
+    ensures finished { IfOk result (λ finished. finished ≡ finished_in tasks.now) }
+    ensures told { OnOk result (All (λ t. IsDone t.body) tasks.now) }
+{
+    let mut outcomes = Rows::with_room(alloc, tasks.len())?;
+    for task in tasks {
+        if let Some(finished) = finished_of(&task.body)? {
+            outcomes.push(finished)?;
+        }
+    }
+    Ok(outcomes)
+}
+
+/// The passes of the tasks, in their order.
+fn passes_of(alloc: Global, tasks: Vec<Task<Part<'_>>>) -> Result<Passes, NoMemory>
+    ensures { IfOk result (λ passes. passes.items ≡ map (λ t. t.pass) tasks.entry.items) }
+{
+    let mut passes = Vec::with_capacity(alloc, tasks.len())?;
+    for task in tasks {
+        passes.push(task.pass)?;
+    }
+    Ok(passes)
+}
+
+/// Runs the scripts of a world and makes its transfers, each caller and each worker on a thread of its own. Only want of memory
+/// is an error.
+pub(crate) fn run_parts<R: Threads + Wait + Sync>(
+    rt: &R,
+    alloc: Global,
+    world: &World,
+    scripts: &Scripts,
+    passes: Passes,
+    limit: u32,
+) -> Result<RanParts, NoMemory>
+    requires limit { 1 ≤ limit }
+    requires passes { EachAt (λ place pass. pass ≡ made_pass world.now place) passes.items }
+    requires count { length passes.items ≡ world.now.passes }
+    requires callers { AreCallersThere world.now }
+    requires scripts { AreScriptsOf world.now.start.shape scripts.now }
+    ensures { IfOk result (λ ran. HaveRun world.now scripts.now limit ran.passes.items ran.outcomes) }
+{
+    scripts.len();
+    let mut tasks = tasks_of(alloc, world, scripts, passes, limit)?;
+    run_tasks(rt, alloc, world, &mut tasks);
+    let outcomes = outcomes_of(alloc, tasks.as_slice())?;
+    let passes = passes_of(alloc, tasks)?;
+    Ok(RanParts { passes, outcomes })
+}
