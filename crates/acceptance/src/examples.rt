@@ -1,10 +1,14 @@
 //! The worked examples of the rules, over the public call.
 
-use crate::running::{STEP, calls_are_told, journals_are_judged, words_run_to};
+use crate::running::{RUN, STEP, calls_are_told, journals_are_judged, words_run_to};
 use gaspi_io::{SureSink, SureSource};
 use gaspi_run::gaspirun;
-use gaspi_types::Bytes;
+use gaspi_types::{Bytes, NoMemory};
+use std::alloc::Global;
+use std::process::Abort;
+use std::sync::Wait;
 use std::test::Fail;
+use std::thread::Threads;
 
 /// Two ranks: the one writes two bytes into the other's segment with a notification, for which the other waits.
 pub const TWO_RANKS: &str = "world 2 1 4 8 4 1000\nsegment 0 0 16\nsegment 1 0 16\n\
@@ -35,7 +39,7 @@ waitsome 0 0 1 block\nreset 0 0\n";
 }
 
 /// Two threads of a rank reset the slot of one notification, of which the one tells the other.
-const TWO_RESETS: &str = "world 2 1 4 8 4 1000\nsegment 0 0 16\nsegment 1 0 16\n\
+pub const TWO_RESETS: &str = "world 2 1 4 8 4 1000\nsegment 0 0 16\nsegment 1 0 16\n\
 rank 0 thread 0\nnotify 0 1 3 7 0\n\
 rank 1 thread 0\nwaitsome 0 3 1 block\nnotify 0 1 4 1 0\nreset 0 3\n\
 rank 1 thread 1\nwaitsome 0 4 1 block\nreset 0 3\n";
@@ -49,19 +53,46 @@ const SECOND_FINDS: &str =
     "0.0 5 done\n0.0 ended\n1.0 7 id 3\n1.0 8 done\n1.0 9 value 0\n1.0 ended\n\
 1.1 11 id 4\n1.1 12 value 7\n1.1 ended\n";
 
+/// Runs that world with these words: one thread finds the value, and the other nothing.
+fn one_finds_it<R: Threads + Wait + Sync + Abort>(
+    rt: &R,
+    alloc: Global,
+    words: &[&str],
+) -> Result<(), NoMemory> {
+    let mut source = SureSource::new(Bytes::copied_from(alloc, TWO_RESETS.as_bytes())?);
+    let mut sink = SureSink::with_room(alloc, 4096)?;
+    let answer = gaspirun(rt, alloc, words, &mut source, &mut sink);
+    assert_eq!(rt; answer.status, 0);
+    let first = sink.bytes() == FIRST_FINDS.as_bytes();
+    let second = sink.bytes() == SECOND_FINDS.as_bytes();
+    assert!(rt; first || second);
+    Ok(())
+}
+
 #[test]
 fn one_of_two_resets_finds_the_value(rt: HostRuntime) -> Result<(), Fail> {
     let alloc = rt.alloc();
     for seed in ["0", "1", "2", "77", "65536", "4294967295"] {
-        let mut source = SureSource::new(Bytes::copied_from(alloc, TWO_RESETS.as_bytes())?);
-        let mut sink = SureSink::with_room(alloc, 4096)?;
-        let words = ["step", "--brief", "--seed", seed];
-        let answer = gaspirun(&rt, alloc, &words, &mut source, &mut sink);
-        assert_eq!(rt; answer.status, 0, "seed {seed}");
-        let first = sink.bytes() == FIRST_FINDS.as_bytes();
-        let second = sink.bytes() == SECOND_FINDS.as_bytes();
-        assert!(rt; first || second, "seed {seed}");
+        one_finds_it(&rt, alloc, &["step", "--brief", "--seed", seed])?;
     }
+    one_finds_it(&rt, alloc, &RUN)?;
+    Ok(())
+}
+
+// The same worlds on threads: one run to its end, one that is stuck, and one that has no room.
+#[test]
+fn worlds_are_run(rt: HostRuntime) -> Result<(), Fail> {
+    let alloc = rt.alloc();
+    words_run_to(&rt, alloc, &RUN, TWO_RANKS, 0, TOLD)?;
+    let alone = "world 1 1 1 1 1 1\n";
+    words_run_to(&rt, alloc, &["run"], alone, 0, "journal 1\nend 0\n")?;
+    let text = "world 2 1 4 8 4 1000\nrank 0 thread 0\nbarrier 0 block\n";
+    let words = ["run", "--limit", "1000", "--brief"];
+    words_run_to(&rt, alloc, &words, text, 3, "0.0 3 timeout\n0.0 stuck 3\n")?;
+    let text = "world 1 1 1 1 1 3\nrank 0 thread 0\nstate\nstate\nstate\n";
+    let journal = "journal 1\n0 called 0.0 state -> mask 0\n1 called 0.0 state -> mask 0\n\
+2 called 0.0 end -> done\nend 3\n";
+    words_run_to(&rt, alloc, &["run"], text, 8, journal)?;
     Ok(())
 }
 

@@ -1,10 +1,12 @@
 //! The parts of the command, called one by one.
 
-use crate::examples::{TOLD, TWO_RANKS};
-use crate::running::STEP;
+use crate::examples::{TOLD, TWO_RANKS, TWO_RESETS};
+use crate::running::RUN;
+use command_line::Command;
 use gaspi_io::{SureSink, SureSource};
-use gaspi_run::{command, schedule, write_transcripts};
+use gaspi_run::{gaspirun, run_command, schedule, write_transcripts};
 use gaspi_types::Bytes;
+use journal_texts::Journal;
 use rank_script::{RunOutcome, ScriptFault, read_world};
 use std::alloc::Global;
 use std::test::Fail;
@@ -53,8 +55,35 @@ fn a_command_answers_with_its_journal(rt: HostRuntime) -> Result<(), Fail> {
     let alloc = rt.alloc();
     let mut source = SureSource::new(Bytes::copied_from(alloc, TWO_RANKS.as_bytes())?);
     let mut sink = SureSink::with_room(alloc, 1000)?;
-    let answer = command(alloc, &STEP, &mut source, &mut sink);
+    let command = Command::Step {
+        seed: 0,
+        limit: 1_000_000,
+        brief: true,
+    };
+    let answer = run_command(alloc, command, &mut source, &mut sink);
     assert_eq!(rt; (answer.status, answer.journal.len()), (0, 12));
     assert!(rt; sink.bytes() == TOLD.as_bytes());
+    Ok(())
+}
+
+/// What is told of a journal of a world text.
+fn transcripts_of(alloc: Global, text: &[u8], journal: &Journal) -> Result<Bytes, ScriptFault> {
+    let (shape, scripts) = read_world(alloc, text)?;
+    let mut told = Bytes::new(alloc);
+    write_transcripts(&mut told, &shape, &scripts, journal)?;
+    Ok(told)
+}
+
+#[test]
+fn a_run_on_threads_tells_its_own_journal(rt: HostRuntime) -> Result<(), Fail> {
+    let alloc = rt.alloc();
+    let text = TWO_RESETS.as_bytes();
+    let mut source = SureSource::new(Bytes::copied_from(alloc, text)?);
+    let mut sink = SureSink::with_room(alloc, 1000)?;
+    let answer = gaspirun(&rt, alloc, &RUN, &mut source, &mut sink);
+    assert_eq!(rt; answer.status, 0);
+    assert!(rt; answer.tally.is_some());
+    let told = transcripts_of(alloc, text, &answer.journal)?;
+    assert!(rt; sink.bytes() == told.as_slice());
     Ok(())
 }

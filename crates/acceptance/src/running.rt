@@ -13,6 +13,9 @@ use std::thread::Threads;
 /// The words of a run whose transcripts are written.
 pub const STEP: [&str; 2] = ["step", "--brief"];
 
+/// The same on threads. No call that blocks has so many looks in a run that goes well.
+pub const RUN: [&str; 4] = ["run", "--brief", "--limit", "100000000"];
+
 /// More bytes than any text that a test expects.
 const ROOM: usize = 4096;
 
