@@ -1,5 +1,5 @@
 -- The answer to an input: to what was told of it, to its fault, and to one that could not be read.
-use Rattle.std.proofs.Common.{◌≡◌, ℕ, ◌+◌, ◌<◌, ◌≤◌, ◌⊎◌, inl, inr, List, [], replicate, Option, None, Some, Result, Ok, Err, IfOk, IsErrOf, length, refl, arith}
+use Rattle.std.proofs.Common.{◌≡◌, ℕ, ◌+◌, ◌<◌, ◌≤◌, inl, inr, List, [], replicate, Option, None, Some, Result, Ok, Err, IfOk, IsErrOf, length, refl, arith}
 use Rattle.std.specs.Option.{ForSome}
 use Rattle.std.proofs.lemmas.Bool.{lt-ltb}
 use Rattle.std.proofs.lemmas.List.{length-replicate}

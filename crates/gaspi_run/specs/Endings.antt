@@ -1,5 +1,5 @@
 -- How the callers of a world ended, whether it ran on one thread or on many. (own choice)
-use Rattle.std.specs.Prelude.{count_by, ◌<◌, ◌≡◌, ◌⊎◌, Bool, ℕ, ◌+◌, true, false, List, [], ◌∷◌, ◌++◌, Option, None, Some, Ok, slice_get, find}
+use Rattle.std.specs.Prelude.{count_by, ◌<◌, ◌≡◌, ◌⊎◌, Bool, ℕ, ◌+◌, false, List, [], ◌∷◌, ◌++◌, Option, None, Some, Ok, slice_get, find}
 use Rattle.std.specs.List.{filter}
 use Rattle.gaspi_types.specs.CallRows.{need_of}
 use Rattle.gaspi_types.specs.World.{World, is_caller}

@@ -1,8 +1,7 @@
 -- The schedule on one thread: turns of callers and of transfers, picked by the generator. (own choice)
-use Rattle.std.specs.Prelude.{count_by, ◌<◌, ◌≡◌, ◌⊎◌, Bool, ℕ, zero, suc, ◌+◌, ◌-◌, true, false, ◌==◌, nat_lt, nat_le, List, [], ◌∷◌, ◌++◌, length, remove, Option, None, Some, Result, Ok, Err, if◌then◌else◌, slice_get, slice_set, find}
-use Rattle.std.specs.List.{filter, flat_map, range_with_len}
-use Rattle.gaspi_types.specs.CallRows.{need_of}
-use Rattle.gaspi_types.specs.World.{World, is_caller}
+use Rattle.std.specs.Prelude.{◌≡◌, Bool, ℕ, zero, suc, ◌+◌, ◌-◌, true, ◌==◌, nat_lt, nat_le, List, [], ◌∷◌, ◌++◌, length, remove, Option, None, Some, Result, Ok, Err, if◌then◌else◌, slice_get, slice_set, find}
+use Rattle.std.specs.List.{flat_map, range_with_len}
+use Rattle.gaspi_types.specs.World.{World}
 use Rattle.gaspi_types.specs.declared.shapes.CallerId.{CallerId}
 use Rattle.gaspi_types.specs.declared.calls.Call.{Call}
 use Rattle.gaspi_types.specs.declared.calls.Call.TheVariants.{End}
@@ -14,19 +13,16 @@ use Rattle.gaspi_types.specs.declared.replies.Ready.{Ready}
 use Rattle.gaspi_types.specs.declared.replies.Ready.TheVariants as ready
 use Rattle.gaspi_types.specs.declared.events.Transfer.{Transfer}
 use Rattle.gaspi_types.specs.declared.events.Event.{Event}
-use Rattle.gaspi_types.specs.declared.events.Event.TheVariants.{Called, Joined, Take, Put}
+use Rattle.gaspi_types.specs.declared.events.Event.TheVariants.{Called}
 use Rattle.gaspi_types.specs.declared.groups.Args.{Args}
-use Rattle.gaspi_model.specs.CollectiveCalls.{joining_call}
 use Rattle.gaspi_model.specs.State.{opening}
-use Rattle.gaspi_model.specs.Step.{step, answer_in, room_taken, transfer_event, own_calls, reached, is_active, is_pending}
+use Rattle.gaspi_model.specs.Step.{step, answer_in, room_taken, transfer_event, is_active}
 use Rattle.gaspi_model.specs.Transfers.{transfers}
-use Rattle.gaspi_model.specs.Settled.{IsSettled}
 use Rattle.gaspi_model.specs.declared.states.State.{State}
 use Rattle.gaspi_model.specs.declared.states.Why.{Why}
 use Rattle.plain_machine.specs.Looking.{join_event}
-use Rattle.rank_script.specs.Runs.{Progress, Going, Over, going_on, advanced, stopped, IsRun}
+use Rattle.rank_script.specs.Runs.{Progress, Going, Over, going_on, advanced, stopped}
 use Rattle.rank_script.specs.WorldText.{is_script_of}
-use Rattle.rank_script.specs.declared.scripts.RunOutcome.TheVariants as outcomes
 use Rattle.rank_script.specs.declared.scripts.Halted.TheVariants as halts
 use Rattle.rank_script.specs.declared.scripts.Script.{Script}
 use Rattle.rank_script.specs.declared.scripts.ScriptLine.{ScriptLine}

@@ -1,14 +1,13 @@
 //! The commands of the program.
 
-ghost use Rattle.std.specs.Prelude.{◌≡◌, ◌⊎◌, ◌≤◌, true, [], map, None, Some, Err, IfOk};
+ghost use Rattle.std.specs.Prelude.{◌≡◌, ◌⊎◌, true, map, None, Some, Err, IfOk};
 ghost use Rattle.gaspi_io.specs.Faults.{HasCause};
 ghost use Rattle.gaspi_io.specs.Sink.{with_more, AddsFront};
 ghost use Rattle.command_line.specs.Words.{command_of};
 ghost use Rattle.command_line.specs.declared.words.Command.{Command};
 ghost use Rattle.command_line.specs.declared.words.Command.TheVariants as commands;
-ghost use Rattle.rank_script.specs.declared.scripts.ScriptFault.TheVariants as script_faults;
 ghost use Rattle.gaspi_run.specs.Command.{fault_text, IsWithin, is_plain, HasNoWorld, Refuses, Answers};
-ghost use Rattle.gaspi_run.specs.Saying.{IsWritten, SaysFault, Says, SaysStop};
+ghost use Rattle.gaspi_run.specs.Saying.{SaysFault, Says, SaysStop};
 
 use crate::telling::{Told, tell, tell_run};
 use command_line::{Command, read_words};
@@ -175,11 +174,15 @@ pub fn gaspirun<R: Threads + Wait + Sync, S: Source, K: Sink>(
         (K.held sink.old) (K.held sink.new) (K.faults sink.old) (K.faults sink.new) result }
 {
     match read_words(alloc, words) {
-        Ok(Some(Command::Run {
-            workers,
-            limit,
-            brief,
-        })) => run_threads(rt, alloc, workers, limit, brief, source, sink),
+        Ok(
+            Some(
+                Command::Run {
+                    workers,
+                    limit,
+                    brief,
+                },
+            ),
+        ) => run_threads(rt, alloc, workers, limit, brief, source, sink),
         Ok(Some(command)) => run_command(alloc, command, source, sink),
         Ok(None) => {
             let status = status_of(sink, b"gaspirun: words refused\n", 1);

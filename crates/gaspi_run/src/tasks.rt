@@ -1,6 +1,6 @@
 //! The parts of a world with their passes: made, run, and told apart.
 
-ghost use Rattle.std.specs.Prelude.{◌≡◌, ◌+◌, ◌<◌, ◌≤◌, ℕ, IfOk, OnOk, map, length, option_to_list};
+ghost use Rattle.std.specs.Prelude.{◌≡◌, ◌+◌, ◌<◌, ◌≤◌, IfOk, OnOk, map, length, option_to_list};
 ghost use Rattle.std.specs.List.{All};
 ghost use Rattle.gaspi_types.specs.declared.shapes.CallerId.{CallerId};
 ghost use Rattle.gaspi_world.specs.Callers.{IsPassOf};

@@ -105,8 +105,8 @@ module _ (f : CallerId → ℕ) where
       go (suc n) some =
           let found = counted-there (λ (c : CallerId). f c == k) cs (omega (arith, some)) in
           let less = counts-there (λ (c : CallerId). f c == k) (is_caller found.1.rank found.1.thread) cs (λ place c at is.
-              let same : c ≡ found.1 = only place found.0 c found.1 at found.2 (eqb-true (f c) k is ∙ sym (eqb-true (f found.1) k found.3)) in
-              rw (eq-eqb c.rank found.1.rank (ap (λ (d : CallerId). d.rank) same), eq-eqb c.thread found.1.thread (ap (λ (d : CallerId). d.thread) same)) refl) in
+          let same : c ≡ found.1 = only place found.0 c found.1 at found.2 (eqb-true (f c) k is ∙ sym (eqb-true (f found.1) k found.3)) in
+          rw (eq-eqb c.rank found.1.rank (ap (λ (d : CallerId). d.rank) same), eq-eqb c.thread found.1.thread (ap (λ (d : CallerId). d.thread) same)) refl) in
           let most = once found.1.rank found.1.thread in
           omega arith
 

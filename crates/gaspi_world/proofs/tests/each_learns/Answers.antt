@@ -1,4 +1,4 @@
-use Rattle.std.proofs.Common.{◌≡◌, ℕ, zero, suc, ◌<◌, List, [], ◌∷◌, length, map, Some, slice_index_or, sym, ap, ◌∙◌, refl, subst, arith}
+use Rattle.std.proofs.Common.{List, sym, ap, ◌∙◌}
 use Rattle.std.specs.List.{slice_get}
 use Rattle.gaspi_types.specs.declared.events.Event.{Event}
 use Rattle.commit_table.specs.Calls.{PassValue, IsOf, HoldsNone}

@@ -1,4 +1,4 @@
-use Rattle.std.proofs.Common.{ℕ, ◌<◌, length, arith}
+use Rattle.std.proofs.Common.{◌<◌, length, arith}
 use Rattle.gaspi_world.proofs.two_senders.run_slice.Goals as goal
 
 pub returns : goal.returns
