@@ -7,14 +7,14 @@ use Rattle.gaspi_run.specs.declared.commands.Answer.{Answer}
 
 -- no memory, and nothing told
 abbrev pub starved : Answer
-starved = record { status = 7; journal = [] }
+starved = record { status = 7; journal = []; tally = None }
 
 nothing-taken : (most : ℕ) (left : Option (List ℕ)) → TakesAtMost most left left
 nothing-taken most None = record { count = 0; within = omega arith; rest = refl }
 nothing-taken most (Some bytes) = record { count = 0; within = omega arith; rest = refl }
 
 pub starved-refuses : (held : Option (List ℕ)) (faults : ℕ) → Refuses held held faults faults starved
-starved-refuses held faults = record { says = inr (inr (refl, refl, refl)); empty = refl }
+starved-refuses held faults = record { says = inr (inr (refl, refl, refl)); empty = (refl, refl) }
 
 pub starved-answers : (command : Command) (left held : Option (List ℕ)) (faults sink_faults : ℕ) → Answers command left left faults faults held held sink_faults sink_faults starved
 starved-answers command left held faults sink_faults = inr (inr (inr (inr (record {
@@ -22,5 +22,5 @@ starved-answers command left held faults sink_faults = inr (inr (inr (inr (recor
   kept = refl;
   still = (refl, refl);
   status = refl;
-  empty = refl;
+  empty = (refl, refl);
 }))))
