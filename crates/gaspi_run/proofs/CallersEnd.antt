@@ -20,20 +20,15 @@ use Rattle.rank_script.specs.declared.scripts.RunOutcome.TheVariants as outcomes
 use Rattle.rank_script.specs.declared.scripts.ScriptLine.{ScriptLine}
 use Rattle.gaspi_world.specs.Attempts.{is_full_in}
 use Rattle.gaspi_world.specs.Callers.{events_of}
-use Rattle.script_bodies.specs.Joins.{AreJoinsFollowed as AreFollowed}
 use Rattle.script_bodies.specs.Runs.{HadNoRoom as HadNone, HasCause, IsStoppedBefore as WasStoppedBefore}
 use Rattle.gaspi_run.proofs.CallsOfEvents.{own-events}
-use Rattle.gaspi_run.specs.Endings.{own_events, AreJoinsFollowed, IsStoppedBefore, HadNoRoom, HasLimitCause}
+use Rattle.gaspi_run.specs.Endings.{own_events, IsStoppedBefore, HadNoRoom, HasLimitCause}
 use Rattle.gaspi_run.specs.Parts.{had_memory}
 use Rattle.gaspi_run.proofs.RunLines.{line-there, need-plain}
 
 -- a caller's own events are those of its rank and thread
 pub own-is : (c : CallerId) (history : List Event) → own_events c.rank c.thread history ≡ events_of c history
 own-is c history = refl
-
--- what was joined and called next
-pub followed-is : (stopped : Option Call) (events : List Event) → AreFollowed stopped events → AreJoinsFollowed stopped events
-followed-is stopped events followed = followed
 
 module _ (w : World) (c : CallerId) (lines : List ScriptLine) (journal : List Event) (legal : is_legal w journal ≡ true) where
   module _ {S : Type 0} (v n : Known S Event) (seen : IsPrefix n.seen journal) (done : events_of c journal ≡ n.mine) where

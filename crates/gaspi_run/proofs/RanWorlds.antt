@@ -37,13 +37,14 @@ use Rattle.script_bodies.specs.Runs.{HasRun}
 use Rattle.script_bodies.specs.declared.bodies.ScriptBody.{ScriptBody}
 use Rattle.gaspi_run.proofs.CallsOfEvents.{own-events}
 use Rattle.transfer_worker.specs.Turns.{IsDrained}
-use Rattle.gaspi_run.specs.Endings.{HasEnded, HaveEnded, HasSettled, AreJoinsFollowed}
+use Rattle.script_bodies.specs.Joins.{AreJoinsFollowed}
+use Rattle.gaspi_run.specs.Endings.{HasEnded, HaveEnded, HasSettled}
 use Rattle.gaspi_run.specs.Parts.{EachAt, HasRunTask, HasRunPart, IsDone, HaveRun, made_pass, finished_of, finished_with, finished_in, had_memory}
 use Rattle.gaspi_run.specs.Threads.{HadPass, IsTallied}
 use Rattle.gaspi_run.specs.declared.parts.Part.{Part}
 use Rattle.gaspi_run.specs.declared.parts.Part.TheVariants.{Caller, Worker}
 use Rattle.gaspi_run.specs.declared.turns.Finished.{Finished}
-use Rattle.gaspi_run.proofs.CallersEnd.{own-is, followed-is, own-calls, limit-cause, stopped-before}
+use Rattle.gaspi_run.proofs.CallersEnd.{own-is, own-calls, limit-cause, stopped-before}
 use Rattle.gaspi_run.proofs.OneOfEach.{counts, count-none, count-one, count-some, find-one, found-all, count-map, none-there, all-at}
 use Rattle.gaspi_run.proofs.OwnValues.{step-has-own}
 use Rattle.gaspi_run.proofs.SameCallers.{is-itself, only-itself, same-caller}
@@ -179,7 +180,7 @@ module _ (world : TableValue Start) (scripts : List Script) (limit : ℕ) (passe
               run = subst (λ (ps : _). IsRun script.lines ps told) calls run_is.run;
               stopped = run_is.unmade;
               stopped_before = stopped-before w script.caller script.lines journal legal t.pass.known t.pass.known saw did lines told good run_is.unmade run_is.stopped_before;
-              joins = subst (AreJoinsFollowed run_is.unmade) (sym (own-is script.caller journal ∙ did)) (followed-is run_is.unmade t.pass.known.mine run_is.followed);
+              joins = subst (AreJoinsFollowed run_is.unmade) (sym (own-is script.caller journal ∙ did)) run_is.followed;
               limit = limit-cause w script.caller script.lines journal legal t.pass.known t.pass.known saw did lines told good run_is.cause;
             }
           where

@@ -1,6 +1,5 @@
 -- How the callers of a world ended, whether it ran on one thread or on many. (own choice)
-use Rattle.std.specs.Prelude.{count_by, ◌<◌, ◌≡◌, ◌⊎◌, Bool, ℕ, ◌+◌, false, List, [], ◌∷◌, ◌++◌, Option, None, Some, Ok, slice_get, find}
-use Rattle.std.specs.List.{filter}
+use Rattle.std.specs.Prelude.{count_by, ◌<◌, ◌≡◌, Bool, ℕ, ◌+◌, false, List, [], ◌∷◌, ◌++◌, Option, None, Some, Ok, slice_get, find}
 use Rattle.gaspi_types.specs.CallRows.{need_of}
 use Rattle.gaspi_types.specs.World.{World, is_caller}
 use Rattle.gaspi_types.specs.declared.shapes.CallerId.{CallerId}
@@ -8,8 +7,7 @@ use Rattle.gaspi_types.specs.declared.calls.Call.{Call}
 use Rattle.gaspi_types.specs.declared.calls.Call.TheVariants.{End}
 use Rattle.gaspi_types.specs.declared.replies.Reply.TheVariants as replies
 use Rattle.gaspi_types.specs.declared.events.Event.{Event}
-use Rattle.gaspi_types.specs.declared.events.Event.TheVariants.{Called, Joined, Take, Put}
-use Rattle.gaspi_model.specs.CollectiveCalls.{joining_call}
+use Rattle.gaspi_types.specs.declared.events.Event.TheVariants.{Called}
 use Rattle.gaspi_model.specs.Step.{room_taken, own_calls, reached, is_pending}
 use Rattle.gaspi_model.specs.Settled.{IsSettled}
 use Rattle.gaspi_model.specs.declared.states.State.{State}
@@ -19,6 +17,8 @@ use Rattle.rank_script.specs.declared.scripts.RunOutcome.{RunOutcome}
 use Rattle.rank_script.specs.declared.scripts.RunOutcome.TheVariants as outcomes
 use Rattle.rank_script.specs.declared.scripts.Script.{Script}
 use Rattle.rank_script.specs.declared.scripts.ScriptLine.{ScriptLine}
+use Rattle.gaspi_world.specs.Callers.{is_event_of, events_of}
+use Rattle.script_bodies.specs.Joins.{AreJoinsFollowed}
 use Rattle.gaspi_run.specs.declared.turns.Finished.{Finished}
 
 -- the room that the present call of a caller needs
@@ -31,31 +31,12 @@ pub record HasSettled (w : World) (journal : List Event) : Type 0 where
   pub leads : reached w journal ≡ Ok state
   pub settled : IsSettled state
 
--- the events of a caller in a history, in order: its calls and its joins
+-- the events of a caller, by its rank and thread
 abbrev pub is_own : ℕ → ℕ → Event → Bool
-is_own rank thread (Called c call reply) = is_caller rank thread c
-is_own rank thread (Joined c id args) = is_caller rank thread c
-is_own rank thread (Take origin queue target number outcome) = false
-is_own rank thread (Put origin queue target number outcome) = false
+is_own rank thread e = is_event_of (record { rank = rank; thread = thread }) e
 
 abbrev pub own_events : ℕ → ℕ → List Event → List Event
-own_events rank thread history = filter (is_own rank thread) history
-
--- whether a join of a caller is of the call that it makes next; or, where its run was stopped before that call, it makes its end next
-abbrev pub IsFollowed : Option Call → Call → List Event → Type 0
-IsFollowed stopped joins [] = ⊥
-IsFollowed stopped joins (Called c call reply ∷ events) = (call ≡ joins) ⊎ ((call ≡ End) × (stopped ≡ Some joins))
-IsFollowed stopped joins (Joined c id args ∷ events) = ⊥
-IsFollowed stopped joins (Take origin queue target number outcome ∷ events) = ⊥
-IsFollowed stopped joins (Put origin queue target number outcome ∷ events) = ⊥
-
--- each join of a caller's events is
-abbrev pub AreJoinsFollowed : Option Call → List Event → Type 0
-AreJoinsFollowed stopped [] = Unit {0}
-AreJoinsFollowed stopped (Joined c id args ∷ events) = IsFollowed stopped (joining_call id args) events × AreJoinsFollowed stopped events
-AreJoinsFollowed stopped (Called c call reply ∷ events) = AreJoinsFollowed stopped events
-AreJoinsFollowed stopped (Take origin queue target number outcome ∷ events) = AreJoinsFollowed stopped events
-AreJoinsFollowed stopped (Put origin queue target number outcome ∷ events) = AreJoinsFollowed stopped events
+own_events rank thread history = events_of (record { rank = rank; thread = thread }) history
 
 -- the call before which a run was stopped, where it was
 abbrev pub IsStoppedBefore : List ScriptLine → RunOutcome → Option Call → Type 0
