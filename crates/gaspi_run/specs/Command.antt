@@ -73,12 +73,13 @@ run_text false w scripts journal = journal_text journal
 abbrev pub ToldTally : Type 0
 ToldTally = Option (TallyValue Start Event)
 
--- What `run` does with its input: the scripts of the world text run on threads, each caller and each worker on one of its own. Its
--- journal is one legal history of the machine from the start that the text states. Each call that a caller completed stands there
--- once, with the reply that the caller got, after what the caller had seen; what is told of the closed world says so, and that no
--- timeout came before its looks were spent. Each caller's calls are a run of its script; every caller has ended, and all that was
--- posted has arrived, broken queues aside. Every notification came after all earlier writes of its lane. The text that it writes is
--- the journal, or with `--brief` what the callers were told; its status tells how they ended.
+-- What `run` does with its input: the callers of the world text ran their scripts by the passes of a world, which was then closed. Its
+-- journal is one legal history of the machine from the start that the text states. What is told of the closed world says that each call
+-- which a caller completed stands there once, with the reply that the caller got; that what the caller had seen begins the journal; and
+-- that no timeout came before its looks were spent. That each call came after what its caller had seen is said where calls are made
+-- (`Rank::attempt`). Each caller's calls are a run of its script; every caller has ended, and all that was posted has arrived, broken
+-- queues aside. Every notification came after all earlier writes of its lane. The text that it writes is the journal, or with `--brief`
+-- what the callers were told; its status tells how they ended. How many threads there were is not said.
 pub record HasRunOnThreads (limit : ℕ) (brief : Bool) (input : List ℕ) (journal : List Event) (tally : ToldTally) (status : ℕ) (text : List ℕ) : Type 0 where
   pub world : World
   pub scripts : List Script

@@ -44,11 +44,8 @@ IsStoppedBefore lines outcome None = Unit {0}
 IsStoppedBefore lines outcome (Some call) =
     (place : ℕ) × (line : ScriptLine) × (slice_get lines place ≡ Some line) × (line.call ≡ call) × (outcome ≡ outcomes.Limit line.number)
 
--- How a caller ended: its calls are a run of its script, with that outcome; each of its joins is of the call that it makes next, or
--- of the one before which it was stopped; and where it ended at the event limit, there
--- is a history that the journal begins with, which has all its events but the end, and after which its rank had no room
--- for what the call of that line needs.
-
+-- There is a history that the journal begins with, which has all events of a caller but its end, and after which its rank had no room
+-- for what the call of a line needs.
 pub record HadNoRoom (w : World) (journal : List Event) (caller : CallerId) (line : ScriptLine) : Type 0 where
   pub before : List Event
   pub later : List Event
@@ -58,6 +55,7 @@ pub record HadNoRoom (w : World) (journal : List Event) (caller : CallerId) (lin
   pub leads : reached w before ≡ Ok state
   pub full : w.limits.events < room_taken state caller.rank + present_need state caller line
 
+-- why a caller ended at the event limit, where it did: at a line of its script; none ended for want of memory
 abbrev pub HasLimitCause : World → List Event → CallerId → List ScriptLine → RunOutcome → Type 0
 HasLimitCause w journal caller lines outcomes.Ended = Unit {0}
 HasLimitCause w journal caller lines (outcomes.Failed number) = Unit {0}
@@ -66,6 +64,8 @@ HasLimitCause w journal caller lines (outcomes.Limit number) =
     (place : ℕ) × (line : ScriptLine) × (slice_get lines place ≡ Some line) × (line.number ≡ number) × HadNoRoom w journal caller line
 HasLimitCause w journal caller lines (outcomes.NoMemory number) = ⊥
 
+-- How a caller ended: its calls are a run of its script, with that outcome; each of its joins is of the call that it makes next, or
+-- of the one before which it was stopped.
 pub record HasEnded (w : World) (scripts : List Script) (journal : List Event) (f : Finished) : Type 0 where
   pub script : Script
   pub is_script : find (is_script_of f.caller) scripts ≡ Some script
