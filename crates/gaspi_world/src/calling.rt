@@ -55,7 +55,7 @@ pub fn call<R: Wait>(
     for _ in rt.forever() {
         match attempt(table, pass, alloc, caller, call, look) {
             Ok(reply) => return Ok(reply),
-            Err(Halt::Busy) => backoff.spin(),
+            Err(Halt::Busy) => backoff.snooze(),
             Err(Halt::NotYet) => {
                 look = budget.next();
                 backoff.snooze();

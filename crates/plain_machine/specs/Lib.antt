@@ -3,3 +3,4 @@ pub mod Looking
 pub mod Machine
 pub mod Reaching
 pub mod Standing
+pub mod Words

@@ -16,6 +16,7 @@ ghost use Rattle.plain_calls.specs.Looks.{made_of};
 ghost use Rattle.plain_calls.specs.Memory.{is_send, looks_with_memory, keeps_memory, takes_memory};
 ghost use Rattle.plain_machine.specs.Looking.{IsFindingIn, join_event};
 ghost use Rattle.plain_machine.specs.Machine.{is_still};
+ghost use Rattle.plain_machine.specs.Words.{word_in};
 
 use crate::listing::{first_transfer, transfer_at, transfer_count, transfers};
 use crate::looking::{has_section, is_pending_in, join_found, look_in, record_named};
@@ -27,7 +28,8 @@ use gaspi_model::{Memory, StepFault, soundness};
 use gaspi_types::{
     Args, Call, CallerId, Event, NoMemory, RankId, Ready, Reply, Rows, Shape, Transfer,
 };
-use plain_calls::{Finding, is_running, thread_at};
+use plain_calls::{Finding, bytes_of, is_running, thread_at};
+use segment_tables::{is_within, word_at};
 use std::alloc::Global;
 use std::marker::Model;
 
@@ -295,6 +297,20 @@ impl Machine {
         ensures { result ≡ is_pending self.now caller.rank caller.thread call.now }
     {
         is_pending_in(&self.ranks, &caller, call)
+    }
+
+    /// The word at an offset of a segment of a rank, the lowest of its eight bytes first; none where no eight bytes stand there. It need
+    /// not be aligned. (GASPI: segments)
+    pub fn word(&self, rank: RankId, seg: u64, offset: u64) -> Option<u64>
+        ensures { result ≡ word_in self.now rank seg offset }
+    {
+        let memory = self.memories.get(rank.index())?;
+        let bytes = bytes_of(memory, seg);
+        if is_within(offset, 8, bytes.len() as u64) {
+            Some(word_at(bytes, offset))
+        } else {
+            None
+        }
     }
 
     /// Whether a caller has a section.

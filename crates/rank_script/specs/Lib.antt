@@ -1,5 +1,7 @@
+pub mod Bench
 pub mod Cursors
 pub mod CutLines
+pub mod Generator
 pub mod Lines
 pub mod PlainScripts
 pub mod Readings

@@ -61,7 +61,7 @@ impl<'a> Worker<'a> {
         for _ in rt.forever() {
             match self.turn(alloc)? {
                 Turn::Moved => backoff.reset(),
-                Turn::Busy => backoff.spin(),
+                Turn::Busy => backoff.snooze(),
                 Turn::Idle => backoff.snooze(),
                 Turn::Drained => return Ok(()),
             }

@@ -1,0 +1,85 @@
+-- The world of `bench`: ranks in a ring, each of which sends a number to its right neighbour in each round. (own choice)
+use Rattle.std.specs.Prelude.{ℕ, zero, suc, ◌+◌, ◌-◌, ◌*◌, ◌%◌, List, [], ◌∷◌, ◌++◌, Option, None, Some}
+use Rattle.byteorder.specs.Endian.{little_bytes}
+use Rattle.gaspi_types.specs.World.{World}
+use Rattle.gaspi_types.specs.declared.calls.Call.{Call}
+use Rattle.gaspi_types.specs.declared.calls.Call.TheVariants as calls
+use Rattle.gaspi_types.specs.declared.calls.Timeout.{Timeout}
+use Rattle.gaspi_types.specs.declared.calls.Timeout.TheVariants.{Looks, Block}
+use Rattle.gaspi_types.specs.declared.replies.Reply.{Reply}
+use Rattle.gaspi_types.specs.declared.replies.Reply.TheVariants as replies
+use Rattle.gaspi_types.specs.declared.shapes.CallerId.{CallerId}
+use Rattle.gaspi_types.specs.declared.shapes.Declared.{Declared}
+use Rattle.rank_script.specs.Generator.{after_draws}
+use Rattle.rank_script.specs.declared.scripts.Script.{Script}
+use Rattle.rank_script.specs.declared.scripts.ScriptLine.{ScriptLine}
+
+-- the neighbours of a rank in a ring of so many
+abbrev pub right_of : ℕ → ℕ → ℕ
+right_of ranks rank = (rank + 1) % ranks
+
+abbrev pub left_of : ℕ → ℕ → ℕ
+left_of ranks rank = (rank + ranks - 1) % ranks
+
+-- a line whose call is made once
+abbrev pub once_line : ℕ → Call → Timeout → Option Reply → ScriptLine
+once_line number call timeout expected = record { number = number; call = call; timeout = timeout; tries = 1; expected = expected }
+
+-- what a rank posts to its right neighbour in each round: the number at 0 of its segment, to 8 of the other, with a notification
+abbrev pub ring_call : ℕ → ℕ → Call
+ring_call ranks rank = calls.WriteNotify (record {
+  seg = 0; offset = 0; rank = right_of ranks rank; rseg = 0; roffset = 8; size = 8; note = 0; value = 1; queue = 0;
+})
+
+module _ (seed ranks rounds : ℕ) where
+  -- The number that a rank sends in a round. The numbers are drawn round by round, and in each round rank by rank.
+  abbrev pub bench_draw : ℕ → ℕ → ℕ
+  bench_draw round rank = after_draws seed (round * ranks + rank + 1)
+
+  -- its eight bytes, the lowest first
+  abbrev pub bench_bytes : ℕ → ℕ → List ℕ
+  bench_bytes round rank = little_bytes 8 (bench_draw round rank)
+
+  -- the lines of a rank in a round, the first of which has that number
+  abbrev pub round_lines : ℕ → ℕ → ℕ → List ScriptLine
+  round_lines rank number round =
+      once_line number (calls.Store (record { seg = 0; offset = 0; bytes = bench_bytes round rank })) (Looks 1) None
+      ∷ once_line (number + 1) (ring_call ranks rank) (Looks 1) None
+      ∷ once_line (number + 2) (calls.Wait (record { queue = 0 })) Block None
+      ∷ once_line (number + 3) (calls.Waitsome (record { seg = 0; begin = 0; num = 1 })) Block (Some (replies.Id 0))
+      ∷ once_line (number + 4) (calls.Reset (record { seg = 0; note = 0 })) (Looks 1) (Some (replies.Value 1))
+      ∷ once_line (number + 5) (calls.Load (record { seg = 0; offset = 8; size = 8 })) (Looks 1) (Some (replies.Bytes (bench_bytes round (left_of ranks rank))))
+      ∷ once_line (number + 6) (calls.Barrier (record { group = 0 })) Block None ∷ []
+
+  -- The number of the first line of a rank's script in the world text: the line of the world, those of the segments and the
+  -- sections of the ranks before it stand above, and its own section's line.
+  abbrev pub first_number : ℕ → ℕ
+  first_number rank = ranks + 3 + rank * (7 * rounds + 1)
+
+  -- the lines of a rank in so many rounds
+  abbrev pub bench_lines : ℕ → ℕ → List ScriptLine
+  bench_lines rank zero = []
+  bench_lines rank (suc round) = bench_lines rank round ++ round_lines rank (first_number rank + 7 * round) round
+
+  -- the scripts of so many ranks
+  abbrev pub bench_scripts : ℕ → List Script
+  bench_scripts zero = []
+  bench_scripts (suc rank) = bench_scripts rank ++ record { caller = record { rank = rank; thread = 0 }; lines = bench_lines rank rounds } ∷ []
+
+-- a segment of sixteen bytes for each of so many ranks
+abbrev pub bench_segments : ℕ → List Declared
+bench_segments zero = []
+bench_segments (suc rank) = bench_segments rank ++ record { rank = rank; segment = 0; size = 16 } ∷ []
+
+-- a caller of each of so many ranks
+abbrev pub bench_callers : ℕ → List CallerId
+bench_callers zero = []
+bench_callers (suc rank) = bench_callers rank ++ record { rank = rank; thread = 0 } ∷ []
+
+-- The world: one queue, four entries deep, one notification slot, and room for twelve events of a rank in a round, and its end.
+abbrev pub bench_shape : ℕ → ℕ → World
+bench_shape ranks rounds = record {
+  limits = record { ranks = ranks; queues = 1; depth = 4; notes = 1; inbox = 1; events = 12 * rounds + 1 };
+  segments = bench_segments ranks;
+  callers = bench_callers ranks;
+}
