@@ -29,7 +29,7 @@ pub fn waits_last()
 {}
 
 /// A pass that calls keeps the looks of its timeouts: at first it has none; a call that is recorded has the looks that its timeout
-/// allows; one that is not recorded adds none. (GASPI: timeouts)
+/// allows; one that is not recorded adds no timeout. (GASPI: timeouts)
 pub fn waits_on()
     ensures fresh { (w : World) (c : CallerId) (v : Known Start Event) → v.mine ≡ [] → HaveWaited w c [] v }
     ensures called { (w : World) (c : CallerId) (call : Call) (timeout : timeouts.Timeout) (reply : Reply) (v n : Known Start Event) (ns : List ℕ) (k : ℕ) → HaveWaited w c ns v

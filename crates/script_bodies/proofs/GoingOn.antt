@@ -1,8 +1,9 @@
 -- A run of a script goes on with each call, and the caller's end makes it whole.
-use Rattle.std.proofs.Common.{◌≡◌, ℕ, ◌+◌, ◌-◌, ◌<◌, ◌≤◌, Bool, true, false, ◌&&◌, nat_lt, List, [], ◌∷◌, ◌++◌, Option, None, Some, Result, Ok, Err, inl, inr, refl, sym, ap, ◌∙◌, subst, arith, if◌then◌else◌, append_assoc, append-nil}
+use Rattle.std.proofs.Common.{◌≡◌, ℕ, ◌+◌, ◌-◌, ◌<◌, ◌≤◌, Bool, true, false, ◌&&◌, nat_lt, List, [], ◌∷◌, ◌++◌, Option, None, Some, Result, Ok, Err, inl, inr, refl, sym, ap, ◌∙◌, subst, arith, if◌then◌else◌, append_assoc, append-nil, length, map}
 use Rattle.std.specs.List.{All, slice_get, sum_by}
 use Rattle.std.proofs.lemmas.Bool.{ltb-true}
 use Rattle.std.proofs.lemmas.List.Elements.{All-nil, All-cons, All-head, All-tail}
+use Rattle.std.proofs.lemmas.List.{map-append}
 use Rattle.std.proofs.lemmas.List.Sums.{sum_by-cons}
 use Rattle.timeout_state.specs.Looks.{looks_of}
 use Rattle.rank_script.specs.PlainScripts.{IsPlain, MayLook}
@@ -29,7 +30,7 @@ use Rattle.gaspi_world.specs.Waits.{HaveWaited}
 use Rattle.gaspi_world.specs.declared.calling.Stop.{Stop}
 use Rattle.gaspi_world.specs.declared.calling.Stop.TheVariants.{NoMemory, EventLimit}
 use Rattle.gaspi_world.specs.declared.starts.Start.{Start}
-use Rattle.script_bodies.specs.Looks.{looks_in, bounded, looks_along}
+use Rattle.script_bodies.specs.Looks.{looks_in, bounded, looks_along, HasLookAfter}
 use Rattle.script_bodies.specs.Runs.{moved, HadNoRoom, IsStoppedBefore, HasCause, HasRun}
 use Rattle.script_bodies.specs.SoFar.{HasNoEnd, ComesTo, HasComeTo}
 use Rattle.script_bodies.specs.Joins.{AreJoinsFollowed}
@@ -82,6 +83,25 @@ along-any limit (Over outcome) (first ∷ pairs) pair = (let rest = along-any li
 along-any limit (Going line made lines) (first ∷ pairs) pair =
     let rest = along-any limit (advanced (Going line made lines) first.1) pairs pair in
     (rest.0, ap (λ (ns : List ℕ). looks_in limit line.timeout ∷ ns) rest.1)
+
+-- A look that was made.
+
+-- the last look of a call, which saw what is seen now
+looked-last : (before looks : List ℕ) (earlier : List (List Event)) (last seen : List Event) → looks ≡ before ++ map length (earlier ++ last ∷ []) → last ≡ seen → HasLookAfter seen looks
+looked-last before looks earlier last seen are now = (
+  before ++ map length earlier,
+  [],
+  are ∙ (ap (λ (ns : List ℕ). before ++ ns) (map-append length earlier (last ∷ [])) ∙ (sym (append_assoc before (map length earlier) (length last ∷ []))
+      ∙ ap (λ (h : List Event). (before ++ map length earlier) ++ length h ∷ []) now)),
+)
+
+-- a look stays one when more are made
+looked-still : (history : List Event) (before looks more : List ℕ) → looks ≡ before ++ more → HasLookAfter history before → HasLookAfter history looks
+looked-still history before looks more are (earlier, later, was) = (
+  earlier,
+  later ++ more,
+  are ∙ (ap (λ (ns : List ℕ). ns ++ more) was ∙ append_assoc earlier (length history ∷ later) more),
+)
 
 -- A run goes on by its lines, and is never stopped by a reply.
 
@@ -178,6 +198,7 @@ module _ (w : World) (c : CallerId) (lines : List ScriptLine) (limit : ℕ) wher
                 history = n.seen;
                 begins = prefix_self n.seen;
                 events = stop.goes_on.own;
+                looked = looked-last m.looks n.looks stop.earlier stop.last n.seen stop.looks.looks (stop.now (no_room is));
                 full = ap (is_full_after w c line.call) (sym (stop.now (no_room is))) ∙ (stop.room ∙ no_room is);
               };
               before = m.mine;
@@ -246,6 +267,7 @@ module _ (w : World) (c : CallerId) (lines : List ScriptLine) (limit : ℕ) wher
             begins = prefix_trans cause.history m.seen n.seen cause.begins called.goes_on.seen;
             follows = subst (λ (ps : Pairs). Follows (going_on lines) ps (Going stop.line stop.made stop.later)) (sym (ap own cause.events) ∙ own-events c cause.history) stop.follows;
             events = ap (λ (es : List Event). es ++ Called c End Done ∷ []) cause.events ∙ sym ends;
+            looked = looked-still cause.history m.looks n.looks (map length (called.earlier ++ called.last ∷ [])) called.looks.looks cause.looked;
             full = cause.full;
           }
         where

@@ -1,8 +1,9 @@
 -- How often the calls of a script may look. (GASPI: timeouts)
-use Rattle.std.specs.Prelude.{ℕ, List, [], ◌∷◌}
+use Rattle.std.specs.Prelude.{◌≡◌, ℕ, List, [], ◌∷◌, ◌++◌, length}
 use Rattle.gaspi_types.specs.declared.calls.Call.{Call}
 use Rattle.gaspi_types.specs.declared.calls.Timeout.{Timeout}
 use Rattle.gaspi_types.specs.declared.calls.Timeout.TheVariants.{Looks, Block}
+use Rattle.gaspi_types.specs.declared.events.Event.{Event}
 use Rattle.gaspi_types.specs.declared.replies.Reply.{Reply}
 use Rattle.rank_script.specs.Runs.{Progress, Going, Over, advanced}
 
@@ -21,3 +22,7 @@ abbrev pub looks_along : ℕ → Progress → List (Call × Reply) → List ℕ
 looks_along limit p [] = []
 looks_along limit (Over outcome) (pair ∷ pairs) = 1 ∷ looks_along limit (Over outcome) pairs
 looks_along limit (Going line made lines) (pair ∷ pairs) = looks_in limit line.timeout ∷ looks_along limit (advanced (Going line made lines) pair.1) pairs
+
+-- a look of these, by the lengths of the histories that they saw, was made after a history
+abbrev pub HasLookAfter : List Event → List ℕ → Type 0
+HasLookAfter history looks = (earlier : List ℕ) × (later : List ℕ) × (looks ≡ earlier ++ length history ∷ later)

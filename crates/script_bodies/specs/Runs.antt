@@ -22,7 +22,7 @@ use Rattle.gaspi_world.specs.Waits.{HaveWaited}
 use Rattle.gaspi_world.specs.declared.calling.Stop.{Stop}
 use Rattle.gaspi_world.specs.declared.calling.Stop.TheVariants as stops
 use Rattle.script_bodies.specs.Joins.{AreJoinsFollowed}
-use Rattle.script_bodies.specs.Looks.{looks_along}
+use Rattle.script_bodies.specs.Looks.{looks_along, HasLookAfter}
 
 -- after what came of the present call: it goes on after its reply, and ends before a call that was not made
 abbrev pub moved : Progress → Result Reply Stop → Progress
@@ -31,8 +31,8 @@ moved p (Err stops.EventLimit) = stopped p halts.Limit
 moved p (Err stops.NoMemory) = stopped p halts.NoMemory
 
 module _ (w : World) (c : CallerId) (lines : List ScriptLine) where
-  -- The line of that number is the one that a run comes to by all calls of the caller but its end, and after a history that what is
-  -- seen goes on from, which has all that the caller did but its end, its rank had no room for the line's call.
+  -- The line of that number is the one that a run comes to by all calls of the caller but its end. A look was made after a history that
+  -- what is seen goes on from, which has all that the caller did but its end, and the caller's rank had no room for the line's call then.
   pub record HadNoRoom {S : Type 0} (number : ℕ) (n : Known S Event) : Type 0 where
     pub line : ScriptLine
     pub made : ℕ
@@ -42,6 +42,7 @@ module _ (w : World) (c : CallerId) (lines : List ScriptLine) where
     pub begins : IsPrefix history n.seen
     pub follows : Follows (going_on lines) (own_calls c.rank c.thread history) (Going line made later)
     pub events : events_of c history ++ Called c End Done ∷ [] ≡ n.mine
+    pub looked : HasLookAfter history n.looks
     pub full : is_full_after w c line.call history ≡ true
 
   -- why the run ended where it was stopped for want of room

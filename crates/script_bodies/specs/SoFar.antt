@@ -16,18 +16,20 @@ use Rattle.gaspi_world.specs.Attempts.{is_full_after}
 use Rattle.gaspi_world.specs.Callers.{events_of}
 use Rattle.gaspi_world.specs.Waits.{HaveWaited}
 use Rattle.script_bodies.specs.Joins.{AreJoinsFollowed, IsJoinOf}
-use Rattle.script_bodies.specs.Looks.{looks_along}
+use Rattle.script_bodies.specs.Looks.{looks_along, HasLookAfter}
 
 -- no call of the caller among these events is its end
 abbrev pub HasNoEnd : CallerId → List Event → Type 0
 HasNoEnd c events = (k : ℕ) (reply : Reply) → slice_get (own_calls c.rank c.thread events) k ≡ Some (End, reply) → ⊥
 
 module _ {S : Type 0} (w : World) (c : CallerId) (lines : List ScriptLine) where
-  -- a history that what is seen goes on from, with all that the caller did, after which its rank had no room for the line's call
+  -- a history that what is seen goes on from, with all that the caller did, which was looked at, and after which its rank had no room for
+  -- the line's call
   pub record IsFullAt (line : ScriptLine) (n : Known S Event) : Type 0 where
     pub history : List Event
     pub begins : IsPrefix history n.seen
     pub events : events_of c history ≡ n.mine
+    pub looked : HasLookAfter history n.looks
     pub full : is_full_after w c line.call history ≡ true
 
   -- the calls that were made lead there, each join is of the call behind it, and the run was not stopped
