@@ -96,6 +96,16 @@ fn worlds_are_run(rt: HostRuntime) -> Result<(), Fail> {
     Ok(())
 }
 
+// A world from a number: its four numbers, and that the input is not read.
+#[test]
+fn numbers_of_bench_are_told(rt: HostRuntime) -> Result<(), Fail> {
+    let alloc = rt.alloc();
+    let words = ["bench", "--seed", "1", "--ranks", "2", "--rounds", "1"];
+    let numbers = "calls 16\ntransfers 8\nnotifications 2\nsum 475697605\n";
+    words_run_to(&rt, alloc, &words, "no world text", 0, numbers)?;
+    Ok(())
+}
+
 /// Two ranks with a segment of 16 bytes each, and rank 0's first thread; its calls begin in line 5.
 const ONE_CALLER: &str = "world 2 1 4 8 4 1000\nsegment 0 0 16\nsegment 1 0 16\nrank 0 thread 0\n";
 

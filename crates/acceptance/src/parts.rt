@@ -4,12 +4,13 @@ use crate::examples::{TOLD, TWO_RANKS, TWO_RESETS};
 use crate::running::RUN;
 use command_line::Command;
 use gaspi_io::{SureSink, SureSource};
-use gaspi_run::{gaspirun, run_command, schedule, write_transcripts};
+use gaspi_run::{gaspirun, run_command, schedule};
 use gaspi_types::Bytes;
 use journal_texts::Journal;
 use rank_script::{RunOutcome, ScriptFault, read_world};
 use std::alloc::Global;
 use std::test::Fail;
+use transcripts::write_transcripts;
 
 /// What a schedule gave of a text: how many events, how many callers that ended, and what was told behind a front.
 #[derive(Drop)]

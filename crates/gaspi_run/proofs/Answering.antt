@@ -1,5 +1,5 @@
 -- The answer to an input: to what was told of it, to its fault, and to one that could not be read.
-use Rattle.std.proofs.Common.{◌≡◌, ℕ, ◌+◌, ◌<◌, ◌≤◌, inl, inr, List, [], replicate, Option, None, Some, Result, Ok, Err, IfOk, IsErrOf, length, refl, arith}
+use Rattle.std.proofs.Common.{◌≡◌, ℕ, ◌+◌, ◌<◌, ◌≤◌, Bool, true, false, inl, inr, List, [], replicate, Option, None, Some, Result, Ok, Err, IfOk, IsErrOf, length, refl, arith}
 use Rattle.std.specs.Option.{ForSome}
 use Rattle.std.proofs.lemmas.Bool.{lt-ltb}
 use Rattle.std.proofs.lemmas.List.{length-replicate}
@@ -11,10 +11,10 @@ use Rattle.rank_script.specs.Lines.{input_limit}
 use Rattle.rank_script.specs.WorldText.{TextFault}
 use Rattle.rank_script.specs.declared.scripts.ScriptFault.{ScriptFault}
 use Rattle.rank_script.specs.declared.scripts.ScriptFault.TheVariants.{At, NoMemory}
-use Rattle.gaspi_run.specs.Command.{fault_text, IsTold, world_read, Answers}
+use Rattle.gaspi_run.specs.Command.{fault_text, IsTold, world_read, is_plain, HasBenched, AnswersInput, AnswersBench, Answers}
 use Rattle.gaspi_run.specs.Saying.{SaysFault, Says, SaysStop}
 use Rattle.command_line.specs.declared.words.Command.{Command}
-use Rattle.command_line.specs.declared.words.Command.TheVariants.{Run, Step, Check}
+use Rattle.command_line.specs.declared.words.Command.TheVariants.{Run, Step, Check, Bench}
 use Rattle.gaspi_run.specs.declared.commands.Answer.{Answer}
 use Rattle.gaspi_run.specs.declared.telling.Told.{Told}
 
@@ -22,11 +22,33 @@ pub if-ok : {A E : Type 0} (P Q : A → Type 0) (r : Result A E) → ((x : A) �
 if-ok P Q (Ok x) f p = f x p
 if-ok P Q (Err e) f p = tt
 
+-- a command that reads its input
+abbrev pub reads : Command → Bool
+reads (Run workers limit brief) = true
+reads (Step seed limit brief) = true
+reads Check = true
+reads (Bench seed ranks rounds) = false
+
+pub plain-reads : (command : Command) → is_plain command ≡ true → reads command ≡ true
+plain-reads (Run workers limit brief) plain = refl
+plain-reads (Step seed limit brief) plain = refl
+plain-reads Check plain = refl
+plain-reads (Bench seed ranks rounds) plain = plain
+
+-- its answer is one of those to an input
+pub answers-reading : (command : Command) (before after : Option (List ℕ)) (faults faults' : ℕ) (held held' : Option (List ℕ)) (sink_faults sink_faults' : ℕ) (answer : Answer)
+    → reads command ≡ true → AnswersInput command before after faults faults' held held' sink_faults sink_faults' answer → Answers command before after faults faults' held held' sink_faults sink_faults' answer
+answers-reading (Run workers limit brief) before after faults faults' held held' sink_faults sink_faults' answer reading is = is
+answers-reading (Step seed limit brief) before after faults faults' held held' sink_faults sink_faults' answer reading is = is
+answers-reading Check before after faults faults' held held' sink_faults sink_faults' answer reading is = is
+answers-reading (Bench seed ranks rounds) before after faults faults' held held' sink_faults sink_faults' answer reading is = absurd (let no : ⊥ = cc in no)
+
 -- an input that is too long
-long-text : (command : Command) (text : List ℕ) → input_limit < length text → world_read command text ≡ Err (record { number = 1; line = 0 })
-long-text (Run workers limit brief) text long = rw (lt-ltb input_limit (length text) long) refl
-long-text (Step seed limit brief) text long = rw (lt-ltb input_limit (length text) long) refl
-long-text Check text long = rw (lt-ltb input_limit (length text) long) refl
+long-text : (command : Command) (text : List ℕ) → reads command ≡ true → input_limit < length text → world_read command text ≡ Err (record { number = 1; line = 0 })
+long-text (Run workers limit brief) text reading long = rw (lt-ltb input_limit (length text) long) refl
+long-text (Step seed limit brief) text reading long = rw (lt-ltb input_limit (length text) long) refl
+long-text Check text reading long = rw (lt-ltb input_limit (length text) long) refl
+long-text (Bench seed ranks rounds) text reading long = absurd (let no : ⊥ = cc in no)
 
 -- there is a longer text than of any length
 some-longer : (n : ℕ) → (text : List ℕ) × (n < length text)
@@ -40,27 +62,27 @@ record KnowsFault (command : Command) (before after : Option (List ℕ)) (fault 
   past : input_limit < length input → after ≡ without before (input_limit + 1)
   is : world_read command input ≡ Err fault
 
-long-fault : (command : Command) (before after : Option (List ℕ)) → ForSome before (λ told. input_limit < length told) → after ≡ without before (input_limit + 1) → KnowsFault command before after (record { number = 1; line = 0 })
-long-fault command (Some told) after long past = record {
+long-fault : (command : Command) (before after : Option (List ℕ)) → reads command ≡ true → ForSome before (λ told. input_limit < length told) → after ≡ without before (input_limit + 1) → KnowsFault command before after (record { number = 1; line = 0 })
+long-fault command (Some told) after reading long past = record {
   input = told;
   all = λ x is. (let same : told ≡ x = cc in same);
   end = λ short. absurd (let over = long told refl in omega arith);
   past = λ over. past;
-  is = long-text command told (long told refl);
+  is = long-text command told reading (long told refl);
 }
-long-fault command None after long past =
+long-fault command None after reading long past =
     let text = some-longer input_limit in
     record {
       input = text.0;
       all = λ x is. absurd (let no : ⊥ = cc in no);
       end = λ short x is. absurd (let no : ⊥ = cc in no);
       past = λ over. past;
-      is = long-text command text.0 text.1;
+      is = long-text command text.0 reading text.1;
     }
 
-module _ (command : Command) (before after held held' : Option (List ℕ)) (faults faults' sink_faults sink_faults' : ℕ) (answer : Answer) (taken : TakesAtMost (input_limit + 1) before after) where
+module _ (command : Command) (before after held held' : Option (List ℕ)) (faults faults' sink_faults sink_faults' : ℕ) (answer : Answer) (reading : reads command ≡ true) (taken : TakesAtMost (input_limit + 1) before after) where
   abbrev IsAnswered : Type 0
-  IsAnswered = Answers command before after faults faults' held held' sink_faults sink_faults' answer
+  IsAnswered = AnswersInput command before after faults faults' held held' sink_faults sink_faults' answer
 
   answered-fault : (fault : TextFault) → KnowsFault command before after fault → faults' ≡ faults → SaysFault held held' sink_faults sink_faults' answer fault → IsAnswered
   answered-fault fault k read (inl (inl told), none) = inr (inl (record {
@@ -127,7 +149,7 @@ module _ (command : Command) (before after held held' : Option (List ℕ)) (faul
     empty = none;
   })))
   answered-stop stops.Long long past cause still_long still_memory says =
-      answered-fault (record { number = 1; line = 0 }) (long-fault command before after (long refl) (past refl)) (still_long refl) says
+      answered-fault (record { number = 1; line = 0 }) (long-fault command before after reading (long refl) (past refl)) (still_long refl) says
   answered-stop stops.NoMemory long past cause still_long still_memory (silent, none) = inr (inr (inr (inr (record {
     taken = taken;
     kept = silent.1;
@@ -135,3 +157,30 @@ module _ (command : Command) (before after held held' : Option (List ℕ)) (faul
     status = silent.0;
     empty = none;
   }))))
+
+-- The answer of `bench`.
+
+pub answered-bench : (seed ranks rounds : ℕ) (held held' : Option (List ℕ)) (sink_faults sink_faults' : ℕ) (answer : Answer) (r : Result Told ScriptFault)
+    → IfOk r (λ told. HasBenched seed ranks rounds told.journal told.tally told.status told.text) → ((number line : ℕ) → IsErrOf r (At number line) → ⊥)
+    → Says held held' sink_faults sink_faults' answer r → AnswersBench seed ranks rounds held held' sink_faults sink_faults' answer
+answered-bench seed ranks rounds held held' sink_faults sink_faults' answer (Ok told) tells none (inl written, journal, tally) = inl (record {
+  text = told.text;
+  still = written.2;
+  told = rw (written.0, journal, tally) tells;
+  written = written.1;
+})
+answered-bench seed ranks rounds held held' sink_faults sink_faults' answer (Ok told) tells none (inr failed, journal, tally) = inr (inl (record {
+  text = told.text;
+  would_be = told.status;
+  of = rw (journal, tally) tells;
+  front = failed.1;
+  cause = failed.2;
+  status = failed.0;
+}))
+answered-bench seed ranks rounds held held' sink_faults sink_faults' answer (Err (At number line)) tells none says = absurd (none number line refl)
+answered-bench seed ranks rounds held held' sink_faults sink_faults' answer (Err NoMemory) tells none (silent, empty) = inr (inr (record {
+  kept = silent.1;
+  still = silent.2;
+  status = silent.0;
+  empty = empty;
+}))

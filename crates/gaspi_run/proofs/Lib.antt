@@ -9,7 +9,6 @@ pub mod RunningTurns
 pub mod RunningEnds
 pub mod RunningAll
 pub mod Joins
-pub mod NumberRanges
 pub mod Started
 pub mod ScheduleLoop
 pub mod CallersEnd
@@ -19,6 +18,4 @@ pub mod RanWorlds
 pub mod RunLines
 pub mod RunParts
 pub mod SameCallers
-mod Calling
-mod Transcribing
 mod Answering

@@ -25,32 +25,12 @@ use Rattle.script_bodies.specs.Joins.{AreJoinsFollowed}
 use Rattle.gaspi_run.specs.Endings.{present_need, is_own, own_events, HasLimitCause, HasEnded}
 use Rattle.gaspi_run.specs.declared.turns.Waiting.{Waiting}
 use Rattle.gaspi_run.specs.declared.turns.Turns.{Turns}
+use Rattle.transcripts.proofs.OwnCalls.{own_of, own_calls-append, own-same, own-other}
 use Rattle.gaspi_run.proofs.JoinsFollowed.{AreFollowedSoFar, ends_joined}
 
 -- What a caller's own events are.
 
--- the calls of a caller in one event
-abbrev pub own_of : ℕ → ℕ → Event → List (Call × Reply)
-own_of rank thread e = own_calls rank thread (e ∷ [])
-
-pub own_calls-append : (rank thread : ℕ) (a b : List Event) → own_calls rank thread (a ++ b) ≡ own_calls rank thread a ++ own_calls rank thread b
-own_calls-append rank thread [] b = refl
-own_calls-append rank thread (Called c call reply ∷ a) b = go (is_caller rank thread c) (own_calls-append rank thread a b)
-  where
-    go : (x : Bool) → own_calls rank thread (a ++ b) ≡ own_calls rank thread a ++ own_calls rank thread b
-        → (if x then (call, reply) ∷ own_calls rank thread (a ++ b) else own_calls rank thread (a ++ b))
-        ≡ (if x then (call, reply) ∷ own_calls rank thread a else own_calls rank thread a) ++ own_calls rank thread b
-    go true rest = ap (λ (ps : List (Call × Reply)). (call, reply) ∷ ps) rest
-    go false rest = rest
-own_calls-append rank thread (transfer ∷ a) b = own_calls-append rank thread a b
-
-pub own-same : (c : CallerId) (call : Call) (reply : Reply) → own_of c.rank c.thread (Called c call reply) ≡ (call, reply) ∷ []
-own-same c call reply = rw (eq-eqb c.rank c.rank refl, eq-eqb c.thread c.thread refl) refl
-
-pub own-other : (rank thread : ℕ) (c : CallerId) (call : Call) (reply : Reply) → is_caller rank thread c ≡ false → own_of rank thread (Called c call reply) ≡ []
-own-other rank thread c call reply apart = rw apart refl
-
--- the same of its events
+-- its events, one after another
 pub own_events-append : (rank thread : ℕ) (a b : List Event) → own_events rank thread (a ++ b) ≡ own_events rank thread a ++ own_events rank thread b
 own_events-append rank thread a b = filter-append (is_own rank thread) a b
 

@@ -27,7 +27,8 @@ use Rattle.gaspi_run.specs.declared.turns.Waiting.{Waiting}
 use Rattle.gaspi_run.specs.declared.turns.Turns.{Turns}
 use Rattle.gaspi_run.proofs.JoinsFollowed.{AreFollowedSoFar, ends_joined, called-ends, called-so-far, joined-so-far}
 use Rattle.gaspi_run.proofs.StaysPending.{pending-stays}
-use Rattle.gaspi_run.proofs.Running.{IsRunning, Goes, present, come-going, own_calls-append, own_events-append, own-same, events-same, events-more, called-other, waiting_count, finished_count, count-at, count-two, come-more, ended-more, set-cases}
+use Rattle.transcripts.proofs.OwnCalls.{own_calls-append, own-same}
+use Rattle.gaspi_run.proofs.Running.{IsRunning, Goes, present, come-going, own_events-append, events-same, events-more, called-other, waiting_count, finished_count, count-at, count-two, come-more, ended-more, set-cases}
 
 -- what the machine's and the runs' laws say
 abbrev pub ActiveStays : Type 0

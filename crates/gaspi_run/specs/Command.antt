@@ -6,7 +6,6 @@ use Rattle.std.specs.Fmt.{decimal}
 use Rattle.gaspi_types.specs.World.{World}
 use Rattle.gaspi_types.specs.declared.events.Event.{Event}
 use Rattle.text_lines.specs.Lines.{fed_lines}
-use Rattle.commit_table.specs.Calls.{TallyValue}
 use Rattle.gaspi_io.specs.Faults.{HasCause}
 use Rattle.gaspi_io.specs.Sink.{with_more, AddsFront}
 use Rattle.gaspi_io.specs.Source.{without, TakesAtMost}
@@ -18,8 +17,10 @@ use Rattle.call_journal.specs.Verdicts.{IsVerdict}
 use Rattle.call_journal.specs.declared.verdicts.Verdict.{Verdict}
 use Rattle.call_journal.specs.declared.verdicts.Verdict.TheVariants.{Legal, Illegal}
 use Rattle.command_line.specs.declared.words.Command.{Command}
-use Rattle.command_line.specs.declared.words.Command.TheVariants.{Run, Step, Check}
-use Rattle.gaspi_world.specs.declared.starts.Start.{Start}
+use Rattle.command_line.specs.declared.words.Command.TheVariants.{Run, Step, Check, Bench}
+use Rattle.journal_numbers.specs.Numbers.{AreNumbers}
+use Rattle.journal_numbers.specs.declared.numbers.Numbers4.{Numbers4}
+use Rattle.rank_script.specs.Bench.{bench_shape, bench_scripts}
 use Rattle.rank_script.specs.Lines.{input_limit}
 use Rattle.rank_script.specs.WorldText.{Said, TextFault, world_text, journal_place, checked_world}
 use Rattle.rank_script.specs.declared.scripts.Script.{Script}
@@ -27,8 +28,8 @@ use Rattle.rank_script.specs.declared.scripts.RunOutcome.{RunOutcome}
 use Rattle.rank_script.specs.declared.scripts.RunOutcome.TheVariants as outcomes
 use Rattle.gaspi_run.specs.Endings.{HasSettled, HaveEnded}
 use Rattle.gaspi_run.specs.Schedule.{IsScheduled}
-use Rattle.gaspi_run.specs.Threads.{IsTallied, ComesAfterWrites}
-use Rattle.gaspi_run.specs.Transcripts.{transcripts}
+use Rattle.gaspi_run.specs.Threads.{ToldTally, HasRunWorld}
+use Rattle.transcripts.specs.Transcripts.{transcripts}
 use Rattle.gaspi_run.specs.declared.turns.Finished.{Finished}
 use Rattle.gaspi_run.specs.declared.commands.Answer.{Answer}
 
@@ -69,31 +70,35 @@ abbrev pub run_text : Bool → World → List Script → List Event → List ℕ
 run_text true w scripts journal = transcripts w scripts journal
 run_text false w scripts journal = journal_text journal
 
--- what is known of a world that was run on threads and closed, if there was one
-abbrev pub ToldTally : Type 0
-ToldTally = Option (TallyValue Start Event)
-
--- What `run` does with its input: the callers of the world text ran their scripts by the passes of a world, which was then closed. Its
--- journal is one legal history of the machine from the start that the text states. What is told of the closed world says that each call
--- which a caller completed stands there once, with the reply that the caller got; that what the caller had seen begins the journal; and
--- that no timeout came before its looks were spent. That each call came after what its caller had seen is said where calls are made
--- (`Rank::attempt`). Each caller's calls are a run of its script; every caller has ended, and all that was posted has arrived, broken
--- queues aside. Every notification came after all earlier writes of its lane. The text that it writes is the journal, or with `--brief`
--- what the callers were told; its status tells how they ended. How many threads there were is not said.
+-- What `run` does with its input: the world of the text ran on threads. The text that it writes is the journal, or with `--brief` what the
+-- callers were told; its status tells how they ended.
 pub record HasRunOnThreads (limit : ℕ) (brief : Bool) (input : List ℕ) (journal : List Event) (tally : ToldTally) (status : ℕ) (text : List ℕ) : Type 0 where
   pub world : World
   pub scripts : List Script
   pub finished : List Finished
   pub read : world_text input ≡ Ok (record { world = Some world; scripts = scripts })
+  pub ran : HasRunWorld world scripts limit journal tally finished
   pub text_is : text ≡ run_text brief world scripts journal
-  pub legal : is_legal world journal ≡ true
-  pub told : TallyValue Start Event
-  pub tally_is : tally ≡ Some told
-  pub tallied : IsTallied world scripts limit journal told
-  pub ended : HaveEnded world scripts journal finished
-  pub settled : HasSettled world journal
-  pub notified : ComesAfterWrites world journal
-  pub ranges : AreInRange journal
+  pub status_is : status ≡ run_status finished
+
+-- What `bench` does, which reads nothing: the world of its seed, of so many ranks and rounds ran on threads. The text that it writes has
+-- the numbers of the journal; its status tells how the callers ended.
+
+-- how many looks a call of `bench` that blocks has
+abbrev pub bench_limit : ℕ
+bench_limit = 100000000
+
+abbrev pub numbers_text : Numbers4 → List ℕ
+numbers_text n =
+    codes "calls " ++ decimal n.calls ++ codes "\ntransfers " ++ decimal n.transfers ++ codes "\nnotifications " ++ decimal n.notifications
+    ++ codes "\nsum " ++ decimal n.sum ++ codes "\n"
+
+pub record HasBenched (seed ranks rounds : ℕ) (journal : List Event) (tally : ToldTally) (status : ℕ) (text : List ℕ) : Type 0 where
+  pub finished : List Finished
+  pub ran : HasRunWorld (bench_shape ranks rounds) (bench_scripts seed ranks rounds ranks) bench_limit journal tally finished
+  pub numbers : Numbers4
+  pub counted : AreNumbers (bench_shape ranks rounds) journal numbers
+  pub text_is : text ≡ numbers_text numbers
   pub status_is : status ≡ run_status finished
 
 -- What `step` does with its input: the schedule has the seed and the limit of the words. The text that it writes is the
@@ -174,17 +179,19 @@ pub record IsChecked (input : List ℕ) (journal : List Event) (status : ℕ) (t
   pub read : checked_world input ≡ Ok (record { world = Some world; scripts = scripts })
   pub result : IsCheckedIn world input (journal_place input) journal status text
 
--- a call that blocks has one look or more, and there are one to four workers
+-- a call that blocks has one look or more, there are one to four workers, and `bench` has one to sixteen ranks and at most 5,000 rounds
 abbrev pub IsWithin : Command → Type 0
 IsWithin (Run workers limit brief) = (1 ≤ limit) × ((1 ≤ workers) × (workers ≤ 4))
 IsWithin (Step seed limit brief) = 1 ≤ limit
 IsWithin Check = Unit {0}
+IsWithin (Bench seed ranks rounds) = ((1 ≤ ranks) × (ranks ≤ 16)) × ((1 ≤ rounds) × (rounds ≤ 5000))
 
 -- a command that needs no threads
 abbrev pub is_plain : Command → Bool
 is_plain (Run workers limit brief) = false
 is_plain (Step seed limit brief) = true
 is_plain Check = true
+is_plain (Bench seed ranks rounds) = false
 
 -- What a command tells of an input without a fault, and what it takes the world from.
 
@@ -192,11 +199,13 @@ abbrev pub IsTold : Command → List ℕ → List Event → ToldTally → ℕ �
 IsTold (Run workers limit brief) input journal tally status text = HasRunOnThreads limit brief input journal tally status text
 IsTold (Step seed limit brief) input journal tally status text = IsStepped seed limit brief input journal status text × (tally ≡ None)
 IsTold Check input journal tally status text = IsChecked input journal status text × (tally ≡ None)
+IsTold (Bench seed ranks rounds) input journal tally status text = HasBenched seed ranks rounds journal tally status text
 
 abbrev pub world_read : Command → List ℕ → Result Said TextFault
 world_read (Run workers limit brief) input = world_text input
 world_read (Step seed limit brief) input = world_text input
 world_read Check input = checked_world input
+world_read (Bench seed ranks rounds) input = Ok (record { world = Some (bench_shape ranks rounds); scripts = bench_scripts seed ranks rounds ranks })
 
 -- An input stands here as what its source had left before and after, and an output as what its sink held, where they
 -- tell it.
@@ -271,14 +280,55 @@ pub record LacksMemory (before after held held' : Option (List ℕ)) (faults fau
   pub status : answer.status ≡ 7
   pub empty : HasNoWorld answer
 
--- the answer of a command
-abbrev pub Answers : Command → Option (List ℕ) → Option (List ℕ) → ℕ → ℕ → Option (List ℕ) → Option (List ℕ) → ℕ → ℕ → Answer → Type 0
-Answers command before after faults faults' held held' sink_faults sink_faults' answer =
+-- the answer of a command that reads its input
+abbrev pub AnswersInput : Command → Option (List ℕ) → Option (List ℕ) → ℕ → ℕ → Option (List ℕ) → Option (List ℕ) → ℕ → ℕ → Answer → Type 0
+AnswersInput command before after faults faults' held held' sink_faults sink_faults' answer =
     HasTold command before after held held' faults faults' sink_faults sink_faults' answer
     ⊎ (IsFaulty command before after held held' faults faults' sink_faults sink_faults' answer
     ⊎ (CouldNotRead before after held held' faults faults' sink_faults sink_faults' answer
     ⊎ (CouldNotWrite command before after held held' faults faults' sink_faults sink_faults' answer
     ⊎ LacksMemory before after held held' faults faults' sink_faults sink_faults' answer)))
+
+-- The answer of `bench`, which reads nothing.
+
+-- the numbers were told: status 0, 3 or 8
+pub record ToldNumbers (seed ranks rounds : ℕ) (held held' : Option (List ℕ)) (sink_faults sink_faults' : ℕ) (answer : Answer) : Type 0 where
+  pub text : List ℕ
+  pub still : sink_faults' ≡ sink_faults
+  pub told : HasBenched seed ranks rounds answer.journal answer.tally answer.status text
+  pub written : held' ≡ with_more held text
+
+-- they could not be written whole: status 6; what was written is a front part of them
+pub record LostNumbers (seed ranks rounds : ℕ) (held held' : Option (List ℕ)) (sink_faults sink_faults' : ℕ) (answer : Answer) : Type 0 where
+  pub text : List ℕ
+  pub would_be : ℕ
+  pub of : HasBenched seed ranks rounds answer.journal answer.tally would_be text
+  pub front : AddsFront text held held'
+  pub cause : HasCause sink_faults sink_faults'
+  pub status : answer.status ≡ 6
+
+-- want of memory, and nothing else: status 7; nothing was written
+pub record NoNumbers (held held' : Option (List ℕ)) (sink_faults sink_faults' : ℕ) (answer : Answer) : Type 0 where
+  pub kept : held' ≡ held
+  pub still : sink_faults' ≡ sink_faults
+  pub status : answer.status ≡ 7
+  pub empty : HasNoWorld answer
+
+abbrev pub AnswersBench : ℕ → ℕ → ℕ → Option (List ℕ) → Option (List ℕ) → ℕ → ℕ → Answer → Type 0
+AnswersBench seed ranks rounds held held' sink_faults sink_faults' answer =
+    ToldNumbers seed ranks rounds held held' sink_faults sink_faults' answer
+    ⊎ (LostNumbers seed ranks rounds held held' sink_faults sink_faults' answer ⊎ NoNumbers held held' sink_faults sink_faults' answer)
+
+-- the answer of a command
+abbrev pub Answers : Command → Option (List ℕ) → Option (List ℕ) → ℕ → ℕ → Option (List ℕ) → Option (List ℕ) → ℕ → ℕ → Answer → Type 0
+Answers (Run workers limit brief) before after faults faults' held held' sink_faults sink_faults' answer =
+    AnswersInput (Run workers limit brief) before after faults faults' held held' sink_faults sink_faults' answer
+Answers (Step seed limit brief) before after faults faults' held held' sink_faults sink_faults' answer =
+    AnswersInput (Step seed limit brief) before after faults faults' held held' sink_faults sink_faults' answer
+Answers Check before after faults faults' held held' sink_faults sink_faults' answer =
+    AnswersInput Check before after faults faults' held held' sink_faults sink_faults' answer
+Answers (Bench seed ranks rounds) before after faults faults' held held' sink_faults sink_faults' answer =
+    (after ≡ before) × (faults' ≡ faults) × AnswersBench seed ranks rounds held held' sink_faults sink_faults' answer
 
 -- the answer to words that are refused: status 1, or 6 where that could not be written, or 7 where memory is wanting
 pub record Refuses (held held' : Option (List ℕ)) (faults faults' : ℕ) (answer : Answer) : Type 0 where

@@ -1,5 +1,5 @@
 -- What is known of a world whose scripts ran on threads, and was closed. (own choice)
-use Rattle.std.specs.Prelude.{◌≡◌, ◌<◌, ℕ, false, List, ◌∷◌, ◌++◌, Some, slice_get}
+use Rattle.std.specs.Prelude.{◌≡◌, ◌<◌, ℕ, true, false, List, ◌∷◌, ◌++◌, Option, Some, slice_get}
 use Rattle.std.specs.List.{list_any}
 use mathlib.Core.List.{IsPrefix}
 use Rattle.gaspi_types.specs.World.{World}
@@ -7,7 +7,7 @@ use Rattle.gaspi_types.specs.declared.events.Event.{Event}
 use Rattle.gaspi_types.specs.declared.events.Event.TheVariants.{Put}
 use Rattle.gaspi_types.specs.declared.events.Outcome.TheVariants.{Applied}
 use Rattle.gaspi_model.specs.Order.{IsWriteStanding, IsNotificationStanding, is_purge_of}
-use Rattle.gaspi_model.specs.Step.{own_calls}
+use Rattle.gaspi_model.specs.Step.{is_legal, own_calls}
 use Rattle.commit_table.specs.Calls.{TallyValue}
 use Rattle.commit_table.specs.declared.views.Known.{Known}
 use Rattle.rank_script.specs.Runs.{going_on}
@@ -16,6 +16,9 @@ use Rattle.gaspi_world.specs.Callers.{events_of, IsPassOf}
 use Rattle.gaspi_world.specs.Waits.{Waited}
 use Rattle.gaspi_world.specs.declared.starts.Start.{Start}
 use Rattle.script_bodies.specs.Looks.{looks_along}
+use Rattle.journal_texts.specs.JournalText.{AreInRange}
+use Rattle.gaspi_run.specs.Endings.{HasSettled, HaveEnded}
+use Rattle.gaspi_run.specs.declared.turns.Finished.{Finished}
 
 -- The caller of a script had a pass of the world. What it did is in the journal, each call once, in order, with the reply that it got,
 -- and so are its joins; what it had seen is a beginning of the journal. None of its timeouts came before the looks of its line were
@@ -45,3 +48,23 @@ ComesAfterWrites w journal =
     → IsWriteStanding w earlier origin queue target m → IsNotificationStanding w (earlier ++ later) origin queue target n → m < n
     → list_any (is_purge_of origin queue) later ≡ false
     → (place : ℕ) × (slice_get later place ≡ Some (Put origin queue target m Applied))
+
+-- what is known of a world that was run on threads and closed, if there was one
+abbrev pub ToldTally : Type 0
+ToldTally = Option (TallyValue Start Event)
+
+-- The callers of a world ran their scripts by its passes, and it was then closed. Its journal is one legal history of the machine from
+-- the stated start. What is told of the closed world says that each call which a caller completed stands there once, with the reply that
+-- the caller got; that what the caller had seen begins the journal; and that no timeout came before its looks were spent. That each call
+-- came after what its caller had seen is said where calls are made (`Rank::attempt`). Each caller's calls are a run of its script; every
+-- caller has ended, and all that was posted has arrived, broken queues aside. Every notification came after all earlier writes of its
+-- lane. The numbers of its events are those of their types, so its text is that of no other. How many threads there were is not said.
+pub record HasRunWorld (w : World) (scripts : List Script) (limit : ℕ) (journal : List Event) (tally : ToldTally) (finished : List Finished) : Type 0 where
+  pub legal : is_legal w journal ≡ true
+  pub told : TallyValue Start Event
+  pub tally_is : tally ≡ Some told
+  pub tallied : IsTallied w scripts limit journal told
+  pub ended : HaveEnded w scripts journal finished
+  pub settled : HasSettled w journal
+  pub notified : ComesAfterWrites w journal
+  pub ranges : AreInRange journal

@@ -6,10 +6,10 @@ ghost use Rattle.gaspi_io.specs.Sink.{with_more, AddsFront};
 ghost use Rattle.command_line.specs.Words.{command_of};
 ghost use Rattle.command_line.specs.declared.words.Command.{Command};
 ghost use Rattle.command_line.specs.declared.words.Command.TheVariants as commands;
-ghost use Rattle.gaspi_run.specs.Command.{fault_text, IsWithin, is_plain, HasNoWorld, Refuses, Answers};
+ghost use Rattle.gaspi_run.specs.Command.{fault_text, IsWithin, is_plain, HasNoWorld, Refuses, AnswersBench, Answers};
 ghost use Rattle.gaspi_run.specs.Saying.{SaysFault, Says, SaysStop};
 
-use crate::telling::{Told, tell, tell_run};
+use crate::telling::{Told, tell, tell_bench, tell_run};
 use command_line::{Command, read_words};
 use gaspi_io::{Failed, ReadStop, Sink, Source, read_all, write_all};
 use gaspi_texts::write_number;
@@ -158,8 +158,54 @@ pub fn run_threads<R: Threads + Wait + Sync, S: Source, K: Sink>(
     }
 }
 
+/// Runs the world of `bench` on threads, and writes its numbers. It reads nothing.
+pub fn run_bench<R: Threads + Wait + Sync, K: Sink>(
+    rt: &R,
+    alloc: Global,
+    seed: u32,
+    ranks: u32,
+    rounds: u32,
+    sink: &mut K,
+) -> Answer
+    requires { IsWithin (commands.Bench seed ranks rounds) }
+    ensures { AnswersBench seed ranks rounds (K.held sink.old) (K.held sink.new) (K.faults sink.old) (K.faults sink.new) result }
+{
+    let told = match tell_bench(rt, alloc, seed, ranks, rounds) {
+        Ok(told) => Ok(told),
+        Err(NoMemory) => Err(ScriptFault::NoMemory),
+    };
+    answer_told(alloc, sink, told)
+}
+
+/// Does what a command asks for.
+fn answer_command<R: Threads + Wait + Sync, S: Source, K: Sink>(
+    rt: &R,
+    alloc: Global,
+    command: Command,
+    source: &mut S,
+    sink: &mut K,
+) -> Answer
+    requires { IsWithin command }
+    ensures { Answers command (S.left source.old) (S.left source.new) (S.faults source.old) (S.faults source.new)
+        (K.held sink.old) (K.held sink.new) (K.faults sink.old) (K.faults sink.new) result }
+{
+    match command {
+        Command::Run {
+            workers,
+            limit,
+            brief,
+        } => run_threads(rt, alloc, workers, limit, brief, source, sink),
+        Command::Bench {
+            seed,
+            ranks,
+            rounds,
+        } => run_bench(rt, alloc, seed, ranks, rounds, sink),
+        Command::Step { .. } | Command::Check => run_command(alloc, command, source, sink),
+    }
+}
+
 /// The program: does what the words after its name ask for with its input, and writes its output. Words that ask for no command are
-/// refused, and then nothing is read. Of the commands `run` alone uses threads and waits.
+/// refused, and then nothing is read. Of the commands `run` and `bench` use threads and wait.
 pub fn gaspirun<R: Threads + Wait + Sync, S: Source, K: Sink>(
     rt: &R,
     alloc: Global,
@@ -174,16 +220,7 @@ pub fn gaspirun<R: Threads + Wait + Sync, S: Source, K: Sink>(
         (K.held sink.old) (K.held sink.new) (K.faults sink.old) (K.faults sink.new) result }
 {
     match read_words(alloc, words) {
-        Ok(
-            Some(
-                Command::Run {
-                    workers,
-                    limit,
-                    brief,
-                },
-            ),
-        ) => run_threads(rt, alloc, workers, limit, brief, source, sink),
-        Ok(Some(command)) => run_command(alloc, command, source, sink),
+        Ok(Some(command)) => answer_command(rt, alloc, command, source, sink),
         Ok(None) => {
             let status = status_of(sink, b"gaspirun: words refused\n", 1);
             bare(alloc, status)

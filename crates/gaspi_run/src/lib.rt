@@ -3,17 +3,14 @@
 
 mod commands;
 mod moves;
-mod own_calls;
 mod parts;
 mod scheduling;
 mod tasks;
 mod telling;
 mod threads;
-mod transcripts;
 mod turns;
 
-pub use commands::{Answer, gaspirun, run_command, run_threads};
+pub use commands::{Answer, gaspirun, run_bench, run_command, run_threads};
 pub use scheduling::{Ran, schedule};
 pub use threads::{RanOnThreads, run_on_threads};
-pub use transcripts::write_transcripts;
 pub use turns::Finished;

@@ -5,24 +5,28 @@ ghost use Rattle.journal_texts.specs.JournalText.{HaveOwnValues};
 ghost use Rattle.rank_script.specs.WorldText.{world_text, checked_world};
 ghost use Rattle.rank_script.specs.declared.scripts.ScriptFault.TheVariants as script_faults;
 ghost use Rattle.text_lines.specs.Lines.{fed_lines};
-ghost use Rattle.gaspi_run.specs.Command.{is_any_wrong, is_any_limit, run_status, run_text, IsWithin, is_plain, HasRunOnThreads, IsStepped, IsChecked, IsTold, IsRead, IsNoJournal, HasVerdict, world_read, why_word, verdict_text, verdict_status};
+ghost use Rattle.command_line.specs.declared.words.Command.TheVariants as commands;
+ghost use Rattle.gaspi_model.specs.Step.{is_legal};
+ghost use Rattle.journal_numbers.specs.Numbers.{AreNumbers};
+ghost use Rattle.gaspi_run.specs.Command.{is_any_wrong, is_any_limit, run_status, run_text, numbers_text, IsWithin, is_plain, HasRunOnThreads, HasBenched, IsStepped, IsChecked, IsTold, IsRead, IsNoJournal, HasVerdict, world_read, why_word, verdict_text, verdict_status};
 
 use crate::scheduling::schedule;
 use crate::threads::{RanOnThreads, run_on_threads};
-use crate::transcripts::write_transcripts;
 use crate::turns::Finished;
 use call_journal::{Verdict, check};
 use command_line::Command;
-use gaspi_model::{Why, notification_order};
+use gaspi_model::{StepFault, Why};
 use gaspi_texts::write_number;
 use gaspi_types::{Bytes, NoMemory, Rows, Shape};
 use gaspi_world::Tally;
+use journal_numbers::{Numbers4, bench_numbers};
 use journal_texts::{Journal, JournalFault, read, write};
-use rank_script::{RunOutcome, ScriptFault, Scripts, read_input, read_world};
+use rank_script::{RunOutcome, ScriptFault, Scripts, bench_world, read_input, read_world};
 use std::alloc::Global;
 use std::sync::Wait;
 use std::thread::Threads;
 use text_lines::first_line;
+use transcripts::write_transcripts;
 
 /// What a command tells of its input: the history, what is known of the closed world where threads ran it, the status, and the
 /// text.
@@ -103,7 +107,6 @@ pub fn tell_run<R: Threads + Wait + Sync>(
     ensures fault { (number line : ℕ) → IsErrOf result (script_faults.At number line)
         → world_text input.now ≡ Err (record { number = number; line = line }) }
 {
-    notification_order();
     let (shape, scripts) = read_world(alloc, input)?;
     let RanOnThreads {
         journal,
@@ -111,6 +114,64 @@ pub fn tell_run<R: Threads + Wait + Sync>(
         outcomes,
     } = run_on_threads(rt, alloc, &shape, &scripts, workers, limit)?;
     let text = run_text(alloc, brief, &shape, &scripts, &journal)?;
+    let status = run_status(outcomes.as_slice());
+    Ok(Told {
+        journal,
+        tally: Some(tally),
+        status,
+        text,
+    })
+}
+
+/// The text of the numbers of a journal.
+fn numbers_text(alloc: Global, numbers: Numbers4) -> Result<Bytes, NoMemory>
+    ensures { IfOk result (λ text. text ≡ numbers_text numbers) }
+{
+    let mut text = Bytes::new(alloc);
+    text.append(b"calls ")?;
+    write_number(&mut text, numbers.calls)?;
+    text.append(b"\ntransfers ")?;
+    write_number(&mut text, numbers.transfers)?;
+    text.append(b"\nnotifications ")?;
+    write_number(&mut text, numbers.notifications)?;
+    text.append(b"\nsum ")?;
+    write_number(&mut text, numbers.sum)?;
+    text.append(b"\n")?;
+    Ok(text)
+}
+
+/// The numbers of the journal of a world that ran, which is legal.
+fn numbers_of(alloc: Global, shape: &Shape, journal: &Journal) -> Result<Numbers4, NoMemory>
+    requires { is_legal shape.now journal.now ≡ true }
+    ensures { IfOk result (λ numbers. AreNumbers shape.now journal.now numbers) }
+{
+    match bench_numbers(alloc, shape, journal) {
+        Ok(numbers) => Ok(numbers),
+        Err(StepFault::Illegal(_)) => unreachable!(),
+        Err(StepFault::NoMemory) => Err(NoMemory),
+    }
+}
+
+/// Runs the world of `bench` on threads, with one worker and 100,000,000 looks for a call that blocks, and tells the numbers of its
+/// journal.
+pub fn tell_bench<R: Threads + Wait + Sync>(
+    rt: &R,
+    alloc: Global,
+    seed: u32,
+    ranks: u32,
+    rounds: u32,
+) -> Result<Told, NoMemory>
+    requires { IsWithin (commands.Bench seed ranks rounds) }
+    ensures { IfOk result (λ told. HasBenched seed ranks rounds told.journal told.tally told.status told.text) }
+{
+    let (shape, scripts) = bench_world(alloc, seed, ranks, rounds)?;
+    let RanOnThreads {
+        journal,
+        tally,
+        outcomes,
+    } = run_on_threads(rt, alloc, &shape, &scripts, 1, 100_000_000)?;
+    let numbers = numbers_of(alloc, &shape, &journal)?;
+    let text = numbers_text(alloc, numbers)?;
     let status = run_status(outcomes.as_slice());
     Ok(Told {
         journal,
@@ -278,7 +339,7 @@ pub fn tell(alloc: Global, command: Command, input: &[u8]) -> Result<Told, Scrip
         → world_read command input.now ≡ Err (record { number = number; line = line }) }
 {
     match command {
-        Command::Run { .. } => unreachable!(),
+        Command::Run { .. } | Command::Bench { .. } => unreachable!(),
         Command::Step { seed, limit, brief } => tell_step(alloc, seed, limit, brief, input),
         Command::Check => tell_check(alloc, input),
     }

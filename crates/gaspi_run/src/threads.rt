@@ -1,17 +1,16 @@
 //! The scripts of a world on threads: each caller and each worker on one of its own.
 
 ghost use Rattle.std.specs.Prelude.{◌≡◌, ◌≤◌, IfOk, true, Some, map};
-ghost use Rattle.journal_texts.specs.JournalText.{AreInRange, HaveOwnValues};
+ghost use Rattle.journal_texts.specs.JournalText.{HaveOwnValues};
 ghost use Rattle.commit_table.specs.Calls.{AreWhole};
 ghost use Rattle.gaspi_model.specs.Step.{is_legal};
 ghost use Rattle.gaspi_world.specs.Closing.{HaveSeen, HaveDone};
 ghost use Rattle.rank_script.specs.WorldText.{AreScriptsOf};
-ghost use Rattle.gaspi_run.specs.Endings.{HasSettled, HaveEnded};
-ghost use Rattle.gaspi_run.specs.Threads.{IsTallied};
+ghost use Rattle.gaspi_run.specs.Threads.{HasRunWorld};
 
 use crate::tasks::{RanParts, run_parts};
 use crate::turns::Finished;
-use gaspi_model::settling;
+use gaspi_model::{notification_order, settling};
 use gaspi_types::{NoMemory, Rows, Shape};
 use gaspi_world::{Passes, Started, Tally, World, waits_last};
 use journal_texts::{Journal, journal_is_in_range};
@@ -56,14 +55,11 @@ pub fn run_on_threads<R: Threads + Wait + Sync>(
     requires limit { 1 ≤ limit }
     requires workers { (1 ≤ workers) × (workers ≤ 4) }
     requires scripts { AreScriptsOf shape.now scripts.now }
-    ensures legal { IfOk result (λ ran. is_legal shape.now ran.journal ≡ true) }
-    ensures tally { IfOk result (λ ran. IsTallied shape.now scripts.now limit ran.journal ran.tally) }
-    ensures runs { IfOk result (λ ran. HaveEnded shape.now scripts.now ran.journal ran.outcomes) }
-    ensures settled { IfOk result (λ ran. HasSettled shape.now ran.journal) }
-    ensures ranges { IfOk result (λ ran. AreInRange ran.journal) }
+    ensures ran { IfOk result (λ ran. HasRunWorld shape.now scripts.now limit ran.journal (Some ran.tally) ran.outcomes) }
     ensures values { IfOk result (λ ran. HaveOwnValues ran.journal) }
 {
     settling();
+    notification_order();
     waits_last();
     shape.limits();
     scripts.len();

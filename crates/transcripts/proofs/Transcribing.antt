@@ -8,9 +8,9 @@ use Rattle.gaspi_types.specs.declared.replies.Reply.{Reply}
 use Rattle.gaspi_types.specs.declared.shapes.CallerId.{CallerId}
 use Rattle.gaspi_types.specs.CallRows.{is_end}
 use Rattle.rank_script.specs.Runs.{Progress, Going, Over, advanced, outcome_of, line_of}
-use Rattle.gaspi_run.specs.OwnCalls.{pairs_of}
-use Rattle.gaspi_run.specs.Transcripts.{transcript, call_line}
-use Rattle.gaspi_run.specs.declared.own_calls.OwnCall.{OwnCall}
+use Rattle.transcripts.specs.OwnCalls.{pairs_of}
+use Rattle.transcripts.specs.Transcripts.{transcript, call_line}
+use Rattle.transcripts.specs.declared.own_calls.OwnCall.{OwnCall}
 
 -- what is told, with what the calls behind will tell, is all that is to be told
 abbrev pub HasTold : CallerId → Progress → Progress → List OwnCall → List ℕ → List ℕ → ℕ → Type 0

@@ -4,7 +4,7 @@ use Rattle.gaspi_types.specs.declared.calls.Call.{Call}
 use Rattle.gaspi_types.specs.declared.replies.Reply.{Reply}
 use Rattle.gaspi_types.specs.declared.events.Event.{Event}
 use Rattle.gaspi_model.specs.Step.{own_calls}
-use Rattle.gaspi_run.specs.declared.own_calls.OwnCall.{OwnCall}
+use Rattle.transcripts.specs.declared.own_calls.OwnCall.{OwnCall}
 
 -- the calls and their replies
 abbrev pub pairs_of : List OwnCall → List (Call × Reply)

@@ -2,8 +2,8 @@
 
 ghost use Rattle.std.specs.Prelude.{◌≡◌, ◌++◌, ◌∷◌, [], List, replicate, OnOk, IfOk};
 ghost use Rattle.gaspi_types.specs.Tables.{changed_at};
-ghost use Rattle.gaspi_run.specs.OwnCalls.{HasCallers, IsCallTable};
-ghost use Rattle.gaspi_run.specs.declared.own_calls.OwnCall.{OwnCall};
+ghost use Rattle.transcripts.specs.OwnCalls.{HasCallers, IsCallTable};
+ghost use Rattle.transcripts.specs.declared.own_calls.OwnCall.{OwnCall};
 
 use gaspi_types::{Call, CallerId, Event, NoMemory, Reply, Rows};
 use std::alloc::Global;

@@ -4,10 +4,10 @@ ghost use Rattle.std.specs.Prelude.{◌≡◌, ◌<◌, ◌++◌, ◌||◌, [], 
 ghost use Rattle.std.specs.Fmt.{decimal};
 ghost use Rattle.gaspi_types.specs.declared.events.Event.{Event};
 ghost use Rattle.gaspi_types.specs.CallRows.{is_end};
-ghost use Rattle.gaspi_run.specs.OwnCalls.{pairs_of, HasCallers, IsCallTable};
+ghost use Rattle.transcripts.specs.OwnCalls.{pairs_of, HasCallers, IsCallTable};
 ghost use Rattle.gaspi_texts.specs.EventText.{caller_word};
 ghost use Rattle.rank_script.specs.Runs.{going_on, outcome_of};
-ghost use Rattle.gaspi_run.specs.Transcripts.{call_line, ended_line, outcome_line, transcript, thread_transcript, rank_transcripts, transcripts};
+ghost use Rattle.transcripts.specs.Transcripts.{call_line, ended_line, outcome_line, transcript, thread_transcript, rank_transcripts, transcripts};
 
 use crate::own_calls::{CallTable, OwnCall, own_calls};
 use gaspi_texts::{write_number, write_reply};

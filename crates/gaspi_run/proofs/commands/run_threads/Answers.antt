@@ -1,4 +1,4 @@
-use Rattle.std.proofs.Common.{Err, sym, ap, ◌∙◌}
+use Rattle.std.proofs.Common.{Err, refl, sym, ap, ◌∙◌}
 use Rattle.command_line.specs.declared.words.Command.TheVariants as commands
 use Rattle.gaspi_run.specs.Command.{world_read}
 use Rattle.gaspi_run.proofs.Answering.{answered-told, answered-stop}
@@ -6,10 +6,10 @@ use Rattle.gaspi_run.proofs.commands.run_threads.Goals as goal
 
 pub returns-in-Ok : goal.returns-in-Ok
 returns-in-Ok g c =
-    answered-told (commands.Run c.args.workers c.args.limit c.args.brief) _ _ _ _ _ _ _ _ c.answer_told.result c.read_all.ensures.taken c.in-Ok.input c.tell_run-told.result c.in-Ok.ensures.within c.in-Ok.ensures.all c.in-Ok.ensures.end c.in-Ok.ensures.still
+    answered-told (commands.Run c.args.workers c.args.limit c.args.brief) _ _ _ _ _ _ _ _ c.answer_told.result refl c.read_all.ensures.taken c.in-Ok.input c.tell_run-told.result c.in-Ok.ensures.within c.in-Ok.ensures.all c.in-Ok.ensures.end c.in-Ok.ensures.still
     (rw (sym c.as_slice.ensures) c.tell_run-told.ensures.told) (λ number line is. ap (world_read (commands.Run c.args.workers c.args.limit c.args.brief)) (sym c.as_slice.ensures) ∙ c.tell_run-told.ensures.fault number line is) c.answer_told.ensures
 
 pub returns-in-Err : goal.returns-in-Err
 returns-in-Err g c =
-    answered-stop (commands.Run c.args.workers c.args.limit c.args.brief) _ _ _ _ _ _ _ _ c.answer_stop.result c.read_all.ensures.taken c.in-Err.stop (λ is. c.in-Err.ensures.long (ap Err is)) (λ is. c.in-Err.ensures.past (ap Err is))
+    answered-stop (commands.Run c.args.workers c.args.limit c.args.brief) _ _ _ _ _ _ _ _ c.answer_stop.result refl c.read_all.ensures.taken c.in-Err.stop (λ is. c.in-Err.ensures.long (ap Err is)) (λ is. c.in-Err.ensures.past (ap Err is))
     (λ is. c.in-Err.ensures.cause (ap Err is)) (λ is. c.in-Err.ensures.still_long (ap Err is)) (λ is. c.in-Err.ensures.still_memory (ap Err is)) c.answer_stop.ensures

@@ -1,7 +1,8 @@
-use Rattle.std.proofs.Common.{◌<◌, Some, [], length, sym, ap, subst, arith}
+use Rattle.std.proofs.Common.{◌≡◌, ◌<◌, true, Some, [], length, refl, sym, ap, ◌∙◌, subst, arith}
 use Rattle.gaspi_types.specs.World.{World}
 use Rattle.gaspi_types.specs.declared.events.Event.{Event}
 use Rattle.commit_table.specs.Views.{new_pass}
+use Rattle.gaspi_model.specs.Step.{is_legal}
 use Rattle.gaspi_world.specs.Callers.{IsPassOf}
 use Rattle.gaspi_run.proofs.RanWorlds.{known, legal-has-own, made-each, whole}
 use Rattle.gaspi_run.proofs.threads.run_on_threads.Goals as goal
@@ -24,20 +25,20 @@ closed-requires g c = whole c.in_ok-world.field-0.world c.args.scripts.now c.arg
 pub journal_is_in_range-requires : goal.journal_is_in_range-requires
 journal_is_in_range-requires g c = legal-has-own c.in_ok-world.field-0.world.start.shape c.in_ok-journal.journal c.in_ok-journal.ensures.legal
 
-pub returns-clause-tally : goal.returns-clause-tally
-returns-clause-tally g c =
-    (known c.in_ok-world.field-0.world c.args.scripts.now c.args.limit c.args.workers c.in_ok-passes.field-0.passes.items c.in_ok-passes.field-0.outcomes c.args.shape.now c.in_ok-journal.journal c.in_ok-journal.tally
-    c.in_ok-world.ensures.start c.in_ok-world.ensures.all c.requires.workers.0 c.limits.ensures.world c.requires.scripts c.len.ensures.plain c.in_ok-passes.ensures
-    c.in_ok-journal.ensures.tally c.in_ok-journal.ensures.passes c.in_ok-journal.ensures.legal c.in_ok-journal.ensures.seen c.in_ok-journal.ensures.done c.settling.ensures.stays c.waits_last.ensures).0
-
-pub returns-clause-runs : goal.returns-clause-runs
-returns-clause-runs g c =
-    (known c.in_ok-world.field-0.world c.args.scripts.now c.args.limit c.args.workers c.in_ok-passes.field-0.passes.items c.in_ok-passes.field-0.outcomes c.args.shape.now c.in_ok-journal.journal c.in_ok-journal.tally
-    c.in_ok-world.ensures.start c.in_ok-world.ensures.all c.requires.workers.0 c.limits.ensures.world c.requires.scripts c.len.ensures.plain c.in_ok-passes.ensures
-    c.in_ok-journal.ensures.tally c.in_ok-journal.ensures.passes c.in_ok-journal.ensures.legal c.in_ok-journal.ensures.seen c.in_ok-journal.ensures.done c.settling.ensures.stays c.waits_last.ensures).1
-
-pub returns-clause-settled : goal.returns-clause-settled
-returns-clause-settled g c =
-    (known c.in_ok-world.field-0.world c.args.scripts.now c.args.limit c.args.workers c.in_ok-passes.field-0.passes.items c.in_ok-passes.field-0.outcomes c.args.shape.now c.in_ok-journal.journal c.in_ok-journal.tally
-    c.in_ok-world.ensures.start c.in_ok-world.ensures.all c.requires.workers.0 c.limits.ensures.world c.requires.scripts c.len.ensures.plain c.in_ok-passes.ensures
-    c.in_ok-journal.ensures.tally c.in_ok-journal.ensures.passes c.in_ok-journal.ensures.legal c.in_ok-journal.ensures.seen c.in_ok-journal.ensures.done c.settling.ensures.stays c.waits_last.ensures).2
+pub returns-clause-ran : goal.returns-clause-ran
+returns-clause-ran g c =
+    let all = known c.in_ok-world.field-0.world c.args.scripts.now c.args.limit c.args.workers c.in_ok-passes.field-0.passes.items c.in_ok-passes.field-0.outcomes c.args.shape.now c.in_ok-journal.journal c.in_ok-journal.tally
+        c.in_ok-world.ensures.start c.in_ok-world.ensures.all c.requires.workers.0 c.limits.ensures.world c.requires.scripts c.len.ensures.plain c.in_ok-passes.ensures
+        c.in_ok-journal.ensures.tally c.in_ok-journal.ensures.passes c.in_ok-journal.ensures.legal c.in_ok-journal.ensures.seen c.in_ok-journal.ensures.done c.settling.ensures.stays c.waits_last.ensures in
+    let legal = subst (λ (w : World). is_legal w c.in_ok-journal.journal ≡ true) c.in_ok-world.ensures.start c.in_ok-journal.ensures.legal in
+    record {
+      legal = legal;
+      told = c.in_ok-journal.tally;
+      tally_is = refl;
+      tallied = all.0;
+      ended = all.1;
+      settled = all.2;
+      notified = λ earlier later rest origin queue target m n is standing note less none.
+          c.notification_order.ensures.order c.args.shape.now earlier later rest origin queue target m n (ap (is_legal c.args.shape.now) is ∙ legal) standing note less none;
+      ranges = c.journal_is_in_range.ensures;
+    }

@@ -1,7 +1,7 @@
 use Rattle.std.proofs.Common.{take}
-use Rattle.gaspi_run.proofs.Calling.{called-table, uncalled-table, front-more}
-use Rattle.gaspi_run.proofs.own_calls.own_calls.Goals.{in-Called+in_ok-add_call, in_default}
-use Rattle.gaspi_run.proofs.own_calls.own_calls.Goals as goal
+use Rattle.transcripts.proofs.Calling.{called-table, uncalled-table, front-more}
+use Rattle.transcripts.proofs.own_calls.own_calls.Goals.{in-Called+in_ok-add_call, in_default}
+use Rattle.transcripts.proofs.own_calls.own_calls.Goals as goal
 
 pub loop-event-preserved : goal.loop-event-preserved
 loop-event-preserved c =

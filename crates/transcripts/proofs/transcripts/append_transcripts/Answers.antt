@@ -1,6 +1,6 @@
-use Rattle.gaspi_run.specs.Transcripts.{rank_transcripts}
-use Rattle.gaspi_run.proofs.NumberRanges.{range-more}
-use Rattle.gaspi_run.proofs.transcripts.append_transcripts.Goals as goal
+use Rattle.transcripts.specs.Transcripts.{rank_transcripts}
+use Rattle.transcripts.proofs.NumberRanges.{range-more}
+use Rattle.transcripts.proofs.transcripts.append_transcripts.Goals as goal
 
 pub loop-rank-preserved : goal.loop-rank-preserved
 loop-rank-preserved c =

@@ -1,8 +1,8 @@
 use Rattle.std.proofs.Common.{◌≡◌, ℕ, ◌++◌, subst, arith}
 use Rattle.std.specs.List.{flat_map, range_with_len}
-use Rattle.gaspi_run.specs.Transcripts.{thread_transcript}
-use Rattle.gaspi_run.proofs.NumberRanges.{thread-more}
-use Rattle.gaspi_run.proofs.transcripts.write_rank.Goals as goal
+use Rattle.transcripts.specs.Transcripts.{thread_transcript}
+use Rattle.transcripts.proofs.NumberRanges.{thread-more}
+use Rattle.transcripts.proofs.transcripts.write_rank.Goals as goal
 
 pub loop-thread-preserved : goal.loop-thread-preserved
 loop-thread-preserved c = λ history is.

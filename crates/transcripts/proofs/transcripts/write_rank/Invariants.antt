@@ -1,9 +1,9 @@
 use Rattle.std.proofs.Common.{◌≡◌, ◌++◌, List}
 use Rattle.std.specs.List.{flat_map, range_with_len}
 use Rattle.gaspi_types.specs.declared.events.Event.{Event}
-use Rattle.gaspi_run.specs.OwnCalls.{IsCallTable}
-use Rattle.gaspi_run.specs.Transcripts.{thread_transcript}
-use Rattle.gaspi_run.proofs.transcripts.write_rank.Given as goal
+use Rattle.transcripts.specs.OwnCalls.{IsCallTable}
+use Rattle.transcripts.specs.Transcripts.{thread_transcript}
+use Rattle.transcripts.proofs.transcripts.write_rank.Given as goal
 
 abbrev pub invariant-loop-thread : goal.invariant-loop-thread
 invariant-loop-thread l =

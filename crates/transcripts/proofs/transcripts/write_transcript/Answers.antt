@@ -1,9 +1,9 @@
 use Rattle.std.proofs.Common.{◌++◌, sym, ap, ◌∙◌, ◌+◌, subst}
 use Rattle.rank_script.specs.Runs.{Progress, going_on}
-use Rattle.gaspi_run.specs.OwnCalls.{pairs_of}
-use Rattle.gaspi_run.specs.Transcripts.{transcript}
-use Rattle.gaspi_run.proofs.Transcribing.{HasTold, on-ok, read-at, told-over, told-more, told-all}
-use Rattle.gaspi_run.proofs.transcripts.write_transcript.Goals as goal
+use Rattle.transcripts.specs.OwnCalls.{pairs_of}
+use Rattle.transcripts.specs.Transcripts.{transcript}
+use Rattle.transcripts.proofs.Transcribing.{HasTold, on-ok, read-at, told-over, told-more, told-all}
+use Rattle.transcripts.proofs.transcripts.write_transcript.Goals as goal
 
 pub loop-own-init : goal.loop-own-init
 loop-own-init c = ap (λ (p : Progress). c.args.text.now ++ transcript c.args.script.now.caller p (pairs_of c.args.calls.now)) c.new-cursor.ensures

@@ -1,0 +1,4 @@
+pub mod NumberRanges
+pub mod OwnCalls
+mod Calling
+mod Transcribing
