@@ -11,6 +11,7 @@ pub mod RunningAll
 pub mod Joins
 pub mod Started
 pub mod ScheduleLoop
+pub mod Benched
 pub mod CallersEnd
 pub mod CallsOfEvents
 pub mod OneOfEach
