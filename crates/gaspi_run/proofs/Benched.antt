@@ -1,17 +1,150 @@
--- The world of `bench` and its scripts.
-use Rattle.std.proofs.Common.{◌≡◌, ℕ, zero, suc, ◌+◌, List, [], ◌∷◌, ◌++◌, map, refl, ap, ◌∙◌}
+-- The world of `bench` and its scripts, and what a run of it to its end is.
+use Rattle.std.proofs.Common.{◌≡◌, ◌==◌, ◌||◌, ℕ, zero, suc, ◌+◌, ◌<◌, ◌≤◌, Bool, true, false, cond, if◌then◌else◌, List, [], ◌∷◌, ◌++◌, map, ◌⊎◌, inl, inr, Option, None, Some, count_by, find, refl, sym, ap, ◌∙◌, subst, arith}
+use Rattle.std.specs.List.{All, slice_get, list_any}
+use Rattle.std.proofs.Math.Nat.{eq-or-lt_of_le}
+use Rattle.std.proofs.lemmas.Bool.{eqb-true, eq-eqb}
 use Rattle.std.proofs.lemmas.List.{map-append}
+use Rattle.std.proofs.lemmas.List.Elements.{All-nil, All-cons, All-append}
+use Rattle.gaspi_types.specs.World.{is_caller}
+use Rattle.gaspi_types.specs.declared.events.Event.{Event}
 use Rattle.gaspi_types.specs.declared.shapes.CallerId.{CallerId}
-use Rattle.rank_script.specs.Bench.{bench_scripts, bench_callers, bench_shape}
-use Rattle.rank_script.specs.WorldText.{AreScriptsOf}
+use Rattle.gaspi_model.specs.Step.{own_calls}
+use Rattle.gaspi_model.proofs.Sound.OpenCounts.{count-append}
+use Rattle.bench_laws.specs.Laws.{RanToTheEnd}
+use Rattle.rank_script.specs.Bench.{bench_scripts, bench_callers, bench_lines, bench_shape}
+use Rattle.rank_script.specs.Runs.{IsRun}
+use Rattle.rank_script.specs.WorldText.{AreScriptsOf, is_script_of}
+use Rattle.rank_script.specs.declared.scripts.RunOutcome.{RunOutcome}
+use Rattle.rank_script.specs.declared.scripts.RunOutcome.TheVariants as outcomes
 use Rattle.rank_script.specs.declared.scripts.Script.{Script}
+use Rattle.gaspi_run.specs.Command.{is_wrong_outcome, is_limit_outcome, is_any_wrong, is_any_limit, run_status}
+use Rattle.gaspi_run.specs.Endings.{HasLimitCause, HasEnded, HaveEnded}
+use Rattle.gaspi_run.specs.Threads.{ToldTally, HasRunWorld}
+use Rattle.gaspi_run.specs.declared.turns.Finished.{Finished}
+use Rattle.gaspi_run.proofs.OneOfEach.{counts, found-is, found-all, none-there}
+use Rattle.gaspi_run.proofs.SameCallers.{is-itself, only-itself}
 
--- its scripts are those of its callers
-callers-of : (seed ranks rounds n : ℕ) → map (λ (s : Script). s.caller) (bench_scripts seed ranks rounds n) ≡ bench_callers n
-callers-of seed ranks rounds zero = refl
-callers-of seed ranks rounds (suc n) =
-    map-append (λ (s : Script). s.caller) (bench_scripts seed ranks rounds n) (_ ∷ [])
-    ∙ ap (λ (cs : List CallerId). cs ++ record { rank = n; thread = 0 } ∷ []) (callers-of seed ranks rounds n)
+module _ (seed ranks rounds : ℕ) where
+  abbrev caller-of : ℕ → CallerId
+  caller-of rank = record { rank = rank; thread = 0 }
 
-pub bench-scripts-of : (seed ranks rounds : ℕ) → AreScriptsOf (bench_shape ranks rounds) (bench_scripts seed ranks rounds ranks)
-bench-scripts-of seed ranks rounds = callers-of seed ranks rounds ranks
+  abbrev script-of : ℕ → Script
+  script-of rank = record { caller = caller-of rank; lines = bench_lines seed ranks rounds rank rounds }
+
+  -- The scripts are those of the callers.
+
+  callers-of : (n : ℕ) → map (λ (s : Script). s.caller) (bench_scripts seed ranks rounds n) ≡ bench_callers n
+  callers-of zero = refl
+  callers-of (suc n) = map-append (λ (s : Script). s.caller) (bench_scripts seed ranks rounds n) (script-of n ∷ []) ∙ ap (λ (cs : List CallerId). cs ++ caller-of n ∷ []) (callers-of n)
+
+  pub bench-scripts-of : AreScriptsOf (bench_shape ranks rounds) (bench_scripts seed ranks rounds ranks)
+  bench-scripts-of = callers-of ranks
+
+  -- Each rank has one.
+
+  abbrev IsOfBench : Script → Type 0
+  IsOfBench s = s.lines ≡ bench_lines seed ranks rounds s.caller.rank rounds
+
+  all-of-bench : (n : ℕ) → All IsOfBench (bench_scripts seed ranks rounds n)
+  all-of-bench zero = All-nil IsOfBench
+  all-of-bench (suc n) = All-append IsOfBench (bench_scripts seed ranks rounds n) (script-of n ∷ []) (all-of-bench n) (All-cons IsOfBench (script-of n) [] refl (All-nil IsOfBench))
+
+  abbrev is-of : ℕ → Script → Bool
+  is-of rank s = is_caller rank 0 s.caller
+
+  one-of-each : (n rank : ℕ) → rank < n → 1 ≤ count_by (is-of rank) (bench_scripts seed ranks rounds n)
+  one-of-each zero rank less = absurd (omega arith)
+  one-of-each (suc n) rank less = go (rank == n) refl
+    where
+      both : count_by (is-of rank) (bench_scripts seed ranks rounds (suc n)) ≡ count_by (is-of rank) (bench_scripts seed ranks rounds n) + count_by (is-of rank) (script-of n ∷ [])
+      both = count-append (is-of rank) (bench_scripts seed ranks rounds n) (script-of n ∷ [])
+
+      last : rank ≡ n → count_by (is-of rank) (script-of n ∷ []) ≡ 1
+      last is = counts (is-of rank) (script-of n) [] true (subst (λ (r : ℕ). is_caller r 0 (caller-of n) ≡ true) (sym is) (is-itself (caller-of n)))
+
+      go : (b : Bool) → (rank == n) ≡ b → 1 ≤ count_by (is-of rank) (bench_scripts seed ranks rounds (suc n))
+      go true is = (let one = last (eqb-true rank n is) in let all = both in omega arith)
+      go false is = (
+        let apart : rank ≡ n → ⊥ = λ same. (let no : ◌≡◌ {A = Bool} true false = sym (eq-eqb rank n same) ∙ is in let never : ⊥ = cc in never) in
+        let below : rank < n = below-it rank n less apart in
+        let some = one-of-each n rank below in
+        let all = both in
+        omega arith
+        )
+
+      below-it : (r m : ℕ) → r < suc m → (r ≡ m → ⊥) → r < m
+      below-it r m less apart = go-on (eq-or-lt_of_le (omega arith))
+        where
+          go-on : (r ≡ m) ⊎ (r < m) → r < m
+          go-on (inl same) = absurd (apart same)
+          go-on (inr below) = below
+
+-- what is counted stands somewhere
+some-counted : {A : Type 0} (p : A → Bool) (xs : List A) → 1 ≤ count_by p xs → (k : ℕ) × (x : A) × (slice_get xs k ≡ Some x) × (p x ≡ true)
+some-counted p [] some = absurd (omega arith)
+some-counted {A} p (y ∷ xs) some = go (p y) refl
+  where
+    go : (b : Bool) → p y ≡ b → (k : ℕ) × (x : A) × (slice_get (y ∷ xs) k ≡ Some x) × (p x ≡ true)
+    go true is = (0, y, refl, is)
+    go false is =
+        let one = counts p y xs false is in
+        let rest = some-counted p xs (omega arith) in
+        (suc rest.0, rest.1, rest.2, rest.3)
+
+-- A run of status 0 ended well.
+
+-- an outcome that is neither wrong nor at the limit, and has memory
+ended-well : (w : _) (journal : List Event) (c : CallerId) (lines : _) (o : RunOutcome) → is_wrong_outcome o ≡ false → is_limit_outcome o ≡ false → HasLimitCause w journal c lines o → o ≡ outcomes.Ended
+ended-well w journal c lines outcomes.Ended right room cause = refl
+ended-well w journal c lines (outcomes.Failed line) right room cause = absurd (let no : ⊥ = cc in no)
+ended-well w journal c lines (outcomes.Stuck line) right room cause = absurd (let no : ⊥ = cc in no)
+ended-well w journal c lines (outcomes.Limit line) right room cause = absurd (let no : ⊥ = cc in no)
+ended-well w journal c lines (outcomes.NoMemory line) right room cause = absurd cause
+
+none-wrong : (finished : List Finished) → run_status finished ≡ 0 → (is_any_wrong finished ≡ false) × (is_any_limit finished ≡ false)
+none-wrong finished is = go (is_any_wrong finished) (is_any_limit finished) is
+  where
+    go : (a b : Bool) → (if a then 3 else (if b then 8 else 0)) ≡ 0 → (a ≡ false) × (b ≡ false)
+    go false false at = (refl, refl)
+    go false true at = absurd (omega arith)
+    go true b at = absurd (omega arith)
+
+module _ (seed ranks rounds limit : ℕ) (journal : List Event) (tally : ToldTally) (finished : List Finished)
+    (ran : HasRunWorld (bench_shape ranks rounds) (bench_scripts seed ranks rounds ranks) limit journal tally finished) (well : run_status finished ≡ 0) where
+  abbrev lines-of : ℕ → _
+  lines-of rank = bench_lines seed ranks rounds rank rounds
+
+  ran-lines : (rank : ℕ) → rank < ranks → IsRun (lines-of rank) (own_calls rank 0 journal) outcomes.Ended
+  ran-lines rank less = go at.1 at.2 (only-itself rank 0 at.1.caller at.3)
+    where
+      at : (k : ℕ) × (f : Finished) × (slice_get finished k ≡ Some f) × (is_caller rank 0 f.caller ≡ true)
+      at = some-counted (λ (f : Finished). is_caller rank 0 f.caller) finished (let all = ran.ended.once rank 0 in let one = one-of-each seed ranks rounds ranks rank less in omega arith)
+
+      go : (f : Finished) → slice_get finished at.0 ≡ Some f → (f.caller.rank ≡ rank) × (f.caller.thread ≡ 0) → IsRun (lines-of rank) (own_calls rank 0 journal) outcomes.Ended
+      go f there is =
+          let has = ran.ended.each at.0 f there in
+          let none = none-wrong finished well in
+          let right = none-there (λ (g : Finished). is_wrong_outcome g.outcome) finished none.0 at.0 f there in
+          let room = none-there (λ (g : Finished). is_limit_outcome g.outcome) finished none.1 at.0 f there in
+          let ended = ended-well (bench_shape ranks rounds) journal f.caller has.script.lines f.outcome right room has.limit in
+          let found = found-is (is_script_of f.caller) (bench_scripts seed ranks rounds ranks) has.script has.is_script in
+          let same = only-itself f.caller.rank f.caller.thread has.script.caller found in
+          let rank_is : has.script.caller.rank ≡ rank = same.0 ∙ is.0 in
+          let of = found-all (is_script_of f.caller) (IsOfBench seed ranks rounds) (bench_scripts seed ranks rounds ranks) has.script (all-of-bench seed ranks rounds ranks) has.is_script in
+          let lines : has.script.lines ≡ lines-of rank = of ∙ ap (λ (r : ℕ). lines-of r) rank_is in
+          let calls : own_calls f.caller.rank f.caller.thread journal ≡ own_calls rank 0 journal = ap (λ (r : ℕ). own_calls r f.caller.thread journal) is.0 ∙ ap (λ (t : ℕ). own_calls rank t journal) is.1 in
+          subst (λ (o : RunOutcome). IsRun (lines-of rank) (own_calls rank 0 journal) o) ended
+          (subst (λ (ps : _). IsRun (lines-of rank) ps f.outcome) calls (subst (λ (ls : _). IsRun ls (own_calls f.caller.rank f.caller.thread journal) f.outcome) lines has.run))
+
+  -- it came to the end of every script
+  pub bench-ran : (1 ≤ ranks) × (ranks ≤ 16) → (1 ≤ rounds) × (rounds ≤ 5000) → RanToTheEnd seed ranks rounds journal
+  bench-ran few short = record {
+    some_ranks = few.0;
+    few_ranks = few.1;
+    some_rounds = short.0;
+    few_rounds = short.1;
+    state = ran.settled.state;
+    leads = ran.settled.leads;
+    settled = ran.settled.settled;
+    runs = ran-lines;
+  }
