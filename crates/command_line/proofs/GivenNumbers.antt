@@ -24,12 +24,12 @@ use Rattle.command_line.specs.declared.words.Command.TheVariants.{Run, Step}
 
 -- ---- one word more
 
-fault_more : (s : Shape) (names : Names) (w after : Walk) (word : Text) (rest : List Text) → turn_fault s names w word ≡ []
+pub fault_more : (s : Shape) (names : Names) (w after : Walk) (word : Text) (rest : List Text) → turn_fault s names w word ≡ []
     → walked s.rules names w word ≡ after → walk_fault s names after rest ≡ [] → walk_fault s names w (word ∷ rest) ≡ []
 unfolding walk_fault
 fault_more s names w after word rest none is more = ap₂ or_else none (ap (λ (v : Walk). walk_fault s names v rest) is ∙ more)
 
-level_passes : (s : Shape) (names : Names) (words : List Text) (end : Held) → walk_fault s names (walk_from nothing_held) words ≡ []
+pub level_passes : (s : Shape) (names : Names) (words : List Text) (end : Held) → walk_fault s names (walk_from nothing_held) words ≡ []
     → (walk s.rules names nothing_held words).held ≡ end → settle_fault s.rules s.args_override_self end ≡ []
     → defaults_fault (settled s.rules end).rows s.rules ≡ [] → check_fault s (finished s.rules end) false ≡ []
     → level_fault s names nothing_held words false [] ≡ []
@@ -39,7 +39,7 @@ level_passes s names words end none is settle defaults check =
     ∙ ap₂ or_else settle (ap₂ or_else defaults check))
 
 -- where the walk stands after an option, and after its value
-abbrev after_option : Text → List Row → Walk
+abbrev pub after_option : Text → List Row → Walk
 after_option id rows = record {
   held = record { rows = rows; pending = Some (id, []); skip = 0 };
   waiting = option id;
@@ -48,7 +48,7 @@ after_option id rows = record {
   stopped = None;
 }
 
-abbrev after_value : Text → List Row → Text → Walk
+abbrev pub after_value : Text → List Row → Text → Walk
 after_value id rows value = record {
   held = record { rows = rows; pending = Some (id, value ∷ []); skip = 0 };
   waiting = idle;
@@ -57,7 +57,7 @@ after_value id rows value = record {
   stopped = None;
 }
 
-abbrev row_given : Rule → Text → Row
+abbrev pub row_given : Rule → Text → Row
 row_given a value = record {
   id = a.id;
   values = value ∷ [];
@@ -251,7 +251,7 @@ module _ (f l : Text) (fp : IsPlainWord f) (lp : IsPlainWord l) where
 
 -- ---- numbers in decimal
 
-plain_numeral : (t : Text) → IsNumeral 10 t → IsPlainWord t
+pub plain_numeral : (t : Text) → IsNumeral 10 t → IsPlainWord t
 plain_numeral [] h = absurd (omega (arith, h.0))
 plain_numeral (x ∷ xs) h =
     let minus : (x == 45) ≡ false = ne_eqb _ _ (λ e. omega (arith, digit_from_value x h.1.0)) in
@@ -286,11 +286,11 @@ module _ (t : Text) (h : IsNumeral 10 t) (low high n : ℕ) (is : digits_value 1
   in_order z e = subst (λ (y : ℤ). (fits_i64 y && (int_le (pos low) y && int_le y (pos high))) ≡ true) e
       (rw (lt-ltb n (2 ^ 63) small, le-leb low n above, le-leb n high below) refl)
 
-  accepted : accepts false (Signed (pos low) (pos high)) t ≡ true
+  pub accepted : accepts false (Signed (pos low) (pos high)) t ≡ true
   accepted = ap₂ (λ (a b : Bool). a && b) (ap is_numeral (without_sign t h) ∙ numeral_passes t h)
       (in_order (signed_digits_value 10 t) (sym (signed_value t h ∙ ap pos is)))
 
-read : (t : Text) → IsNumeral 10 t → (n : ℕ) → digits_value 10 t ≡ n → n ≤ 4294967295 → number_of (without_minus t) ≡ Some n
+pub read : (t : Text) → IsNumeral 10 t → (n : ℕ) → digits_value 10 t ≡ n → n ≤ 4294967295 → number_of (without_minus t) ≡ Some n
 read t h n is most =
     let numeral : IsNumeral 10 (without_leading_plus t) = subst (IsNumeral 10) (sym (no_plus t h)) h in
     ap number_of (no_minus t h) ∙ number_given t n numeral (ap (digits_value 10) (no_plus t h) ∙ is) most

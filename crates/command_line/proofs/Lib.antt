@@ -1,5 +1,7 @@
 pub mod Reading
 pub mod TakenNumbers
+pub mod NeededNumbers
 pub mod Ranges
 pub mod FirstWords
 pub mod GivenNumbers
+pub mod GivenBench

@@ -12,10 +12,11 @@ use Rattle.clap.specs.declared.error.Error.{Error}
 use Rattle.clap.specs.declared.error.kind.ErrorKind.{ErrorKind}
 use Rattle.clap.specs.declared.error.kind.ErrorKind.TheVariants.{OutOfMemory}
 use Rattle.clap.proofs.OnLiterals.{clap_on_literals}
-use Rattle.command_line.proofs.TakenNumbers.{check_shape, cons≢nil, limit_of_run, limit_of_step, none_first, none_second, run_shape, seed_of_step, step_shape, workers_of_run}
-use Rattle.command_line.specs.Words.{command_of, flag_at, number_at, run_of, step_of, the_app, words_in}
+use Rattle.command_line.proofs.NeededNumbers.{ranks_of_bench, rounds_of_bench, seed_of_bench}
+use Rattle.command_line.proofs.TakenNumbers.{bench_shape, check_shape, cons≢nil, limit_of_run, limit_of_step, none_first, none_second, run_shape, seed_of_step, step_shape, workers_of_run}
+use Rattle.command_line.specs.Words.{bench_of, command_of, flag_at, number_at, run_of, step_of, the_app, words_in}
 use Rattle.command_line.specs.declared.words.Command.{Command}
-use Rattle.command_line.specs.declared.words.Command.TheVariants.{Run, Step, Check}
+use Rattle.command_line.specs.declared.words.Command.TheVariants.{Run, Step, Check, Bench}
 
 -- ---- the command
 
@@ -56,6 +57,7 @@ IsRead None = ⊥
 IsRead (Some (Run workers limit brief)) = (1 ≤ workers) × (workers ≤ 1) × (1 ≤ limit) × (limit ≤ 100000000)
 IsRead (Some (Step seed limit brief)) = (1 ≤ limit) × (limit ≤ 100000000)
 IsRead (Some Check) = ⊤
+IsRead (Some (Bench seed ranks rounds)) = (1 ≤ ranks) × (ranks ≤ 16) × (1 ≤ rounds) × (rounds ≤ 5000)
 
 some_of : (o : Option Command) → IsRead o → is_some o ≡ true
 some_of None read = absurd read
@@ -65,6 +67,13 @@ some_of (Some command) read = refl
 pub both_given : (make : ℕ → ℕ → Command) (first second : Option ℕ) (m n : ℕ) → first ≡ Some m → second ≡ Some n
     → option_and_then (λ x. option_map (λ y. make x y) second) first ≡ Some (make m n)
 both_given make first second m n one two = ap₂ (λ (a b : Option ℕ). option_and_then (λ x. option_map (λ y. make x y) b) a) one two
+
+-- three options that have numbers
+pub three_given : (make : ℕ → ℕ → ℕ → Command) (first second third : Option ℕ) (l m n : ℕ) → first ≡ Some l → second ≡ Some m → third ≡ Some n
+    → option_and_then (λ x. option_and_then (λ y. option_map (λ z. make x y z) third) second) first ≡ Some (make l m n)
+three_given make first second third l m n one two three =
+    ap (option_and_then (λ x. option_and_then (λ y. option_map (λ z. make x y z) third) second)) one
+    ∙ both_given (make l) second third m n two three
 
 run_read : (words : List Text) → level_fault run_shape [] nothing_held words false [] ≡ [] → IsRead (run_of (rows_after run_shape.rules [] words))
 run_read words e =
@@ -86,22 +95,36 @@ step_read words e =
     subst IsRead (sym given)
     (limit.2, limit.3)
 
+bench_read : (words : List Text) → level_fault bench_shape [] nothing_held words false [] ≡ [] → IsRead (bench_of (rows_after bench_shape.rules [] words))
+bench_read words e =
+    let rows : List Row = rows_after bench_shape.rules [] words in
+    let seed = seed_of_bench words e in
+    let ranks = ranks_of_bench words e in
+    let rounds = rounds_of_bench words e in
+    let given = three_given (λ l m n. Bench l m n) (number_at (codes "seed") rows) (number_at (codes "ranks") rows) (number_at (codes "rounds") rows)
+    seed.0 ranks.0 rounds.0 seed.1 ranks.1 rounds.1 in
+    subst IsRead (sym given)
+    (ranks.2, ranks.3, rounds.2, rounds.3)
+
 -- the subcommand that a parse enters
-abbrev shape_by : Bool → Bool → Bool → Option Shape
-shape_by run step check = if run then Some run_shape else (if step then Some step_shape else (if check then Some check_shape else None))
+abbrev shape_by : Bool → Bool → Bool → Bool → Option Shape
+shape_by run step check bench = if run then Some run_shape else (if step then Some step_shape
+    else (if check then Some check_shape else (if bench then Some bench_shape else None)))
 
 entered_read : (stop : Option (Text × List Text)) → entered_fault (built the_app) stop ≡ [] → is_some (entered (built the_app) stop) ≡ true
     → IsRead (words_in (entered (built the_app) stop))
 entered_read None passes some = absurd (true≢false (sym some))
 entered_read (Some p) passes some =
-    go (answers_to p.0 (label_of run_shape)) (answers_to p.0 (label_of step_shape)) (answers_to p.0 (label_of check_shape)) passes some
+    go (answers_to p.0 (label_of run_shape)) (answers_to p.0 (label_of step_shape)) (answers_to p.0 (label_of check_shape))
+    (answers_to p.0 (label_of bench_shape)) passes some
   where
-    go : (a b c : Bool) → option_map_or (λ s. level_fault s [] nothing_held p.1 false []) (shape_by a b c) [] ≡ []
-        → is_some (option_map (λ s. rows_at s p.1) (shape_by a b c)) ≡ true → IsRead (words_in (option_map (λ s. rows_at s p.1) (shape_by a b c)))
-    go true b c f g = run_read p.1 f
-    go false true c f g = step_read p.1 f
-    go false false true f g = tt
-    go false false false f g = absurd (true≢false (sym g))
+    go : (a b c d : Bool) → option_map_or (λ s. level_fault s [] nothing_held p.1 false []) (shape_by a b c d) [] ≡ []
+        → is_some (option_map (λ s. rows_at s p.1) (shape_by a b c d)) ≡ true → IsRead (words_in (option_map (λ s. rows_at s p.1) (shape_by a b c d)))
+    go true b c d f g = run_read p.1 f
+    go false true c d f g = step_read p.1 f
+    go false false true d f g = tt
+    go false false false true f g = bench_read p.1 f
+    go false false false false f g = absurd (true≢false (sym g))
 
 app_range : (a : App) (words : List Text) → fault_of a words ≡ []
     → entered_fault (built a) (walk (built a).top.rules (names_of (built a)) nothing_held (argument_words a words)).stopped ≡ []

@@ -44,6 +44,9 @@ step_shape = first_shape (later_shapes (built the_app).subs)
 abbrev pub check_shape : Shape
 check_shape = first_shape (later_shapes (later_shapes (built the_app).subs))
 
+abbrev pub bench_shape : Shape
+bench_shape = first_shape (later_shapes (later_shapes (later_shapes (built the_app).subs)))
+
 -- ---- lists of kinds
 
 abbrev is_none : Kinds → Bool
@@ -63,7 +66,7 @@ none_second (k ∷ ks) b e = absurd (cons≢nil e)
 
 -- ---- rows
 
-either_false : (a b : Bool) → (a || b) ≡ false → (a ≡ false) × (b ≡ false)
+pub either_false : (a b : Bool) → (a || b) ≡ false → (a ≡ false) × (b ≡ false)
 either_false true b e = absurd (true≢false e)
 either_false false b e = (refl, e)
 
@@ -103,7 +106,7 @@ no_row id rows e = go (has_row id rows) refl e
 -- ---- what a use of an argument keeps of each row
 
 module _ (P : Row → Type 0) where
-  abbrev AllGood : List Row → Type 0
+  abbrev pub AllGood : List Row → Type 0
   AllGood rows = AllByRecursion P rows
 
   -- a value set where no row has the id
@@ -117,28 +120,28 @@ module _ (P : Row → Type 0) where
       (all_more P rows (new_row b CommandLine values) all (one (none_second _ (values_fault b values) e)))
 
   -- a use of the argument that clap takes keeps it
-  abbrev Keeps : Bool → Rule → Type 0
+  abbrev pub Keeps : Bool → Rule → Type 0
   Keeps again b = (values : List Text) (rows : List Row) → use_fault again b values rows ≡ [] → AllGood rows → AllGood (used b values rows)
 
-  abbrev FoundKeeps : Bool → Option Rule → Type 0
+  abbrev pub FoundKeeps : Bool → Option Rule → Type 0
   FoundKeeps again None = ⊤
   FoundKeeps again (Some b) = Keeps again b
 
 -- ---- one walk, and what holds of each row of it
 
 -- no argument has a short name or a position
-record HasLongNamesAlone (s : Shape) : Type 0 where
-  shorts : (x : ℕ) → arg_by_short s.rules x ≡ None
-  positionals : (i : ℕ) → arg_by_index s.rules i ≡ None
+pub record HasLongNamesAlone (s : Shape) : Type 0 where
+  pub shorts : (x : ℕ) → arg_by_short s.rules x ≡ None
+  pub positionals : (i : ℕ) → arg_by_index s.rules i ≡ None
 
 some≢none : {X : Type 0} {x : X} → Some x ≡ None → ⊥
 some≢none e = true≢false (ap (λ o. is_some o) e)
 
 module _ (s : Shape) (named : HasLongNamesAlone s) (P : Row → Type 0) where
-  abbrev rules : List Rule
+  abbrev pub rules : List Rule
   rules = s.rules
 
-  abbrev again : Bool
+  abbrev pub again : Bool
   again = s.args_override_self
 
   module _ (keeps : (p : Rule → Bool) → FoundKeeps P again (find p rules)) where
@@ -273,7 +276,7 @@ module _ (s : Shape) (named : HasLongNamesAlone s) (P : Row → Type 0) where
         (turn_keeps w word (none_first (turn_fault s [] w word) (walk_fault s [] (walked rules [] w word) rest) e) all)
 
     -- the rows after all the words
-    settled_rows_keep : (words : List Text) → level_fault s [] nothing_held words false [] ≡ [] → AllGood P (settled rules (walk rules [] nothing_held words).held).rows
+    pub settled_rows_keep : (words : List Text) → level_fault s [] nothing_held words false [] ≡ [] → AllGood P (settled rules (walk rules [] nothing_held words).held).rows
     settled_rows_keep words e =
         let end : Held = (walk rules [] nothing_held words).held in
         let walked_fault : Kinds = walk_fault s [] (walk_from nothing_held) words in
@@ -324,7 +327,7 @@ defaulted P rows b v vs is one all =
 -- ---- an option with a number
 
 -- a row of the option holds a number in the range
-abbrev Holds : Text → ℕ → ℕ → Row → Type 0
+abbrev pub Holds : Text → ℕ → ℕ → Row → Type 0
 Holds id low high r = bytes_eq r.id id ≡ true → (n : ℕ) × (option_and_then number_of (row_text r) ≡ Some n) × (low ≤ n) × (n ≤ high)
 
 accepted : (low high : ℕ) (t : Text) → high < 2 ^ 32 → accepts false (Signed (pos low) (pos high)) t ≡ true
@@ -340,7 +343,7 @@ first_taken p v vs e = go (accepts false p v) refl (none_first (value_kinds fals
     go true is f = is
     go false is f = absurd (cons≢nil f)
 
-found : (id : Text) (low high : ℕ) (rows : List Row) → has_row id rows ≡ true → AllByRecursion (Holds id low high) rows
+pub found : (id : Text) (low high : ℕ) (rows : List Row) → has_row id rows ≡ true → AllByRecursion (Holds id low high) rows
     → (n : ℕ) × (number_at id rows ≡ Some n) × (low ≤ n) × (n ≤ high)
 found id low high [] e all = absurd (true≢false (sym e))
 found id low high (r ∷ rs) e all = go (bytes_eq r.id id) refl e (λ f. found id low high rs f all.1)
@@ -372,13 +375,17 @@ either false false true now e old new = or_true now true refl
 either false false false now e old new = absurd (true≢false (sym e))
 
 module _ (P : Row → Type 0) (again : Bool) where
-  all_keep : (rs : List Rule) → AllByRecursion (Suits P again) rs → (p : Rule → Bool) → FoundKeeps P again (find p rs)
-  all_keep [] suits p = tt
-  all_keep (b ∷ rs) suits p = go (p b) (all_keep rs suits.1 p)
+  pub all_keep : (rs : List Rule) → AllByRecursion (Keeps P again) rs → (p : Rule → Bool) → FoundKeeps P again (find p rs)
+  all_keep [] keep p = tt
+  all_keep (b ∷ rs) keep p = go (p b) (all_keep rs keep.1 p)
     where
       go : (x : Bool) → FoundKeeps P again (find p rs) → FoundKeeps P again (if x then Some b else find p rs)
-      go true rest = suits.0.keeps
+      go true rest = keep.0
       go false rest = rest
+
+  uses_keep : (rs : List Rule) → AllByRecursion (Suits P again) rs → AllByRecursion (Keeps P again) rs
+  uses_keep [] suits = tt
+  uses_keep (b ∷ rs) suits = (suits.0.keeps, uses_keep rs suits.1)
 
   -- the rows with each default, one of which has the id
   all_defaulted : (id : Text) (rs : List Rule) (rows : List Row) → AllByRecursion (Suits P again) rs → AllByRecursion P rows
@@ -396,36 +403,37 @@ module _ (P : Row → Type 0) (again : Bool) where
       all_defaulted id rs (with_default rows b) suits.1 one.good
       (either (has_row id rows) (bytes_eq b.id id) (list_any (λ c. bytes_eq c.id id) rs) (has_row id (with_default rows b)) has (one.kept id) own)
 
-abbrev number_rule : Text → Text → ℕ → ℕ → Rule
-number_rule id default low high = record (new_rule id) {
+abbrev number_rule : Text → List Text → Bool → ℕ → ℕ → Rule
+number_rule id defaults required low high = record (new_rule id) {
   long = Some id;
   action = Some Set;
   parser = Some (Signed (pos low) (pos high));
-  defaults = default ∷ [];
+  defaults = defaults;
+  required = required;
 }
 
-abbrev number_built : Text → Text → ℕ → ℕ → Rule
-number_built id default low high = with_index 1 (filled (number_rule id default low high))
+abbrev pub number_built : Text → List Text → Bool → ℕ → ℕ → Rule
+number_built id defaults required low high = with_index 1 (filled (number_rule id defaults required low high))
 
 abbrev brief_built : Rule
 brief_built = with_index 1 (filled brief_rule)
 
 module _ (id : Text) (low high : ℕ) where
-  abbrev IsOption : Row → Type 0
+  abbrev pub IsOption : Row → Type 0
   IsOption = Holds id low high
 
   -- the option itself
-  own_keeps : (default : Text) → high < 2 ^ 32 → Keeps IsOption false (number_built id default low high)
-  own_keeps default small [] rows e all = absurd (cons≢nil e)
-  own_keeps default small (v ∷ vs) rows e all =
-      set_keeps IsOption (number_built id default low high) (v ∷ vs) rows
-      (none_second (range_kinds 1 1 (length (v ∷ vs))) (set_fault false (number_built id default low high) (v ∷ vs) rows) e)
+  pub own_keeps : (defaults : List Text) (required : Bool) → high < 2 ^ 32 → Keeps IsOption false (number_built id defaults required low high)
+  own_keeps defaults required small [] rows e all = absurd (cons≢nil e)
+  own_keeps defaults required small (v ∷ vs) rows e all =
+      set_keeps IsOption (number_built id defaults required low high) (v ∷ vs) rows
+      (none_second (range_kinds 1 1 (length (v ∷ vs))) (set_fault false (number_built id defaults required low high) (v ∷ vs) rows) e)
       (λ f same. accepted low high v small (first_taken (Signed (pos low) (pos high)) v vs f)) all
 
   own_suits : (default : Text) (n : ℕ) → high < 2 ^ 32 → number_of (without_minus default) ≡ Some n → low ≤ n → n ≤ high
-      → Suits IsOption false (number_built id default low high)
+      → Suits IsOption false (number_built id (default ∷ []) false low high)
   own_suits default n small is above below = record {
-    keeps = own_keeps default small;
+    keeps = own_keeps (default ∷ []) false small;
     first = default;
     rest = [];
     defaults = refl;
@@ -438,12 +446,16 @@ module _ (id : Text) (low high : ℕ) where
   other_keeps b values rows other e all =
       set_keeps IsOption b values rows e (λ f same. absurd (true≢false (sym same ∙ other))) all
 
-  other_suits : (name default : Text) (least most : ℕ) → bytes_eq name id ≡ false → Suits IsOption false (number_built name default least most)
+  pub other_number_keeps : (name : Text) (defaults : List Text) (required : Bool) (least most : ℕ) → bytes_eq name id ≡ false
+      → Keeps IsOption false (number_built name defaults required least most)
+  other_number_keeps name defaults required least most other values rows e all =
+      let b : Rule = number_built name defaults required least most in
+      other_keeps b (values_or_missing b values) rows other
+      (none_second (range_kinds 1 1 (length values)) (set_fault false b (values_or_missing b values) rows) e) all
+
+  other_suits : (name default : Text) (least most : ℕ) → bytes_eq name id ≡ false → Suits IsOption false (number_built name (default ∷ []) false least most)
   other_suits name default least most other = record {
-    keeps = λ values rows e all.
-        let b : Rule = number_built name default least most in
-        other_keeps b (values_or_missing b values) rows other
-        (none_second (range_kinds 1 1 (length values)) (set_fault false b (values_or_missing b values) rows) e) all;
+    keeps = other_number_keeps name (default ∷ []) false least most other;
     first = default;
     rest = [];
     defaults = refl;
@@ -470,14 +482,14 @@ module _ (id : Text) (low high : ℕ) where
       → list_any (λ b. bytes_eq b.id id) s.rules ≡ true → IsTaken s
   option_taken s named suits has words e =
       let rows : List Row = (settled s.rules (walk s.rules [] nothing_held words).held).rows in
-      let all = settled_rows_keep s named IsOption (all_keep IsOption s.args_override_self s.rules suits) words e in
+      let all = settled_rows_keep s named IsOption (all_keep IsOption s.args_override_self s.rules (uses_keep IsOption s.args_override_self s.rules suits)) words e in
       let one : (has_row id rows || list_any (λ b. bytes_eq b.id id) s.rules) ≡ true = or_true (has_row id rows) _ has in
       let last = all_defaulted IsOption s.args_override_self id s.rules rows suits all one in
       found id low high (rows_after s.rules [] words) last.1 last.0
 
 -- ---- the numbers of `run` and of `step`
 
-limit_suits : Suits (Holds (codes "limit") 1 100000000) false (number_built (codes "limit") (codes "1000000") 1 100000000)
+limit_suits : Suits (Holds (codes "limit") 1 100000000) false (number_built (codes "limit") (codes "1000000" ∷ []) false 1 100000000)
 limit_suits = own_suits (codes "limit") 1 100000000 (codes "1000000") 1000000 (omega arith) refl (omega arith) (omega arith)
 
 run_names : HasLongNamesAlone run_shape

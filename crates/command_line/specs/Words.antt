@@ -10,7 +10,7 @@ use Rattle.clap.specs.Words.{App, Row, Rule, Shape, Text, fault_of, first_of, ne
 use Rattle.clap.specs.declared.builder.action.ArgAction.TheVariants.{Set, SetTrue}
 use Rattle.clap.specs.declared.builder.value_parser.ValueParser.TheVariants.{Signed}
 use Rattle.command_line.specs.declared.words.Command.{Command}
-use Rattle.command_line.specs.declared.words.Command.TheVariants.{Run, Step, Check}
+use Rattle.command_line.specs.declared.words.Command.TheVariants.{Run, Step, Check, Bench}
 
 -- ---- the command as data
 
@@ -48,6 +48,33 @@ brief_rule = record (new_rule (codes "brief")) {
   action = Some SetTrue;
 }
 
+-- `--seed N` where it is needed: a number from 0 to 4294967295
+abbrev pub needed_seed_rule : Rule
+needed_seed_rule = record (new_rule (codes "seed")) {
+  long = Some (codes "seed");
+  action = Some Set;
+  parser = Some (Signed (pos 0) (pos 4294967295));
+  required = true;
+}
+
+-- `--ranks R`: a number from 1 to 16, which is needed
+abbrev pub ranks_rule : Rule
+ranks_rule = record (new_rule (codes "ranks")) {
+  long = Some (codes "ranks");
+  action = Some Set;
+  parser = Some (Signed (pos 1) (pos 16));
+  required = true;
+}
+
+-- `--rounds M`: a number from 1 to 5000, which is needed
+abbrev pub rounds_rule : Rule
+rounds_rule = record (new_rule (codes "rounds")) {
+  long = Some (codes "rounds");
+  action = Some Set;
+  parser = Some (Signed (pos 1) (pos 5000));
+  required = true;
+}
+
 -- `run [--workers N] [--limit N] [--brief]`
 abbrev pub run_app : App
 run_app = with_rule (with_rule (with_rule (new_app (codes "run")) workers_rule) limit_rule) brief_rule
@@ -59,6 +86,10 @@ step_app = with_rule (with_rule (with_rule (new_app (codes "step")) seed_rule) l
 -- `check`
 abbrev pub check_app : App
 check_app = new_app (codes "check")
+
+-- `bench --seed N --ranks R --rounds M`
+abbrev pub bench_app : App
+bench_app = with_rule (with_rule (with_rule (new_app (codes "bench")) needed_seed_rule) ranks_rule) rounds_rule
 
 -- the settings of the program: the words begin after its name, none of them asks for help or the version, and one names
 -- a subcommand
@@ -74,8 +105,12 @@ with_settings shape = record shape {
 abbrev pub program_app : App
 program_app = on_top with_settings (new_app (codes "gaspirun"))
 
+-- with the subcommands that run a world text
+abbrev pub running_app : App
+running_app = with_subcommand (with_subcommand program_app run_app.top) step_app.top
+
 abbrev pub the_app : App
-the_app = with_subcommand (with_subcommand (with_subcommand program_app run_app.top) step_app.top) check_app.top
+the_app = with_subcommand (with_subcommand running_app check_app.top) bench_app.top
 
 -- ---- what is read of the matches
 
@@ -101,12 +136,17 @@ abbrev pub step_of : List Row → Option Command
 step_of rows = option_and_then (λ seed. option_map (λ limit. Step seed limit (flag_at (codes "brief") rows))
     (number_at (codes "limit") rows)) (number_at (codes "seed") rows)
 
+abbrev pub bench_of : List Row → Option Command
+bench_of rows = option_and_then (λ seed. option_and_then (λ ranks. option_map (λ rounds. Bench seed ranks rounds)
+    (number_at (codes "rounds") rows)) (number_at (codes "ranks") rows)) (number_at (codes "seed") rows)
+
 -- what the subcommand of a parse and its matches ask for
 abbrev pub words_in : Option (Text × List Row) → Option Command
 words_in None = None
 words_in (Some entered) = if bytes_eq entered.0 (codes "run") then run_of entered.1
     else (if bytes_eq entered.0 (codes "step") then step_of entered.1
-    else (if bytes_eq entered.0 (codes "check") then Some Check else None))
+    else (if bytes_eq entered.0 (codes "check") then Some Check
+    else (if bytes_eq entered.0 (codes "bench") then bench_of entered.1 else None)))
 
 -- ---- the words
 

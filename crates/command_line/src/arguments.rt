@@ -4,11 +4,16 @@ ghost use Rattle.std.specs.Prelude.{◌≡◌, IfOk, false};
 ghost use Rattle.clap.specs.Words.{app_of, rule_of};
 ghost use Rattle.clap.specs.declared.builder.Command.TheViews.{out-Command as fields_of};
 ghost use Rattle.command_line.specs.Words.{
+  bench_app,
   brief_rule,
   check_app,
   limit_rule,
+  needed_seed_rule,
   program_app,
+  ranks_rule,
+  rounds_rule,
   run_app,
+  running_app,
   seed_rule,
   step_app,
   the_app,
@@ -64,6 +69,42 @@ fn brief<'a>(alloc: Global) -> Arg<'a>
         .action(ArgAction::SetTrue)
 }
 
+/// `--seed N` where it is needed.
+fn needed_seed<'a>(alloc: Global) -> Arg<'a>
+    ensures rule { rule_of result ≡ needed_seed_rule }
+    ensures local { result.global ≡ false }
+{
+    Arg::new(alloc, "seed")
+        .long("seed")
+        .action(ArgAction::Set)
+        .value_parser(value_parser!(u32))
+        .required(true)
+}
+
+/// `--ranks R`: how many ranks there are.
+fn ranks<'a>(alloc: Global) -> Arg<'a>
+    ensures rule { rule_of result ≡ ranks_rule }
+    ensures local { result.global ≡ false }
+{
+    Arg::new(alloc, "ranks")
+        .long("ranks")
+        .action(ArgAction::Set)
+        .value_parser(value_parser!(u32).range(1..=16))
+        .required(true)
+}
+
+/// `--rounds M`: how many rounds each rank makes.
+fn rounds<'a>(alloc: Global) -> Arg<'a>
+    ensures rule { rule_of result ≡ rounds_rule }
+    ensures local { result.global ≡ false }
+{
+    Arg::new(alloc, "rounds")
+        .long("rounds")
+        .action(ArgAction::Set)
+        .value_parser(value_parser!(u32).range(1..=5_000))
+        .required(true)
+}
+
 /// `run`, with its arguments.
 fn run<'a>(alloc: Global) -> Result<Command<'a>, AllocError>
     ensures app { IfOk result (λ command. app_of command ≡ run_app) }
@@ -94,6 +135,17 @@ fn check<'a>(alloc: Global) -> Command<'a>
     Command::new(alloc, "check")
 }
 
+/// `bench`, with its arguments.
+fn bench<'a>(alloc: Global) -> Result<Command<'a>, AllocError>
+    ensures app { IfOk result (λ command. app_of command ≡ bench_app) }
+    ensures local { IfOk result (λ command. (fields_of command).has_globals ≡ false) }
+{
+    Command::new(alloc, "bench")
+        .arg(needed_seed(alloc))?
+        .arg(ranks(alloc))?
+        .arg(rounds(alloc))
+}
+
 /// The program without its subcommands.
 fn bare_program<'a>(alloc: Global) -> Command<'a>
     ensures app { app_of result ≡ program_app }
@@ -107,12 +159,20 @@ fn bare_program<'a>(alloc: Global) -> Command<'a>
         .subcommand_required(true)
 }
 
+/// The program with the subcommands that run a world text.
+fn running_program<'a>(alloc: Global) -> Result<Command<'a>, AllocError>
+    ensures { IfOk result (λ command. app_of command ≡ running_app) }
+{
+    bare_program(alloc)
+        .subcommand(run(alloc)?)?
+        .subcommand(step(alloc)?)
+}
+
 /// The program.
 pub(crate) fn program<'a>(alloc: Global) -> Result<Command<'a>, AllocError>
     ensures { IfOk result (λ command. app_of command ≡ the_app) }
 {
-    bare_program(alloc)
-        .subcommand(run(alloc)?)?
-        .subcommand(step(alloc)?)?
-        .subcommand(check(alloc))
+    running_program(alloc)?
+        .subcommand(check(alloc))?
+        .subcommand(bench(alloc)?)
 }

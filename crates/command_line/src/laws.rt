@@ -39,15 +39,19 @@ pub fn words_that_are_taken()
     ensures other_order { command_of (codes "step" ∷ codes "--brief" ∷ codes "--limit" ∷ codes "3" ∷ codes "--seed" ∷ codes "5" ∷ [])
         ≡ Some (Command.Step 5 3 true) }
     ensures check { command_of (codes "check" ∷ []) ≡ Some Command.Check }
+    ensures bench { command_of (codes "bench" ∷ codes "--seed" ∷ codes "5" ∷ codes "--ranks" ∷ codes "4" ∷ codes "--rounds" ∷ codes "3" ∷ []) ≡ Some (Command.Bench 5 4 3) }
+    ensures bench_other_order { command_of (codes "bench" ∷ codes "--rounds" ∷ codes "3" ∷ codes "--seed" ∷ codes "5" ∷ codes "--ranks" ∷ codes "4" ∷ []) ≡ Some (Command.Bench 5 4 3) }
+    ensures bench_least { command_of (codes "bench" ∷ codes "--seed" ∷ codes "0" ∷ codes "--ranks" ∷ codes "1" ∷ codes "--rounds" ∷ codes "1" ∷ []) ≡ Some (Command.Bench 0 1 1) }
+    ensures bench_most { command_of (codes "bench" ∷ codes "--seed" ∷ codes "4294967295" ∷ codes "--ranks" ∷ codes "16" ∷ codes "--rounds" ∷ codes "5000" ∷ []) ≡ Some (Command.Bench 4294967295 16 5000) }
 {}
 
-/// These words are refused: no command, one that there is not, a number that is none or out of its range, an option or a
-/// flag given twice, and words that a subcommand does not have.
+/// These words are refused: no command, one that there is not, a number that is none or out of its range, an option that is
+/// needed left out, an option or a flag given twice, and words that a subcommand does not have.
 #[tactic(auto, unfolding(crate::specs::Words::command_of, clap::proofs::OnLiterals::clap_on_literals))]
 pub fn words_that_are_refused()
     ensures nothing { command_of [] ≡ None }
     ensures empty_word { command_of ([] ∷ []) ≡ None }
-    ensures other_command { command_of (codes "bench" ∷ []) ≡ None }
+    ensures other_command { command_of (codes "play" ∷ []) ≡ None }
     ensures longer_run { command_of (codes "runs" ∷ []) ≡ None }
     ensures longer_step { command_of (codes "steps" ∷ []) ≡ None }
     ensures workers_zero { command_of (codes "run" ∷ codes "--workers" ∷ codes "0" ∷ []) ≡ None }
@@ -74,6 +78,29 @@ pub fn words_that_are_refused()
     ensures limit_twice { command_of (codes "step" ∷ codes "--limit" ∷ codes "5" ∷ codes "--limit" ∷ codes "5" ∷ []) ≡ None }
     ensures brief_twice { command_of (codes "step" ∷ codes "--brief" ∷ codes "--brief" ∷ []) ≡ None }
     ensures brief_with_value { command_of (codes "step" ∷ codes "--brief=true" ∷ []) ≡ None }
+    ensures bench_alone { command_of (codes "bench" ∷ []) ≡ None }
+    ensures bench_without_seed { command_of (codes "bench" ∷ codes "--ranks" ∷ codes "4" ∷ codes "--rounds" ∷ codes "3" ∷ []) ≡ None }
+    ensures bench_without_ranks { command_of (codes "bench" ∷ codes "--seed" ∷ codes "5" ∷ codes "--rounds" ∷ codes "3" ∷ []) ≡ None }
+    ensures bench_without_rounds { command_of (codes "bench" ∷ codes "--seed" ∷ codes "5" ∷ codes "--ranks" ∷ codes "4" ∷ []) ≡ None }
+    ensures bench_seed_twice { command_of (codes "bench" ∷ codes "--seed" ∷ codes "5" ∷ codes "--ranks" ∷ codes "4" ∷ codes "--rounds" ∷ codes "3" ∷ codes "--seed" ∷ codes "5" ∷ []) ≡ None }
+    ensures bench_ranks_twice { command_of (codes "bench" ∷ codes "--seed" ∷ codes "5" ∷ codes "--ranks" ∷ codes "4" ∷ codes "--rounds" ∷ codes "3" ∷ codes "--ranks" ∷ codes "4" ∷ []) ≡ None }
+    ensures bench_rounds_twice { command_of (codes "bench" ∷ codes "--seed" ∷ codes "5" ∷ codes "--ranks" ∷ codes "4" ∷ codes "--rounds" ∷ codes "3" ∷ codes "--rounds" ∷ codes "3" ∷ []) ≡ None }
+    ensures bench_seed_past_most { command_of (codes "bench" ∷ codes "--seed" ∷ codes "4294967296" ∷ codes "--ranks" ∷ codes "4" ∷ codes "--rounds" ∷ codes "3" ∷ []) ≡ None }
+    ensures bench_ranks_zero { command_of (codes "bench" ∷ codes "--seed" ∷ codes "5" ∷ codes "--ranks" ∷ codes "0" ∷ codes "--rounds" ∷ codes "3" ∷ []) ≡ None }
+    ensures bench_ranks_past_most { command_of (codes "bench" ∷ codes "--seed" ∷ codes "5" ∷ codes "--ranks" ∷ codes "17" ∷ codes "--rounds" ∷ codes "3" ∷ []) ≡ None }
+    ensures bench_rounds_zero { command_of (codes "bench" ∷ codes "--seed" ∷ codes "5" ∷ codes "--ranks" ∷ codes "4" ∷ codes "--rounds" ∷ codes "0" ∷ []) ≡ None }
+    ensures bench_rounds_past_most { command_of (codes "bench" ∷ codes "--seed" ∷ codes "5" ∷ codes "--ranks" ∷ codes "4" ∷ codes "--rounds" ∷ codes "5001" ∷ []) ≡ None }
+    ensures bench_seed_no_number { command_of (codes "bench" ∷ codes "--seed" ∷ codes "x" ∷ codes "--ranks" ∷ codes "4" ∷ codes "--rounds" ∷ codes "3" ∷ []) ≡ None }
+    ensures bench_ranks_no_number { command_of (codes "bench" ∷ codes "--seed" ∷ codes "5" ∷ codes "--ranks" ∷ codes "x" ∷ codes "--rounds" ∷ codes "3" ∷ []) ≡ None }
+    ensures bench_rounds_no_number { command_of (codes "bench" ∷ codes "--seed" ∷ codes "5" ∷ codes "--ranks" ∷ codes "4" ∷ codes "--rounds" ∷ codes "x" ∷ []) ≡ None }
+    ensures bench_seed_without_number { command_of (codes "bench" ∷ codes "--ranks" ∷ codes "4" ∷ codes "--rounds" ∷ codes "3" ∷ codes "--seed" ∷ []) ≡ None }
+    ensures bench_ranks_without_number { command_of (codes "bench" ∷ codes "--seed" ∷ codes "5" ∷ codes "--rounds" ∷ codes "3" ∷ codes "--ranks" ∷ []) ≡ None }
+    ensures bench_rounds_without_number { command_of (codes "bench" ∷ codes "--seed" ∷ codes "5" ∷ codes "--ranks" ∷ codes "4" ∷ codes "--rounds" ∷ []) ≡ None }
+    ensures bench_brief { command_of (codes "bench" ∷ codes "--seed" ∷ codes "5" ∷ codes "--ranks" ∷ codes "4" ∷ codes "--rounds" ∷ codes "3" ∷ codes "--brief" ∷ []) ≡ None }
+    ensures bench_workers { command_of (codes "bench" ∷ codes "--seed" ∷ codes "5" ∷ codes "--ranks" ∷ codes "4" ∷ codes "--rounds" ∷ codes "3" ∷ codes "--workers" ∷ codes "1" ∷ []) ≡ None }
+    ensures bench_limit { command_of (codes "bench" ∷ codes "--seed" ∷ codes "5" ∷ codes "--ranks" ∷ codes "4" ∷ codes "--rounds" ∷ codes "3" ∷ codes "--limit" ∷ codes "5" ∷ []) ≡ None }
+    ensures bench_word { command_of (codes "bench" ∷ codes "--seed" ∷ codes "5" ∷ codes "--ranks" ∷ codes "4" ∷ codes "--rounds" ∷ codes "3" ∷ codes "5" ∷ []) ≡ None }
+    ensures step_ranks { command_of (codes "step" ∷ codes "--ranks" ∷ codes "4" ∷ []) ≡ None }
 {}
 
 /// Words that ask for help or for the version are refused like all others.
@@ -89,6 +116,8 @@ pub fn help_and_version_are_refused()
     ensures of_step { command_of (codes "step" ∷ codes "--help" ∷ []) ≡ None }
     ensures short_of_step { command_of (codes "step" ∷ codes "-h" ∷ []) ≡ None }
     ensures of_check { command_of (codes "check" ∷ codes "--help" ∷ []) ≡ None }
+    ensures of_bench { command_of (codes "bench" ∷ codes "--seed" ∷ codes "5" ∷ codes "--ranks" ∷ codes "4" ∷ codes "--rounds" ∷ codes "3" ∷ codes "--help" ∷ []) ≡ None }
+    ensures short_of_bench { command_of (codes "bench" ∷ codes "--seed" ∷ codes "5" ∷ codes "--ranks" ∷ codes "4" ∷ codes "--rounds" ∷ codes "3" ∷ codes "-h" ∷ []) ≡ None }
 {}
 
 /// A number may have a plus and leading zeros, and 0 a minus where `=` joins it; `--` at the end says nothing.
@@ -102,15 +131,19 @@ pub fn other_forms_that_are_taken()
     ensures minus { command_of (codes "step" ∷ codes "--seed=-0" ∷ []) ≡ Some (Command.Step 0 1000000 false) }
     ensures dashes { command_of (codes "step" ∷ codes "--" ∷ []) ≡ Some (Command.Step 0 1000000 false) }
     ensures check_dashes { command_of (codes "check" ∷ codes "--" ∷ []) ≡ Some Command.Check }
+    ensures bench_plus { command_of (codes "bench" ∷ codes "--seed" ∷ codes "+5" ∷ codes "--ranks" ∷ codes "4" ∷ codes "--rounds" ∷ codes "3" ∷ []) ≡ Some (Command.Bench 5 4 3) }
+    ensures bench_zeros { command_of (codes "bench" ∷ codes "--seed" ∷ codes "5" ∷ codes "--ranks" ∷ codes "04" ∷ codes "--rounds" ∷ codes "3" ∷ []) ≡ Some (Command.Bench 5 4 3) }
+    ensures bench_joined { command_of (codes "bench" ∷ codes "--seed=-0" ∷ codes "--ranks=4" ∷ codes "--rounds=3" ∷ []) ≡ Some (Command.Bench 0 4 3) }
+    ensures bench_dashes { command_of (codes "bench" ∷ codes "--seed" ∷ codes "5" ∷ codes "--ranks" ∷ codes "4" ∷ codes "--rounds" ∷ codes "3" ∷ codes "--" ∷ []) ≡ Some (Command.Bench 5 4 3) }
 {}
 
-/// A first word that is neither `run` nor `step` nor `check` is refused, whatever follows.
+/// A first word that is neither `run` nor `step` nor `check` nor `bench` is refused, whatever follows.
 pub fn other_first_words_are_refused()
     ensures { (first : List ℕ) (rest : List (List ℕ)) → first ≢ codes "run" → first ≢ codes "step" → first ≢ codes "check"
-        → command_of (first ∷ rest) ≡ None }
+        → first ≢ codes "bench" → command_of (first ∷ rest) ≡ None }
 {}
 
-/// Every seed and limit in its range, spelled in decimal, gives just these values.
+/// Every number in its range, spelled in decimal, gives just these values.
 pub fn numbers_are_read()
     ensures run { (limit : ℕ) → 1 ≤ limit → limit ≤ 100000000
         → command_of (codes "run" ∷ codes "--workers" ∷ codes "1" ∷ codes "--limit" ∷ decimal limit ∷ codes "--brief" ∷ [])
@@ -118,6 +151,9 @@ pub fn numbers_are_read()
     ensures step { (seed limit : ℕ) → seed ≤ 4294967295 → 1 ≤ limit → limit ≤ 100000000
         → command_of (codes "step" ∷ codes "--seed" ∷ decimal seed ∷ codes "--limit" ∷ decimal limit ∷ codes "--brief" ∷ [])
         ≡ Some (Command.Step seed limit true) }
+    ensures bench { (seed ranks rounds : ℕ) → seed ≤ 4294967295 → 1 ≤ ranks → ranks ≤ 16 → 1 ≤ rounds → rounds ≤ 5000
+        → command_of (codes "bench" ∷ codes "--seed" ∷ decimal seed ∷ codes "--ranks" ∷ decimal ranks ∷ codes "--rounds" ∷ decimal rounds ∷ [])
+        ≡ Some (Command.Bench seed ranks rounds) }
 {}
 
 /// What clap takes is never refused: None stands for the words in which clap finds a fault, and for no others.

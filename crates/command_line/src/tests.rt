@@ -22,9 +22,18 @@ fn step(seed: u32, limit: u32, brief: bool) -> Option<Command> {
     Some(Command::Step { seed, limit, brief })
 }
 
+/// `bench` with these values.
+fn bench(seed: u32, ranks: u32, rounds: u32) -> Option<Command> {
+    Some(Command::Bench {
+        seed,
+        ranks,
+        rounds,
+    })
+}
+
 #[test]
 fn words_are_read(rt: HostRuntime) -> Result<(), Fail> {
-    let rows: [(&[&str], Option<Command>); 78] = [
+    let rows: [(&[&str], Option<Command>); 102] = [
         // What is asked for.
         (&["run"], run(1, 1_000_000, false)),
         (&["run", "--workers=1"], run(1, 1_000_000, false)),
@@ -59,12 +68,40 @@ fn words_are_read(rt: HostRuntime) -> Result<(), Fail> {
             step(5, 3, true),
         ),
         (&["check"], Some(Command::Check)),
+        (
+            &["bench", "--seed", "5", "--ranks", "4", "--rounds", "3"],
+            bench(5, 4, 3),
+        ),
+        (
+            &["bench", "--rounds=3", "--seed", "5", "--ranks=4"],
+            bench(5, 4, 3),
+        ),
+        (
+            &["bench", "--seed", "0", "--ranks", "1", "--rounds", "1"],
+            bench(0, 1, 1),
+        ),
+        (
+            &[
+                "bench",
+                "--seed",
+                "4294967295",
+                "--ranks",
+                "16",
+                "--rounds",
+                "5000",
+            ],
+            bench(4_294_967_295, 16, 5_000),
+        ),
         // A number may have a plus, leading zeros, and where it is 0 and joined by `=` a minus.
         (&["run", "--workers", "+1"], run(1, 1_000_000, false)),
         (&["step", "--seed", "+5"], step(5, 1_000_000, false)),
         (&["step", "--seed", "05"], step(5, 1_000_000, false)),
         (&["step", "--limit", "+007"], step(0, 7, false)),
         (&["step", "--seed=-0"], Some(PLAIN)),
+        (
+            &["bench", "--seed=-0", "--ranks", "+4", "--rounds", "03"],
+            bench(0, 4, 3),
+        ),
         // `--` ends the options.
         (&["run", "--"], run(1, 1_000_000, false)),
         (&["step", "--"], Some(PLAIN)),
@@ -81,7 +118,7 @@ fn words_are_read(rt: HostRuntime) -> Result<(), Fail> {
         (&["Step"], None),
         (&["runs"], None),
         (&["Run"], None),
-        (&["bench"], None),
+        (&["play"], None),
         (&["\u{e9}tape"], None),
         (&["run", "step"], None),
         (&["run", "--seed", "5"], None),
@@ -108,6 +145,97 @@ fn words_are_read(rt: HostRuntime) -> Result<(), Fail> {
         (&["step", "--seed", "--brief"], None),
         (&["step", "--limit", "0"], None),
         (&["step", "--limit", "100000001"], None),
+        (
+            &[
+                "bench",
+                "--seed",
+                "4294967296",
+                "--ranks",
+                "4",
+                "--rounds",
+                "3",
+            ],
+            None,
+        ),
+        (
+            &["bench", "--seed", "x", "--ranks", "4", "--rounds", "3"],
+            None,
+        ),
+        (
+            &["bench", "--seed", "-1", "--ranks", "4", "--rounds", "3"],
+            None,
+        ),
+        (
+            &["bench", "--seed", "5", "--ranks", "0", "--rounds", "3"],
+            None,
+        ),
+        (
+            &["bench", "--seed", "5", "--ranks", "17", "--rounds", "3"],
+            None,
+        ),
+        (
+            &["bench", "--seed", "5", "--ranks", "x", "--rounds", "3"],
+            None,
+        ),
+        (
+            &["bench", "--seed", "5", "--ranks", "4", "--rounds", "0"],
+            None,
+        ),
+        (
+            &["bench", "--seed", "5", "--ranks", "4", "--rounds", "5001"],
+            None,
+        ),
+        (
+            &["bench", "--seed", "5", "--ranks", "4", "--rounds", "x"],
+            None,
+        ),
+        // An option that is needed left out, or given twice, and other words.
+        (&["bench"], None),
+        (&["bench", "--ranks", "4", "--rounds", "3"], None),
+        (&["bench", "--seed", "5", "--rounds", "3"], None),
+        (&["bench", "--seed", "5", "--ranks", "4"], None),
+        (
+            &[
+                "bench", "--seed", "5", "--ranks", "4", "--rounds", "3", "--seed", "5",
+            ],
+            None,
+        ),
+        (
+            &[
+                "bench", "--seed", "5", "--ranks", "4", "--rounds", "3", "--ranks", "4",
+            ],
+            None,
+        ),
+        (
+            &[
+                "bench", "--seed", "5", "--ranks", "4", "--rounds", "3", "--rounds", "3",
+            ],
+            None,
+        ),
+        (
+            &[
+                "bench", "--seed", "5", "--ranks", "4", "--rounds", "3", "--brief",
+            ],
+            None,
+        ),
+        (
+            &[
+                "bench",
+                "--seed",
+                "5",
+                "--ranks",
+                "4",
+                "--rounds",
+                "3",
+                "--workers",
+                "1",
+            ],
+            None,
+        ),
+        (
+            &["bench", "--seed", "5", "--ranks", "4", "--rounds", "3", "3"],
+            None,
+        ),
         // A flag with a value, an option given twice, a short or an unknown one.
         (&["run", "1"], None),
         (&["step", "--brief=true"], None),

@@ -2,7 +2,7 @@
 
 ghost use Rattle.std.specs.Prelude.{◌≡◌, ◌≢◌, ◌≤◌, IfOk, ℕ, Bool, Some, map, None};
 ghost use Rattle.clap.specs.Words.{found_of, kind_of, rows_of, subcommand_rows_of};
-ghost use Rattle.command_line.specs.Words.{command_of, flag_at, number_at, run_of, step_of, words_in};
+ghost use Rattle.command_line.specs.Words.{bench_of, command_of, flag_at, number_at, run_of, step_of, words_in};
 
 use crate::arguments::program;
 use clap::error::ErrorKind;
@@ -33,6 +33,15 @@ pub enum Command {
     },
     /// `check`: replay a journal.
     Check,
+    /// `bench`: run a world that is made from a seed, and tell its numbers.
+    Bench {
+        /// Where the generator starts.
+        seed: u32,
+        /// How many ranks there are, from 1 to 16.
+        ranks: u32,
+        /// How many rounds each rank makes, from 1 to 5,000.
+        rounds: u32,
+    },
 }
 
 /// The number of an option.
@@ -76,6 +85,20 @@ fn step(matches: &ArgMatches<'_>) -> Option<Command>
     Some(Command::Step { seed, limit, brief })
 }
 
+/// What the words after `bench` ask for.
+fn bench(matches: &ArgMatches<'_>) -> Option<Command>
+    ensures { result ≡ bench_of (rows_of (found_of matches.now)) }
+{
+    let seed = number(matches, "seed")?;
+    let ranks = number(matches, "ranks")?;
+    let rounds = number(matches, "rounds")?;
+    Some(Command::Bench {
+        seed,
+        ranks,
+        rounds,
+    })
+}
+
 /// What the subcommand that was used asks for.
 fn asked(matches: &ArgMatches<'_>) -> Option<Command>
     ensures { result ≡ words_in (subcommand_rows_of matches.now) }
@@ -87,6 +110,8 @@ fn asked(matches: &ArgMatches<'_>) -> Option<Command>
         step(inner)
     } else if name == "check" {
         Some(Command::Check)
+    } else if name == "bench" {
+        bench(inner)
     } else {
         None
     }
@@ -103,7 +128,7 @@ fn refused(error: &Error) -> Result<Option<Command>, NoMemory>
 }
 
 /// What the words after the program's name ask for: `run [--workers N] [--limit N] [--brief]`,
-/// `step [--seed N] [--limit N] [--brief]` or `check`. None where the words are refused.
+/// `step [--seed N] [--limit N] [--brief]`, `check` or `bench --seed N --ranks R --rounds M`. None where the words are refused.
 pub fn read_words(alloc: Global, words: &[&str]) -> Result<Option<Command>, NoMemory>
     ensures command { IfOk result (λ command. command ≡ command_of (map (λ word. word.now) words.now)) }
     ensures workers { IfOk result (λ command. (workers limit : ℕ) (brief : Bool)
@@ -111,6 +136,9 @@ pub fn read_words(alloc: Global, words: &[&str]) -> Result<Option<Command>, NoMe
         → (1 ≤ workers) × (workers ≤ 1) × (1 ≤ limit) × (limit ≤ 100000000)) }
     ensures limit { IfOk result (λ command. (seed limit : ℕ) (brief : Bool)
         → command ≡ Some (Command.Step seed limit brief) → (1 ≤ limit) × (limit ≤ 100000000)) }
+    ensures bench { IfOk result (λ command. (seed ranks rounds : ℕ)
+        → command ≡ Some (Command.Bench seed ranks rounds)
+        → (1 ≤ ranks) × (ranks ≤ 16) × (1 ≤ rounds) × (rounds ≤ 5000)) }
 {
     let program = program(alloc)?;
     match program.try_get_matches_from(words) {

@@ -5,7 +5,7 @@ use Rattle.clap.specs.Simple.{App, app_of, is_simple, subcommand_of}
 use Rattle.clap.specs.Faults.{fault_of, is_simple_and_free}
 use Rattle.clap.specs.Kinds.{Kinds, HasKind}
 use Rattle.command_line.specs.Words.{the_app, words_in}
-use Rattle.command_line.specs.declared.words.Command.TheVariants.{Run, Step}
+use Rattle.command_line.specs.declared.words.Command.TheVariants.{Run, Step, Bench}
 use Rattle.command_line.proofs.Ranges.{command_read, fails_for, refused, taken, the_app_is_free, the_app_is_simple}
 use Rattle.command_line.proofs.words.read_words.Goals as goal
 
@@ -25,6 +25,10 @@ returns-in-Ok-clause-workers c workers limit brief e =
 pub returns-in-Ok-clause-limit : goal.returns-in-Ok-clause-limit
 returns-in-Ok-clause-limit c seed limit brief e =
     command_read (map (λ word. word.now) c.args.words.now) (Step seed limit brief) (sym (returns-in-Ok-clause-command c) ∙ e)
+
+pub returns-in-Ok-clause-bench : goal.returns-in-Ok-clause-bench
+returns-in-Ok-clause-bench c seed ranks rounds e =
+    command_read (map (λ word. word.now) c.args.words.now) (Bench seed ranks rounds) (sym (returns-in-Ok-clause-command c) ∙ e)
 
 pub returns-in-Err-clause-command : goal.returns-in-Err-clause-command
 returns-in-Err-clause-command c =
