@@ -6,5 +6,6 @@ pub mod JournalLines
 pub mod LateFaults
 pub mod OtherBytes
 pub mod ReadLines
+pub mod RingWorld
 pub mod SomeWords
 pub mod UntilJournal

@@ -25,41 +25,52 @@ left_of ranks rank = (rank + ranks - 1) % ranks
 abbrev pub once_line : ℕ → Call → Timeout → Option Reply → ScriptLine
 once_line number call timeout expected = record { number = number; call = call; timeout = timeout; tries = 1; expected = expected }
 
--- what a rank posts to its right neighbour in each round: the number at 0 of its segment, to 8 of the other, with a notification
-abbrev pub ring_call : ℕ → ℕ → Call
-ring_call ranks rank = calls.WriteNotify (record {
-  seg = 0; offset = 0; rank = right_of ranks rank; rseg = 0; roffset = 8; size = 8; note = 0; value = 1; queue = 0;
-})
+-- what a rank posts to its right neighbour in each round: the eight bytes at 0 of its segment, to 8 of the other, with a notification
+abbrev pub ring_call : ℕ → Call
+ring_call right = calls.WriteNotify (record { seg = 0; offset = 0; rank = right; rseg = 0; roffset = 8; size = 8; note = 0; value = 1; queue = 0 })
+
+-- The first lines of a round, the very first of which has a number: a rank stores eight bytes, posts them, and waits for the
+-- queue.
+abbrev pub sending_lines : ℕ → ℕ → List ℕ → List ScriptLine
+sending_lines number right sent =
+    once_line number (calls.Store (record { seg = 0; offset = 0; bytes = sent })) (Looks 1) None
+    ∷ once_line (number + 1) (ring_call right) (Looks 1) None
+    ∷ once_line (number + 2) (calls.Wait (record { queue = 0 })) Block None ∷ []
+
+-- The other lines of that round: the rank waits for the notification of its left neighbour, takes it back, expects that
+-- neighbour's eight bytes, and meets all ranks.
+abbrev pub receiving_lines : ℕ → List ℕ → List ScriptLine
+receiving_lines number received =
+    once_line (number + 3) (calls.Waitsome (record { seg = 0; begin = 0; num = 1 })) Block (Some (replies.Id 0))
+    ∷ once_line (number + 4) (calls.Reset (record { seg = 0; note = 0 })) (Looks 1) (Some (replies.Value 1))
+    ∷ once_line (number + 5) (calls.Load (record { seg = 0; offset = 8; size = 8 })) (Looks 1) (Some (replies.Bytes received))
+    ∷ once_line (number + 6) (calls.Barrier (record { group = 0 })) Block None ∷ []
+
+-- The number that a rank sends in a round. The numbers are drawn round by round, and in each round rank by rank.
+abbrev pub bench_draw : ℕ → ℕ → ℕ → ℕ → ℕ
+bench_draw seed ranks round rank = after_draws seed (round * ranks + rank + 1)
+
+-- its eight bytes, the lowest first
+abbrev pub bench_bytes : ℕ → ℕ → ℕ → ℕ → List ℕ
+bench_bytes seed ranks round rank = little_bytes 8 (bench_draw seed ranks round rank)
+
+-- The number of the first line of a rank's script in the world text: the line of the world, those of the segments and the
+-- sections of the ranks before it stand above, and its own section's line.
+abbrev pub first_number : ℕ → ℕ → ℕ → ℕ
+first_number ranks rounds rank = ranks + 3 + rank * (7 * rounds + 1)
 
 module _ (seed ranks rounds : ℕ) where
-  -- The number that a rank sends in a round. The numbers are drawn round by round, and in each round rank by rank.
-  abbrev pub bench_draw : ℕ → ℕ → ℕ
-  bench_draw round rank = after_draws seed (round * ranks + rank + 1)
-
-  -- its eight bytes, the lowest first
-  abbrev pub bench_bytes : ℕ → ℕ → List ℕ
-  bench_bytes round rank = little_bytes 8 (bench_draw round rank)
-
-  -- the lines of a rank in a round, the first of which has that number
-  abbrev pub round_lines : ℕ → ℕ → ℕ → List ScriptLine
-  round_lines rank number round =
-      once_line number (calls.Store (record { seg = 0; offset = 0; bytes = bench_bytes round rank })) (Looks 1) None
-      ∷ once_line (number + 1) (ring_call ranks rank) (Looks 1) None
-      ∷ once_line (number + 2) (calls.Wait (record { queue = 0 })) Block None
-      ∷ once_line (number + 3) (calls.Waitsome (record { seg = 0; begin = 0; num = 1 })) Block (Some (replies.Id 0))
-      ∷ once_line (number + 4) (calls.Reset (record { seg = 0; note = 0 })) (Looks 1) (Some (replies.Value 1))
-      ∷ once_line (number + 5) (calls.Load (record { seg = 0; offset = 8; size = 8 })) (Looks 1) (Some (replies.Bytes (bench_bytes round (left_of ranks rank))))
-      ∷ once_line (number + 6) (calls.Barrier (record { group = 0 })) Block None ∷ []
-
-  -- The number of the first line of a rank's script in the world text: the line of the world, those of the segments and the
-  -- sections of the ranks before it stand above, and its own section's line.
-  abbrev pub first_number : ℕ → ℕ
-  first_number rank = ranks + 3 + rank * (7 * rounds + 1)
+  -- the lines of a rank in a round
+  abbrev pub round_lines : ℕ → ℕ → List ScriptLine
+  round_lines rank round =
+      let number = first_number ranks rounds rank + 7 * round in
+      sending_lines number (right_of ranks rank) (bench_bytes seed ranks round rank)
+      ++ receiving_lines number (bench_bytes seed ranks round (left_of ranks rank))
 
   -- the lines of a rank in so many rounds
   abbrev pub bench_lines : ℕ → ℕ → List ScriptLine
   bench_lines rank zero = []
-  bench_lines rank (suc round) = bench_lines rank round ++ round_lines rank (first_number rank + 7 * round) round
+  bench_lines rank (suc round) = bench_lines rank round ++ round_lines rank round
 
   -- the scripts of so many ranks
   abbrev pub bench_scripts : ℕ → List Script

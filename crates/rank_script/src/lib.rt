@@ -2,8 +2,10 @@
 #![tactic(auto)]
 
 mod arguments;
+mod bench;
 mod call_lines;
 mod cursors;
+mod generator;
 mod line_parts;
 mod lines;
 mod readings;
@@ -12,7 +14,9 @@ mod scripts;
 mod split;
 mod world_texts;
 
+pub use bench::bench_world;
 pub use cursors::Cursor;
+pub use generator::drawn;
 pub use run_laws::runs;
 pub use scripts::{Halted, RunOutcome, Script, ScriptFault, ScriptLine, Scripts};
 pub use split::split_input;

@@ -92,7 +92,7 @@ impl Model for Scripts {
 
 impl Scripts {
     ghost use Rattle.rank_script.specs.WorldText.{is_script_of, with_section, with_line};
-    ghost use Rattle.rank_script.specs.PlainScripts.{IsPlain, MayLook, ArePlain, AreLooking};
+    ghost use Rattle.rank_script.specs.PlainScripts.{IsPlain, MayLook, HasPlainLines, HasLookingLines, ArePlain, AreLooking};
 
     /// No script. It takes no memory.
     pub fn new(alloc: Global) -> Scripts
@@ -159,5 +159,15 @@ impl Scripts {
         let last = self.scripts.len() - 1;
         let script = self.scripts.at_mut(last);
         script.lines.push(line)
+    }
+
+    /// Adds a script, behind the others. Without memory nothing changes.
+    pub(crate) fn add(&mut self, script: Script) -> Result<(), NoMemory>
+        requires plain { HasPlainLines script }
+        requires look { HasLookingLines script }
+        ensures ok { OnOk result (self.new ≡ self.old ++ script ∷ []) }
+        ensures err { OnErr result (self.new ≡ self.old) }
+    {
+        self.scripts.push(script)
     }
 }
