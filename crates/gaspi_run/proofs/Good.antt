@@ -25,7 +25,8 @@ use Rattle.rank_script.specs.Runs.{Progress, Going, Over, advanced, stopped}
 use Rattle.rank_script.specs.declared.scripts.Halted.TheVariants as halts
 use Rattle.rank_script.specs.declared.scripts.ScriptLine.{ScriptLine}
 use Rattle.rank_script.specs.declared.scripts.RunOutcome.{RunOutcome}
-use Rattle.gaspi_run.specs.Generator.{drawn, picked}
+use Rattle.rank_script.specs.Generator.{drawn}
+use Rattle.gaspi_run.specs.Generator.{picked}
 use Rattle.gaspi_run.specs.Endings.{present_need}
 use Rattle.gaspi_run.specs.Schedule.{made, looks_of, with_waiting, recorded, looked, joined, joined_answered, joined_turn, answered, going_turn, ending_turn, progress_turn, candidate_turn, candidates, with_draw, turn, turns}
 use Rattle.gaspi_run.specs.declared.turns.Waiting.{Waiting}

@@ -1,9 +1,5 @@
--- The generator of numbers of 32 bits. (own choice)
-use Rattle.std.specs.Prelude.{ℕ, ◌+◌, ◌*◌, ◌/◌, ◌%◌}
-
--- the number after a draw
-abbrev pub drawn : ℕ → ℕ
-drawn x = (69069 * x + 1) % 4294967296
+-- What a number of the generator picks. (own choice)
+use Rattle.std.specs.Prelude.{ℕ, ◌/◌, ◌%◌}
 
 -- which of n candidates a number picks
 abbrev pub picked : ℕ → ℕ → ℕ

@@ -28,7 +28,8 @@ use Rattle.rank_script.specs.declared.scripts.Script.{Script}
 use Rattle.rank_script.specs.declared.scripts.ScriptLine.{ScriptLine}
 use Rattle.rank_script.specs.declared.scripts.RunOutcome.{RunOutcome}
 use Rattle.gaspi_run.specs.Endings.{present_need}
-use Rattle.gaspi_run.specs.Generator.{drawn, picked}
+use Rattle.rank_script.specs.Generator.{drawn}
+use Rattle.gaspi_run.specs.Generator.{picked}
 use Rattle.gaspi_run.specs.declared.turns.Waiting.{Waiting}
 use Rattle.gaspi_run.specs.declared.turns.Turns.{Turns}
 use Rattle.gaspi_run.specs.declared.turns.Finished.{Finished}

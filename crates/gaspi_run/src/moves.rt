@@ -7,7 +7,7 @@ ghost use Rattle.gaspi_model.specs.CollectiveCalls.{is_joining};
 ghost use Rattle.gaspi_model.specs.Calls.{recorded_reply};
 ghost use Rattle.gaspi_model.specs.Step.{answer_in, transfer_event};
 ghost use Rattle.gaspi_model.specs.Transfers.{transfers};
-ghost use Rattle.gaspi_run.specs.Generator.{drawn, picked};
+ghost use Rattle.gaspi_run.specs.Generator.{picked};
 ghost use Rattle.gaspi_run.specs.Schedule.{made, looks_of, recorded, looked, join_args, joined, joined_turn, is_full, going_turn, ending_turn, caller_turn, candidate_turn, candidates, turn, AreActive};
 ghost use Rattle.plain_machine.specs.Looking.{IsFindingIn};
 ghost use Rattle.rank_script.specs.Runs.{advanced};
@@ -18,15 +18,8 @@ use crate::turns::{Finished, Turns, Waiting};
 use gaspi_model::{StepFault, soundness};
 use gaspi_types::{Args, Call, Event, NoMemory, Ready, Reply, Timeout, Transfer, need};
 use plain_calls::Finding;
-use rank_script::{Halted, RunOutcome};
+use rank_script::{Halted, RunOutcome, drawn};
 use std::alloc::Global;
-
-/// The generator's number after a draw.
-fn drawn(x: u32) -> u32
-    ensures { result ≡ drawn x }
-{
-    ((69069 * u64::from(x) + 1) % 4_294_967_296) as u32
-}
 
 /// The candidate that a draw picks, of so many callers that wait and so many transfers.
 fn picked(x: u32, waiting: usize, transfers: usize) -> usize
