@@ -1,23 +1,27 @@
 -- The world of `bench` and its scripts, and what a run of it to its end is.
-use Rattle.std.proofs.Common.{◌≡◌, ◌==◌, ◌||◌, ℕ, zero, suc, ◌+◌, ◌<◌, ◌≤◌, Bool, true, false, cond, if◌then◌else◌, List, [], ◌∷◌, ◌++◌, map, ◌⊎◌, inl, inr, Option, None, Some, count_by, find, refl, sym, ap, ◌∙◌, subst, arith}
+use Rattle.std.proofs.Common.{◌≡◌, ◌==◌, ◌||◌, ℕ, zero, suc, ◌+◌, ◌-◌, ◌*◌, ◌%◌, ◌^◌, ◌<◌, ◌≤◌, Bool, true, false, cond, if◌then◌else◌, List, [], ◌∷◌, ◌++◌, map, ◌⊎◌, inl, inr, Option, None, Some, Result, Ok, count_by, find, refl, sym, ap, ◌∙◌, subst, arith}
 use Rattle.std.specs.List.{All, slice_get, list_any}
 use Rattle.std.proofs.Math.Nat.{eq-or-lt_of_le}
 use Rattle.std.proofs.lemmas.Bool.{eqb-true, eq-eqb}
 use Rattle.std.proofs.lemmas.List.{map-append}
 use Rattle.std.proofs.lemmas.List.Elements.{All-nil, All-cons, All-append}
-use Rattle.gaspi_types.specs.World.{is_caller}
+use Rattle.gaspi_types.specs.World.{World, is_caller}
 use Rattle.gaspi_types.specs.declared.events.Event.{Event}
 use Rattle.gaspi_types.specs.declared.shapes.CallerId.{CallerId}
 use Rattle.gaspi_model.specs.Step.{own_calls}
 use Rattle.gaspi_model.proofs.Sound.OpenCounts.{count-append}
-use Rattle.bench_laws.specs.Laws.{RanToTheEnd}
+use Rattle.gaspi_model.specs.declared.states.State.{State}
+use Rattle.gaspi_model.specs.declared.states.Why.{Why}
+use Rattle.bench_laws.specs.Laws.{RanToTheEnd, draws_until}
+use Rattle.journal_numbers.specs.Numbers.{is_call, is_transfer, is_notification, words_until, AreNumbers}
+use Rattle.journal_numbers.specs.declared.numbers.Numbers4.{Numbers4}
 use Rattle.rank_script.specs.Bench.{bench_scripts, bench_callers, bench_lines, bench_shape}
 use Rattle.rank_script.specs.Runs.{IsRun}
 use Rattle.rank_script.specs.WorldText.{AreScriptsOf, is_script_of}
 use Rattle.rank_script.specs.declared.scripts.RunOutcome.{RunOutcome}
 use Rattle.rank_script.specs.declared.scripts.RunOutcome.TheVariants as outcomes
 use Rattle.rank_script.specs.declared.scripts.Script.{Script}
-use Rattle.gaspi_run.specs.Command.{is_wrong_outcome, is_limit_outcome, is_any_wrong, is_any_limit, run_status}
+use Rattle.gaspi_run.specs.Command.{is_wrong_outcome, is_limit_outcome, is_any_wrong, is_any_limit, run_status, bench_limit, numbers_text, AreClosed, HasBenched}
 use Rattle.gaspi_run.specs.Endings.{HasLimitCause, HasEnded, HaveEnded}
 use Rattle.gaspi_run.specs.Threads.{ToldTally, HasRunWorld}
 use Rattle.gaspi_run.specs.declared.turns.Finished.{Finished}
@@ -148,3 +152,46 @@ module _ (seed ranks rounds limit : ℕ) (journal : List Event) (tally : ToldTal
     settled = ran.settled.settled;
     runs = ran-lines;
   }
+
+-- What `bench` tells, by the laws of its runs.
+
+abbrev pub CallsLaw : Type 0
+CallsLaw = (seed ranks rounds : ℕ) (journal : List Event) → RanToTheEnd seed ranks rounds journal → count_by is_call journal ≡ ranks * (7 * rounds + 1)
+
+abbrev pub TransfersLaw : Type 0
+TransfersLaw = (seed ranks rounds : ℕ) (journal : List Event) → RanToTheEnd seed ranks rounds journal → count_by is_transfer journal ≡ 4 * ranks * rounds
+
+abbrev pub NotificationsLaw : Type 0
+NotificationsLaw = (seed ranks rounds : ℕ) (journal : List Event) → RanToTheEnd seed ranks rounds journal → count_by is_notification journal ≡ ranks * rounds
+
+abbrev pub WordsLaw : Type 0
+WordsLaw = (seed ranks rounds : ℕ) (journal : List Event) (ran : RanToTheEnd seed ranks rounds journal) → words_until ran.state ranks ≡ draws_until seed ranks (rounds - 1) ranks
+
+module _ (calls : CallsLaw) (transfers : TransfersLaw) (notifications : NotificationsLaw) (words : WordsLaw) where
+  closed-forms : (seed ranks rounds : ℕ) (journal : List Event) (numbers : Numbers4) → RanToTheEnd seed ranks rounds journal → AreNumbers (bench_shape ranks rounds) journal numbers → AreClosed seed ranks rounds numbers
+  closed-forms seed ranks rounds journal numbers ran counted =
+      let both : ◌≡◌ {A = Result State Why} (Ok counted.state) (Ok ran.state) = sym counted.leads ∙ ran.leads in
+      let same : counted.state ≡ ran.state = cc in
+      record {
+        calls = counted.calls ∙ calls seed ranks rounds journal ran;
+        transfers = counted.transfers ∙ transfers seed ranks rounds journal ran;
+        notifications = counted.notifications ∙ notifications seed ranks rounds journal ran;
+        sum = counted.sum ∙ ap (λ (n : ℕ). n % 2 ^ 64) (ap (λ (s : State). words_until s ranks) same ∙ words seed ranks rounds journal ran);
+      }
+
+  pub has-benched : (seed ranks rounds : ℕ) (shape : World) (scripts : List Script) (journal : List Event) (tally : ToldTally) (finished : List Finished) (numbers : Numbers4) (status : ℕ) (text : List ℕ)
+      → (1 ≤ ranks) × (ranks ≤ 16) → (1 ≤ rounds) × (rounds ≤ 5000) → shape ≡ bench_shape ranks rounds → scripts ≡ bench_scripts seed ranks rounds ranks
+      → HasRunWorld shape scripts bench_limit journal tally finished → AreNumbers shape journal numbers → text ≡ numbers_text numbers → status ≡ run_status finished
+      → HasBenched seed ranks rounds journal tally status text
+  has-benched seed ranks rounds shape scripts journal tally finished numbers status text few short shape_is scripts_are ran counted text_is status_is =
+      let here = subst (λ (w : World). HasRunWorld w (bench_scripts seed ranks rounds ranks) bench_limit journal tally finished) shape_is (subst (λ (ss : List Script). HasRunWorld shape ss bench_limit journal tally finished) scripts_are ran) in
+      let numbered = subst (λ (w : World). AreNumbers w journal numbers) shape_is counted in
+      record {
+        finished = finished;
+        ran = here;
+        numbers = numbers;
+        counted = numbered;
+        closed = λ well. closed-forms seed ranks rounds journal numbers (bench-ran seed ranks rounds bench_limit journal tally finished here (sym status_is ∙ well) few short) numbered;
+        text_is = text_is;
+        status_is = status_is;
+      }

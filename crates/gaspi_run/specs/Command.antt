@@ -1,5 +1,5 @@
 -- What the program does with its words and its input. (own choice)
-use Rattle.std.specs.Prelude.{◌≡◌, ◌⊎◌, ◌≤◌, ◌<◌, ℕ, ◌+◌, ◌-◌, length, drop, Bool, true, false, List, [], ◌++◌, Option, Some, None, Result, Ok, Err, codes, if◌then◌else◌}
+use Rattle.std.specs.Prelude.{◌≡◌, ◌⊎◌, ◌≤◌, ◌<◌, ℕ, ◌+◌, ◌-◌, ◌*◌, ◌%◌, ◌^◌, length, drop, Bool, true, false, List, [], ◌++◌, Option, Some, None, Result, Ok, Err, codes, if◌then◌else◌}
 use Rattle.std.specs.Option.{ForSome}
 use Rattle.std.specs.List.{list_any}
 use Rattle.std.specs.Fmt.{decimal}
@@ -18,6 +18,7 @@ use Rattle.call_journal.specs.declared.verdicts.Verdict.{Verdict}
 use Rattle.call_journal.specs.declared.verdicts.Verdict.TheVariants.{Legal, Illegal}
 use Rattle.command_line.specs.declared.words.Command.{Command}
 use Rattle.command_line.specs.declared.words.Command.TheVariants.{Run, Step, Check, Bench}
+use Rattle.bench_laws.specs.Laws.{draws_until}
 use Rattle.journal_numbers.specs.Numbers.{AreNumbers}
 use Rattle.journal_numbers.specs.declared.numbers.Numbers4.{Numbers4}
 use Rattle.rank_script.specs.Bench.{bench_shape, bench_scripts}
@@ -82,7 +83,7 @@ pub record HasRunOnThreads (limit : ℕ) (brief : Bool) (input : List ℕ) (jour
   pub status_is : status ≡ run_status finished
 
 -- What `bench` does, which reads nothing: the world of its seed, of so many ranks and rounds ran on threads. The text that it writes has
--- the numbers of the journal; its status tells how the callers ended.
+-- the numbers of the journal, and at status 0 they are the closed forms; its status tells how the callers ended.
 
 -- how many looks a call of `bench` that blocks has
 abbrev pub bench_limit : ℕ
@@ -93,11 +94,20 @@ numbers_text n =
     codes "calls " ++ decimal n.calls ++ codes "\ntransfers " ++ decimal n.transfers ++ codes "\nnotifications " ++ decimal n.notifications
     ++ codes "\nsum " ++ decimal n.sum ++ codes "\n"
 
+-- What the numbers are where every script ran to its end: each rank makes seven calls in a round, and its end; posts a write and a
+-- notification, each of which is taken and put; and finds one notification. The words are the numbers drawn in the last round.
+pub record AreClosed (seed ranks rounds : ℕ) (n : Numbers4) : Type 0 where
+  pub calls : n.calls ≡ ranks * (7 * rounds + 1)
+  pub transfers : n.transfers ≡ 4 * ranks * rounds
+  pub notifications : n.notifications ≡ ranks * rounds
+  pub sum : n.sum ≡ draws_until seed ranks (rounds - 1) ranks % 2 ^ 64
+
 pub record HasBenched (seed ranks rounds : ℕ) (journal : List Event) (tally : ToldTally) (status : ℕ) (text : List ℕ) : Type 0 where
   pub finished : List Finished
   pub ran : HasRunWorld (bench_shape ranks rounds) (bench_scripts seed ranks rounds ranks) bench_limit journal tally finished
   pub numbers : Numbers4
   pub counted : AreNumbers (bench_shape ranks rounds) journal numbers
+  pub closed : status ≡ 0 → AreClosed seed ranks rounds numbers
   pub text_is : text ≡ numbers_text numbers
   pub status_is : status ≡ run_status finished
 

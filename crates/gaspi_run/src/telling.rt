@@ -13,6 +13,7 @@ ghost use Rattle.gaspi_run.specs.Command.{is_any_wrong, is_any_limit, run_status
 use crate::scheduling::schedule;
 use crate::threads::{RanOnThreads, run_on_threads};
 use crate::turns::Finished;
+use bench_laws::{bench_calls, bench_notifications, bench_transfers, bench_words};
 use call_journal::{Verdict, check};
 use command_line::Command;
 use gaspi_model::{StepFault, Why};
@@ -164,6 +165,10 @@ pub fn tell_bench<R: Threads + Wait + Sync>(
     requires { IsWithin (commands.Bench seed ranks rounds) }
     ensures { IfOk result (λ told. HasBenched seed ranks rounds told.journal told.tally told.status told.text) }
 {
+    bench_calls();
+    bench_transfers();
+    bench_notifications();
+    bench_words();
     let (shape, scripts) = bench_world(alloc, seed, ranks, rounds)?;
     let RanOnThreads {
         journal,
