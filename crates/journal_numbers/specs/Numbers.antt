@@ -1,10 +1,9 @@
 -- The numbers that are told of a journal. (own choice)
-use Rattle.std.specs.Prelude.{◌≡◌, ℕ, zero, suc, ◌+◌, ◌%◌, ◌^◌, Bool, true, false, ◌==◌, not, List, count_by, Option, None, Some, Ok, Err}
+use Rattle.std.specs.Prelude.{◌≡◌, ℕ, zero, suc, ◌+◌, ◌%◌, ◌^◌, Bool, true, false, ◌==◌, not, List, count_by, unwrap_or, Ok, Err}
 use Rattle.gaspi_types.specs.World.{World}
-use Rattle.gaspi_types.specs.declared.calls.Call.{Call}
 use Rattle.gaspi_types.specs.declared.calls.Call.TheVariants.{Reset}
 use Rattle.gaspi_types.specs.declared.events.Event.{Event}
-use Rattle.gaspi_types.specs.declared.events.Event.TheVariants.{Called, Joined, Take, Put}
+use Rattle.gaspi_types.specs.declared.events.Event.TheVariants.{Called, Take, Put}
 use Rattle.gaspi_types.specs.declared.replies.Reply.{Reply}
 use Rattle.gaspi_types.specs.declared.replies.Reply.TheVariants.{Value}
 use Rattle.gaspi_model.specs.Step.{reached}
@@ -35,15 +34,10 @@ abbrev pub is_notification : Event → Bool
 is_notification (Called caller (Reset call) reply) = is_set_value reply
 is_notification _ = false
 
--- a word, and 0 where there is none
-abbrev pub word_or_zero : Option ℕ → ℕ
-word_or_zero None = 0
-word_or_zero (Some word) = word
-
--- the words at offset 8 of segment 0 of so many ranks, added
+-- the words at offset 8 of segment 0 of so many ranks, added, with 0 for a rank where there is none
 abbrev pub words_until : State → ℕ → ℕ
 words_until s zero = 0
-words_until s (suc rank) = words_until s rank + word_or_zero (word_in s rank 0 8)
+words_until s (suc rank) = words_until s rank + unwrap_or (word_in s rank 0 8) 0
 
 -- What the numbers of a legal journal are: its calls, its transfers, its resets that found a notification, and the sum of the words
 -- after it, modulo 2^64.
