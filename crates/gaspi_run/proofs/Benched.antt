@@ -69,12 +69,12 @@ module _ (seed ranks rounds : ℕ) where
       go : (b : Bool) → (rank == n) ≡ b → 1 ≤ count_by (is-of rank) (bench_scripts seed ranks rounds (suc n))
       go true is = (let one = last (eqb-true rank n is) in let all = both in omega arith)
       go false is = (
-        let apart : rank ≡ n → ⊥ = λ same. (let no : ◌≡◌ {A = Bool} true false = sym (eq-eqb rank n same) ∙ is in let never : ⊥ = cc in never) in
-        let below : rank < n = below-it rank n less apart in
-        let some = one-of-each n rank below in
-        let all = both in
-        omega arith
-        )
+          let apart : rank ≡ n → ⊥ = λ same. (let no : ◌≡◌ {A = Bool} true false = sym (eq-eqb rank n same) ∙ is in let never : ⊥ = cc in never) in
+          let below : rank < n = below-it rank n less apart in
+          let some = one-of-each n rank below in
+          let all = both in
+          omega arith
+          )
 
       below-it : (r m : ℕ) → r < suc m → (r ≡ m → ⊥) → r < m
       below-it r m less apart = go-on (eq-or-lt_of_le (omega arith))

@@ -28,8 +28,8 @@ journal_is_in_range-requires g c = legal-has-own c.in_ok-world.field-0.world.sta
 pub returns-clause-ran : goal.returns-clause-ran
 returns-clause-ran g c =
     let all = known c.in_ok-world.field-0.world c.args.scripts.now c.args.limit c.args.workers c.in_ok-passes.field-0.passes.items c.in_ok-passes.field-0.outcomes c.args.shape.now c.in_ok-journal.journal c.in_ok-journal.tally
-        c.in_ok-world.ensures.start c.in_ok-world.ensures.all c.requires.workers.0 c.limits.ensures.world c.requires.scripts c.len.ensures.plain c.in_ok-passes.ensures
-        c.in_ok-journal.ensures.tally c.in_ok-journal.ensures.passes c.in_ok-journal.ensures.legal c.in_ok-journal.ensures.seen c.in_ok-journal.ensures.done c.settling.ensures.stays c.waits_last.ensures in
+    c.in_ok-world.ensures.start c.in_ok-world.ensures.all c.requires.workers.0 c.limits.ensures.world c.requires.scripts c.len.ensures.plain c.in_ok-passes.ensures
+    c.in_ok-journal.ensures.tally c.in_ok-journal.ensures.passes c.in_ok-journal.ensures.legal c.in_ok-journal.ensures.seen c.in_ok-journal.ensures.done c.settling.ensures.stays c.waits_last.ensures in
     let legal = subst (λ (w : World). is_legal w c.in_ok-journal.journal ≡ true) c.in_ok-world.ensures.start c.in_ok-journal.ensures.legal in
     record {
       legal = legal;

@@ -1,0 +1,15 @@
+pub mod Sums
+pub mod Counts
+pub mod Rounds
+pub mod Callers
+pub mod Totals
+pub mod RingLanes
+pub mod RingState
+pub mod RingEffects
+pub mod RingMemories
+pub mod RingCalls
+pub mod RingTransfers
+pub mod RingHistories
+pub mod RingOpening
+pub mod Transfers
+pub mod LastWords
