@@ -1,13 +1,12 @@
 -- The words that stand at the end of a journal in which every script ran to its end.
-use Rattle.std.proofs.Common.{◌≡◌, ℕ, zero, suc, ◌+◌, ◌-◌, ◌*◌, ◌%◌, ◌^◌, ◌<◌, ◌≤◌, Bool, true, false, cond, ◌==◌, List, [], ◌∷◌, ◌++◌, length, take, drop, Option, None, Some, Ok, refl, sym, ap, ◌∙◌, subst, arith, if◌then◌else◌}
+use Rattle.std.proofs.Common.{◌≡◌, ℕ, zero, suc, ◌+◌, ◌-◌, ◌*◌, ◌%◌, ◌^◌, ◌<◌, ◌≤◌, Bool, true, false, ◌==◌, List, [], ◌∷◌, ◌++◌, length, take, drop, Option, None, Some, Ok, refl, sym, ap, ◌∙◌, subst, arith}
 use Rattle.std.specs.List.{slice_get, count_by}
 use Rattle.std.proofs.Math.Nat.{mod_self, mod-eq_of_lt, mod-lt, add-mod_right}
 use Rattle.std.proofs.lemmas.Bool.{eqb-true, le-leb}
 use Rattle.std.proofs.lemmas.List.{append_assoc, append-nil, length-take, length-drop}
-use Rattle.byteorder.specs.Endian.{little_number, little_bytes, little_from}
+use Rattle.byteorder.specs.Endian.{little_bytes, little_from}
 use Rattle.byteorder.specs.Numbers.{little_from-take, little_number-reads_back, length-bytes_low_first}
 use Rattle.gaspi_types.specs.SegmentBytes.{is_within, range_of}
-use Rattle.gaspi_types.specs.SegmentWords.{word_at}
 use Rattle.gaspi_types.specs.Segments.{bytes_in}
 use Rattle.gaspi_types.specs.World.{is_caller}
 use Rattle.gaspi_types.specs.declared.calls.Call.{Call}
@@ -16,18 +15,17 @@ use Rattle.gaspi_types.specs.declared.events.Event.{Event}
 use Rattle.gaspi_types.specs.declared.events.Event.TheVariants.{Called, Joined, Take, Put}
 use Rattle.gaspi_types.specs.declared.replies.Reply.{Reply}
 use Rattle.gaspi_types.specs.declared.replies.Reply.TheVariants as replies
-use Rattle.gaspi_types.specs.declared.segments.Segment.{Segment}
 use Rattle.gaspi_types.specs.declared.shapes.CallerId.{CallerId}
 use Rattle.gaspi_types.proofs.Chains.{both}
 use Rattle.gaspi_model.specs.Memories.{bytes_of}
 use Rattle.gaspi_model.specs.State.{opening}
-use Rattle.gaspi_model.specs.Step.{step, after, reached, own_calls}
+use Rattle.gaspi_model.specs.Step.{step, after, own_calls}
 use Rattle.gaspi_model.specs.declared.states.Memory.{Memory}
 use Rattle.gaspi_model.specs.declared.states.State.{State}
 use Rattle.gaspi_model.proofs.Changed.OwnCalls.{load-read}
 use Rattle.gaspi_model.proofs.Histories.{after-first, after-both}
 use Rattle.rank_script.specs.Bench.{bench_shape, bench_bytes, bench_draw, left_of, right_of, ring_call}
-use Rattle.rank_script.specs.Generator.{after_draws, drawn}
+use Rattle.rank_script.specs.Generator.{after_draws}
 use Rattle.bench_laws.specs.Laws.{RanToTheEnd, draws_until}
 use Rattle.journal_numbers.specs.Numbers.{words_until}
 use Rattle.plain_machine.specs.Words.{word_in, whole_word}
@@ -35,11 +33,11 @@ use Rattle.rank_script.specs.Runs.{end_pair}
 use Rattle.bench_laws.proofs.Counts.{Pair, AreOfFirst, count-append}
 use Rattle.bench_laws.proofs.RingHistories.{AreRingEvents, ring-append, counted_over, over-append, after-ring, after-slot, after-quiet, own-resets}
 use Rattle.bench_laws.proofs.RingOpening.{opening-notes, opening-slot}
-use Rattle.bench_laws.proofs.RingState.{IsRing, notes_in, slot_in, second_word, word_of, value_or, value-there, resets, posts_made}
-use Rattle.bench_laws.proofs.Rounds.{AreRounds, round_pairs, run-rounds}
+use Rattle.bench_laws.proofs.RingState.{IsRing, second_word, word_of, value_or, value-there, posts_made}
+use Rattle.bench_laws.proofs.Rounds.{AreRounds, run-rounds}
 use Rattle.bench_laws.proofs.Sums.{sum_until, sum-same}
 use Rattle.bench_laws.proofs.Totals.{is_found_pair, rounds-count}
-use Rattle.bench_laws.proofs.Transfers.{IsRingJournal, ring-journal}
+use Rattle.bench_laws.proofs.Transfers.{ring-journal}
 
 -- Where a call of a rank stands among its calls, there it stands in the journal.
 

@@ -1,12 +1,11 @@
 -- What the calls of the ring do.
-use Rattle.std.proofs.Common.{◌≡◌, ℕ, zero, suc, ◌+◌, ◌*◌, ◌<◌, ◌≤◌, Bool, true, false, ◌==◌, not, cond, List, [], ◌∷◌, ◌++◌, length, Option, None, Some, Ok, refl, sym, ap, ◌∙◌, subst, arith, ◌⊎◌, inl, inr, if◌then◌else◌}
-use Rattle.std.specs.List.{slice_get, slice_set, sum_by}
+use Rattle.std.proofs.Common.{◌≡◌, ℕ, ◌+◌, ◌*◌, ◌≤◌, Bool, true, false, ◌==◌, List, [], ◌∷◌, ◌++◌, length, Option, None, Some, Ok, refl, sym, ap, ◌∙◌, subst, arith, inl, inr}
+use Rattle.std.specs.List.{slice_get, slice_set}
 use Rattle.std.specs.Option.{option_and_then}
 use Rattle.std.proofs.lemmas.List.Sums.{sum_by-append}
 use Rattle.std.proofs.lemmas.Option.{slice_get_within}
-use Rattle.gaspi_types.specs.CallRows.{row_of}
 use Rattle.gaspi_types.specs.Lanes.{lane_owed, entry_owed, posted_entries}
-use Rattle.gaspi_types.specs.Posts.{slot_in, write_notify_item, noted_writes}
+use Rattle.gaspi_types.specs.Posts.{slot_in, noted_writes}
 use Rattle.gaspi_types.specs.Replies.{is_idle, is_done}
 use Rattle.gaspi_types.specs.SegmentBytes.{with_range}
 use Rattle.gaspi_types.specs.SegmentTables.{extent_in, known_extent}
@@ -23,15 +22,13 @@ use Rattle.gaspi_types.specs.declared.entries.Kind.{Kind}
 use Rattle.gaspi_types.specs.declared.entries.Kind.TheVariants.{Write, Notify}
 use Rattle.gaspi_types.specs.declared.entries.Queue.{Queue}
 use Rattle.gaspi_types.specs.declared.events.Event.{Event}
-use Rattle.gaspi_types.specs.declared.events.Event.TheVariants.{Called, Joined, Take, Put}
-use Rattle.gaspi_types.specs.declared.inboxes.Message.{Message}
+use Rattle.gaspi_types.specs.declared.events.Event.TheVariants.{Called}
 use Rattle.gaspi_types.specs.declared.replies.Reply.{Reply}
 use Rattle.gaspi_types.specs.declared.replies.Reply.TheVariants as replies
 use Rattle.gaspi_types.specs.declared.segments.Extent.{Extent}
 use Rattle.gaspi_types.specs.declared.segments.SegmentTable.{SegmentTable}
 use Rattle.gaspi_types.specs.declared.shapes.CallerId.{CallerId}
-use Rattle.gaspi_types.proofs.Chains.{same_Ok}
-use Rattle.gaspi_types.proofs.Items.{changed_at-found, set-there, same-or-not, there-within}
+use Rattle.gaspi_types.proofs.Items.{changed_at-found, set-there, there-within}
 use Rattle.gaspi_model.specs.Calls.{call_asks}
 use Rattle.gaspi_model.specs.Memories.{bytes_of, slots_of, with_bytes, with_slots}
 use Rattle.gaspi_model.specs.Posting.{counted}
@@ -39,7 +36,7 @@ use Rattle.gaspi_model.specs.Step.{step, owner_of}
 use Rattle.gaspi_model.specs.declared.states.Posts.{Posts}
 use Rattle.gaspi_model.specs.declared.states.Memory.{Memory}
 use Rattle.gaspi_model.specs.declared.states.State.{State}
-use Rattle.gaspi_model.proofs.Asked.{IsTransfer, AreTransfers, AreNotedWrites, near_in, far_in, noted_writes-ok}
+use Rattle.gaspi_model.proofs.Asked.{IsTransfer, AreTransfers, near_in, far_in, noted_writes-ok}
 use Rattle.gaspi_model.proofs.Changed.OwnCalls.{own-worked, slot-reset}
 use Rattle.gaspi_model.proofs.Changed.Posted.{post-done}
 use Rattle.gaspi_model.proofs.Changed.QueueCalls.{posts-worked}
@@ -48,9 +45,9 @@ use Rattle.gaspi_model.proofs.IdleSteps.{only-counted}
 use Rattle.gaspi_model.proofs.Sound.Accounts.{lane_owed-posted, post-ok}
 use Rattle.rank_script.specs.Bench.{right_of, ring_call}
 use Rattle.journal_numbers.specs.Numbers.{is_set_value}
-use Rattle.bench_laws.proofs.RingLanes.{IsRingKind, AreRingKinds, lane_notes, IsClosed, IsRingLane, kinds-append, closed-append, notes-append}
+use Rattle.bench_laws.proofs.RingLanes.{lane_notes, IsRingLane, kinds-append, closed-append, notes-append}
 use Rattle.bench_laws.proofs.RingMemories.{zero-kept, word-stored, slot-cleared, first-answered}
-use Rattle.bench_laws.proofs.RingState.{HasZero, KnowsZero, IsRingQueue, IsRingPosts, IsRing, total, total-changed, total-kept, owed_of, notes_of, is_first_set, slot_of, word_of, is_post, one_if, resets, posts_made, moves, IsMoved, IsOwn, IsLocal, queue-lane, queue-kept, posts-queue}
+use Rattle.bench_laws.proofs.RingState.{HasZero, IsRingPosts, IsRing, total, total-changed, total-kept, owed_of, notes_of, slot_of, word_of, is_post, one_if, resets, posts_made, moves, IsLocal, queue-lane, queue-kept, posts-queue}
 use Rattle.bench_laws.proofs.Totals.{is_found}
 
 -- the calls of a script

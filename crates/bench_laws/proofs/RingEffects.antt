@@ -1,7 +1,7 @@
 -- What an event of the ring does to what is counted in a state.
-use Rattle.std.proofs.Common.{◌≡◌, ℕ, zero, suc, ◌+◌, ◌-◌, ◌*◌, ◌%◌, ◌<◌, ◌≤◌, Bool, true, false, ◌==◌, cond, List, [], ◌∷◌, ◌++◌, length, Option, None, Some, Ok, refl, sym, ap, ◌∙◌, subst, arith, ◌⊎◌, inl, inr}
-use Rattle.std.specs.List.{slice_get, slice_set}
-use Rattle.std.proofs.lemmas.Bool.{eq-eqb, ne_eqb, eqb-true, eqb-false}
+use Rattle.std.proofs.Common.{◌≡◌, ℕ, ◌+◌, ◌*◌, ◌%◌, ◌<◌, ◌≤◌, Bool, true, false, ◌==◌, cond, List, [], Some, Ok, refl, sym, ap, ◌∙◌, subst, arith, ◌⊎◌, inl, inr}
+use Rattle.std.specs.List.{slice_get}
+use Rattle.std.proofs.lemmas.Bool.{eq-eqb, ne_eqb}
 use Rattle.std.proofs.Math.Nat.{mod_self, mod-eq_of_lt}
 use Rattle.std.proofs.lemmas.Option.{slice_get_within}
 use Rattle.gaspi_types.specs.declared.events.Event.{Event}
@@ -12,7 +12,7 @@ use Rattle.gaspi_model.specs.declared.states.Memory.{Memory}
 use Rattle.gaspi_model.specs.declared.states.State.{State}
 use Rattle.gaspi_model.proofs.Sound.Steps.{steps, limits-stay}
 use Rattle.rank_script.specs.Bench.{right_of}
-use Rattle.bench_laws.proofs.RingState.{HasZero, IsRingPosts, IsRing, IsMoved, IsOwn, IsSent, IsLocal, owed_of, notes_of, slot_of, word_of, owed_in, notes_in, slot_in, second_word, value_at, value-there, value-same, value-other, resets, posts_made, moves, counted_for}
+use Rattle.bench_laws.proofs.RingState.{HasZero, IsRingPosts, IsRing, IsOwn, IsSent, IsLocal, owed_of, notes_of, slot_of, word_of, owed_in, notes_in, slot_in, second_word, value_at, value-there, value-same, value-other, resets, posts_made, moves, counted_for}
 
 -- the ring goes on
 pub local-ring : (ranks : ℕ) (s t : State) (e : Event) → IsRing ranks s → step s e ≡ Ok t → IsLocal ranks s t e → IsRing ranks t

@@ -1,5 +1,5 @@
 -- Histories of the ring: what is counted over their events.
-use Rattle.std.proofs.Common.{◌≡◌, ℕ, zero, suc, ◌+◌, ◌*◌, ◌<◌, ◌≤◌, Bool, true, false, ◌==◌, cond, List, [], ◌∷◌, ◌++◌, length, Option, None, Some, Ok, refl, sym, ap, ◌∙◌, subst, arith}
+use Rattle.std.proofs.Common.{◌≡◌, ℕ, ◌+◌, ◌*◌, ◌<◌, ◌≤◌, Bool, true, false, ◌==◌, cond, List, [], ◌∷◌, ◌++◌, Ok, refl, sym, ap, ◌∙◌, subst, arith}
 use Rattle.std.specs.List.{count_by}
 use Rattle.gaspi_types.specs.declared.calls.Call.{Call}
 use Rattle.gaspi_types.specs.declared.events.Event.{Event}
@@ -19,8 +19,8 @@ use Rattle.bench_laws.proofs.RingCalls.{RingCall, call_of, call-local}
 use Rattle.bench_laws.proofs.RingEffects.{local-ring, local-owed, local-slot, local-quiet, counted-mine, counted-other, owner-within}
 use Rattle.bench_laws.proofs.RingState.{IsRing, IsLocal, owed_in, notes_in, slot_in, second_word, is_post, resets, posts_made, moves, counted_for}
 use Rattle.bench_laws.proofs.RingTransfers.{join-local, take-local, put-local}
-use Rattle.bench_laws.proofs.Sums.{sum_until, sum-same, sum-constant, sum-one}
-use Rattle.bench_laws.proofs.Totals.{is_found, is_found_pair}
+use Rattle.bench_laws.proofs.Sums.{sum_until, sum-constant, sum-one}
+use Rattle.bench_laws.proofs.Totals.{is_found_pair}
 
 -- a call of a script of a rank
 abbrev pub IsRingCall : ℕ → ℕ → Call → Type 0

@@ -1,9 +1,9 @@
 -- The lanes of the ring: writes into segment 0, and behind each a notification.
-use Rattle.std.proofs.Common.{◌≡◌, ℕ, zero, suc, ◌+◌, ◌*◌, ◌<◌, ◌≤◌, Bool, true, false, ◌==◌, ◌&&◌, ◌||◌, not, nat_lt, cond, List, [], ◌∷◌, ◌++◌, length, Option, None, Some, ◌⊎◌, inl, inr, refl, sym, ap, ◌∙◌, subst, arith, remove}
-use Rattle.std.specs.List.{slice_get, slice_set, count_by, list_any, sum_by}
+use Rattle.std.proofs.Common.{◌≡◌, ℕ, zero, suc, ◌+◌, ◌<◌, ◌≤◌, Bool, true, false, ◌&&◌, ◌||◌, not, nat_lt, cond, List, [], ◌∷◌, ◌++◌, Some, ◌⊎◌, inl, inr, refl, sym, subst, arith, remove}
+use Rattle.std.specs.List.{slice_get, count_by}
 use Rattle.std.proofs.lemmas.Bool.{lt-ltb}
 use Rattle.gaspi_types.specs.Kinds.{is_write_kind, is_notify_kind}
-use Rattle.gaspi_types.specs.Lanes.{is_write, is_notify, is_posted, is_carried, has_earlier_write, lane_owed, may_put_kind}
+use Rattle.gaspi_types.specs.Lanes.{is_write, is_notify, has_earlier_write, may_put_kind}
 use Rattle.gaspi_types.specs.declared.entries.Entry.{Entry}
 use Rattle.gaspi_types.specs.declared.entries.Kind.{Kind}
 use Rattle.gaspi_types.specs.declared.entries.Kind.TheVariants.{Write, Read, Notify, ReadNote}

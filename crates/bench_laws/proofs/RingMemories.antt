@@ -1,16 +1,13 @@
 -- The memories of the ring: what a store and a put leave of segment 0.
-use Rattle.std.proofs.Common.{◌≡◌, ℕ, zero, suc, ◌+◌, ◌<◌, ◌≤◌, Bool, true, false, ◌==◌, not, cond, List, [], ◌∷◌, ◌++◌, length, take, drop, Option, None, Some, refl, sym, ap, ◌∙◌, subst, arith, if◌then◌else◌}
+use Rattle.std.proofs.Common.{◌≡◌, ℕ, ◌+◌, ◌≤◌, Bool, true, false, ◌==◌, not, cond, List, [], ◌∷◌, ◌++◌, length, take, drop, Option, None, Some, refl, sym, ap, ◌∙◌, subst, arith}
 use Rattle.std.specs.List.{slice_get, slice_set}
-use Rattle.std.specs.Option.{option_map}
 use Rattle.std.proofs.lemmas.Slice.{drop-append-drop}
 use Rattle.gaspi_types.specs.SegmentBytes.{is_within, range_of, with_range}
 use Rattle.gaspi_types.specs.Segments as segments
 use Rattle.gaspi_types.specs.Segments.{segment_in}
 use Rattle.gaspi_types.specs.Slots as slots
-use Rattle.gaspi_types.specs.Tables.{entry_at}
 use Rattle.gaspi_types.specs.declared.segments.Segment.{Segment}
 use Rattle.gaspi_model.specs.Memories.{bytes_of, slots_of, with_bytes, with_slots}
-use Rattle.gaspi_model.specs.State.{segment_at}
 use Rattle.gaspi_model.specs.declared.states.Memory.{Memory}
 use Rattle.bench_laws.proofs.RingState.{HasZero, is_first_set, slot_of, word_of}
 

@@ -1,31 +1,26 @@
 -- The world of `bench`, and the ring at its start.
-use Rattle.std.proofs.Common.{◌≡◌, ℕ, zero, suc, ◌+◌, ◌*◌, ◌<◌, ◌≤◌, Bool, true, false, ◌==◌, ◌&&◌, cond, List, [], ◌∷◌, ◌++◌, length, map, replicate, find, Option, None, Some, refl, sym, ap, ◌∙◌, subst, arith, ◌⊎◌, inl, inr, nat_le}
+use Rattle.std.proofs.Common.{◌≡◌, ℕ, zero, suc, ◌+◌, ◌*◌, ◌<◌, ◌≤◌, Bool, true, false, ◌==◌, List, [], ◌∷◌, ◌++◌, map, replicate, find, Option, None, Some, refl, sym, ap, ◌∙◌, subst, arith, ◌⊎◌, inl, inr}
 use Rattle.std.specs.List.{slice_get, count_by, sum_by, range_with_len}
 use Rattle.std.specs.Option.{option_map, option_or, unwrap_or}
 use Rattle.std.proofs.lemmas.Bool.{eq-eqb, eqb-true, ne_eqb, le-leb}
 use Rattle.std.proofs.lemmas.List.Folds.{find-append, sum_by-replicate}
 use Rattle.gaspi_types.specs.Lanes.{lane_owed}
-use Rattle.gaspi_types.specs.Segments.{new_segment, segment_in}
-use Rattle.gaspi_types.specs.SegmentTables.{extent_in}
-use Rattle.gaspi_types.specs.Tables.{entry_at}
+use Rattle.gaspi_types.specs.Segments.{new_segment}
 use Rattle.gaspi_types.specs.World.{World, IsWorld, are_limits, is_segment, is_caller, is_segment_size}
 use Rattle.gaspi_types.specs.declared.entries.Entry.{Entry}
 use Rattle.gaspi_types.specs.declared.entries.Queue.{Queue}
 use Rattle.gaspi_types.specs.declared.segments.Extent.{Extent}
-use Rattle.gaspi_types.specs.declared.segments.Segment.{Segment}
 use Rattle.gaspi_types.specs.declared.shapes.CallerId.{CallerId}
 use Rattle.gaspi_types.specs.declared.shapes.Declared.{Declared}
 use Rattle.gaspi_types.proofs.Chains.{both}
 use Rattle.gaspi_types.proofs.Extents.{extent-at}
 use Rattle.gaspi_types.proofs.Items.{map-at, slice_get-replicate, append-parts, same-or-not}
-use Rattle.gaspi_model.specs.State.{opening, opening_posts, opening_queue, opening_extents, opening_memory, opening_slots, declared_size, new_slots}
+use Rattle.gaspi_model.specs.State.{opening, opening_posts, opening_queue, opening_extents, opening_memory, declared_size, new_slots}
 use Rattle.gaspi_model.specs.declared.states.Posts.{Posts}
-use Rattle.gaspi_model.specs.declared.states.Memory.{Memory}
-use Rattle.gaspi_model.specs.declared.states.State.{State}
 use Rattle.gaspi_model.proofs.Sound.Opening.{opens}
 use Rattle.rank_script.specs.Bench.{bench_shape, bench_segments, bench_callers}
 use Rattle.bench_laws.proofs.Callers.{range-item}
-use Rattle.bench_laws.proofs.Counts.{count-append, count-cons}
+use Rattle.bench_laws.proofs.Counts.{count-append}
 use Rattle.bench_laws.proofs.RingLanes.{lane_notes, IsRingLane}
 use Rattle.bench_laws.proofs.RingState.{HasZero, KnowsZero, IsRingQueue, IsRingPosts, IsRing, total, owed_of, notes_of, is_first_set, slot_of, owed_in, notes_in, slot_in, value_or}
 

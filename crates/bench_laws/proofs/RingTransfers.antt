@@ -1,13 +1,13 @@
 -- What joins, takes and puts do in the ring.
-use Rattle.std.proofs.Common.{◌≡◌, ℕ, zero, suc, ◌+◌, ◌*◌, ◌<◌, ◌≤◌, Bool, true, false, ◌==◌, ◌&&◌, not, cond, List, [], ◌∷◌, ◌++◌, length, Option, None, Some, Ok, refl, sym, ap, ◌∙◌, subst, arith, remove, ◌⊎◌, inl, inr, replicate}
-use Rattle.std.specs.List.{slice_get, slice_set, sum_by}
+use Rattle.std.proofs.Common.{◌≡◌, ℕ, zero, suc, ◌+◌, ◌≤◌, false, cond, List, [], Option, None, Some, Ok, refl, sym, ap, ◌∙◌, subst, arith, remove, ◌⊎◌, inl, inr, replicate}
+use Rattle.std.specs.List.{slice_get, slice_set}
 use Rattle.std.specs.Option.{unwrap_or}
-use Rattle.gaspi_types.specs.Kinds.{is_read_kind, is_notify_kind, is_outward, destination_of}
-use Rattle.gaspi_types.specs.Lanes.{lane_owed, entry_owed, is_posted, is_carried, is_notify, may_put_kind}
+use Rattle.gaspi_types.specs.Kinds.{is_read_kind, is_notify_kind, destination_of}
+use Rattle.gaspi_types.specs.Lanes.{lane_owed, is_posted, is_carried, is_notify, may_put_kind}
 use Rattle.gaspi_types.specs.SegmentBytes.{range_of}
 use Rattle.gaspi_types.specs.SegmentTables.{extent_in}
 use Rattle.gaspi_types.specs.Segments.{bytes_in}
-use Rattle.gaspi_types.specs.Tables.{entry_at, changed_at}
+use Rattle.gaspi_types.specs.Tables.{entry_at}
 use Rattle.gaspi_types.specs.declared.collectives.Coll.{Coll}
 use Rattle.gaspi_types.specs.declared.collectives.Coll.TheVariants as colls
 use Rattle.gaspi_types.specs.declared.entries.Entry.{Entry}
@@ -16,8 +16,7 @@ use Rattle.gaspi_types.specs.declared.entries.Kind.TheVariants.{Write, Read, Not
 use Rattle.gaspi_types.specs.declared.entries.Phase.{Phase}
 use Rattle.gaspi_types.specs.declared.entries.Phase.TheVariants as phases
 use Rattle.gaspi_types.specs.declared.entries.Queue.{Queue}
-use Rattle.gaspi_types.specs.declared.events.Event.{Event}
-use Rattle.gaspi_types.specs.declared.events.Event.TheVariants.{Called, Joined, Take, Put}
+use Rattle.gaspi_types.specs.declared.events.Event.TheVariants.{Joined, Take, Put}
 use Rattle.gaspi_types.specs.declared.events.Outcome.{Outcome}
 use Rattle.gaspi_types.specs.declared.events.Outcome.TheVariants.{Applied, Failed}
 use Rattle.gaspi_types.specs.declared.groups.Args.{Args}
@@ -28,28 +27,26 @@ use Rattle.gaspi_types.specs.declared.shapes.CallerId.{CallerId}
 use Rattle.gaspi_types.proofs.Chains.{both}
 use Rattle.gaspi_types.proofs.Extents.{extent-set}
 use Rattle.gaspi_types.proofs.Items.{changed_at-found, set-there, same-or-not, slice_get-set_other}
-use Rattle.gaspi_model.specs.Changes.{NotIn, IsTargetGone, put_rank}
+use Rattle.gaspi_model.specs.Changes.{IsTargetGone, put_rank}
 use Rattle.gaspi_model.specs.Memories.{slots_of}
 use Rattle.gaspi_model.specs.Posting.{counted}
 use Rattle.gaspi_model.specs.Shards.{is_create}
-use Rattle.gaspi_model.specs.Sound.{AreRising}
 use Rattle.gaspi_model.specs.State.{segment_at}
-use Rattle.gaspi_model.specs.Step.{step, owner_of}
-use Rattle.gaspi_model.specs.Transfers.{Found, Worked, memory_with, memory_with_put, memory_put, carried_bytes}
+use Rattle.gaspi_model.specs.Step.{step}
+use Rattle.gaspi_model.specs.Transfers.{Worked, memory_with_put, memory_put, carried_bytes}
 use Rattle.gaspi_model.specs.declared.states.Posts.{Posts}
 use Rattle.gaspi_model.specs.declared.states.Memory.{Memory}
 use Rattle.gaspi_model.specs.declared.states.State.{State}
 use Rattle.gaspi_model.proofs.Changed.Joins.{join-done, create-joined}
 use Rattle.gaspi_model.proofs.Changed.Transfers.{take-failed, put-failed, take-done}
-use Rattle.gaspi_model.proofs.FoundEntries.{IsFound, with_phase, with_lane}
+use Rattle.gaspi_model.proofs.FoundEntries.{with_phase}
 use Rattle.gaspi_model.proofs.Sound.Accounts.{lane_owed-phase, lane_owed-remove, posted_owes, carried_owes}
-use Rattle.gaspi_model.proofs.Sound.OpenCounts.{one-if, one-if-not}
 use Rattle.gaspi_model.proofs.Worked.{sound-put}
 use Rattle.rank_script.specs.Bench.{right_of}
 use Rattle.bench_laws.proofs.RingCalls.{own-memory, own-change, kept-change}
-use Rattle.bench_laws.proofs.RingLanes.{IsRingKind, AreRingKinds, lane_notes, IsClosed, IsRingLane, closed-empty, kind-at, kinds-phase, notes-phase, closed-phase, kinds-remove, notes-remove, closed-remove, put-first}
+use Rattle.bench_laws.proofs.RingLanes.{IsRingKind, lane_notes, IsClosed, IsRingLane, closed-empty, kind-at, kinds-phase, notes-phase, closed-phase, kinds-remove, notes-remove, closed-remove, put-first}
 use Rattle.bench_laws.proofs.RingMemories.{zero-kept, first-one}
-use Rattle.bench_laws.proofs.RingState.{HasZero, KnowsZero, IsRingQueue, IsRingPosts, IsRing, total, total-changed, owed_of, notes_of, is_first_set, slot_of, word_of, resets, posts_made, moves, IsMoved, IsOwn, IsSent, IsLocal, queue-lane, posts-queue}
+use Rattle.bench_laws.proofs.RingState.{HasZero, IsRingPosts, IsRing, total-changed, is_first_set, slot_of, word_of, IsLocal, queue-lane, posts-queue}
 
 -- Joins.
 

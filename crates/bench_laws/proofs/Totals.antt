@@ -1,5 +1,5 @@
 -- The calls and the notifications of a journal in which every script ran to its end.
-use Rattle.std.proofs.Common.{◌≡◌, ℕ, zero, suc, ◌+◌, ◌*◌, ◌<◌, ◌≤◌, Bool, true, false, List, [], ◌∷◌, ◌++◌, refl, sym, ap, ◌∙◌, arith}
+use Rattle.std.proofs.Common.{◌≡◌, ℕ, zero, suc, ◌+◌, ◌*◌, ◌<◌, Bool, true, false, List, refl, ap, ◌∙◌, arith}
 use Rattle.std.specs.List.{count_by}
 use Rattle.gaspi_types.specs.declared.calls.Call.{Call}
 use Rattle.gaspi_types.specs.declared.calls.Call.TheVariants.{Reset}
@@ -14,7 +14,7 @@ use Rattle.rank_script.specs.Runs.{end_pair}
 use Rattle.bench_laws.proofs.Callers.{bench-first}
 use Rattle.bench_laws.proofs.Counts.{Pair, pair_test, count-all, count-alike, count-append}
 use Rattle.bench_laws.proofs.Rounds.{AreRounds, round_pairs, run-rounds}
-use Rattle.bench_laws.proofs.Sums.{sum_until, sum-constant}
+use Rattle.bench_laws.proofs.Sums.{sum-constant}
 
 -- so many pairs of each round pass
 abbrev pub PassEach : ℕ → ℕ → (Pair → Bool) → ℕ → Type 0

@@ -1,12 +1,11 @@
 -- The transfers of a journal in which every script ran to its end.
-use Rattle.std.proofs.Common.{◌≡◌, ℕ, zero, suc, ◌+◌, ◌-◌, ◌*◌, ◌%◌, ◌<◌, ◌≤◌, Bool, true, false, cond, List, [], ◌∷◌, ◌++◌, length, Option, None, Some, Ok, is_none, refl, sym, ap, ◌∙◌, subst, arith}
+use Rattle.std.proofs.Common.{◌≡◌, ℕ, zero, suc, ◌+◌, ◌*◌, ◌<◌, ◌≤◌, Bool, true, false, List, [], ◌∷◌, Option, None, Some, Ok, refl, sym, ap, ◌∙◌, subst, arith}
 use Rattle.std.specs.List.{slice_get, count_by, sum_by}
-use Rattle.std.proofs.Math.Nat.{mul_assoc, mul_comm, mod_self, mod-eq_of_lt, mod-lt, add-mod_right}
+use Rattle.std.proofs.Math.Nat.{mul_assoc, mul_comm, mod-lt}
 use Rattle.std.proofs.lemmas.List.Sums.{sum_by-cons}
 use Rattle.byteorder.specs.Numbers.{length-bytes_low_first}
 use Rattle.gaspi_types.specs.Lanes.{lane_owed}
 use Rattle.gaspi_types.specs.Replies.{is_done}
-use Rattle.gaspi_types.specs.declared.entries.Entry.{Entry}
 use Rattle.gaspi_types.specs.declared.entries.Queue.{Queue}
 use Rattle.gaspi_types.specs.declared.events.Event.{Event}
 use Rattle.gaspi_types.specs.declared.replies.Reply.{Reply}
@@ -21,12 +20,12 @@ use Rattle.journal_numbers.specs.Numbers.{is_transfer}
 use Rattle.rank_script.specs.Runs.{end_pair}
 use Rattle.bench_laws.proofs.Callers.{bench-first}
 use Rattle.bench_laws.proofs.Counts.{Pair, AreOfFirst, count-append}
-use Rattle.bench_laws.proofs.RingCalls.{RingCall, Storing, Posting, Waiting, Watching, Resetting, Loading, Meeting, Ending}
+use Rattle.bench_laws.proofs.RingCalls.{Storing, Posting, Waiting, Watching, Resetting, Loading, Meeting, Ending}
 use Rattle.bench_laws.proofs.RingHistories.{AreRingEvents, AreRingPairs, pairs-append, ring-events, counted_over, after-ring, after-owed, after-slot, own-posts, own-resets, is_post_pair, all-moves}
 use Rattle.bench_laws.proofs.RingOpening.{bench-world, bench-ring, opening-owed, opening-notes, opening-slot}
-use Rattle.bench_laws.proofs.RingState.{IsRing, total, owed_in, notes_in, slot_in, owed_of, resets, posts_made, moves, one_if, value_at}
+use Rattle.bench_laws.proofs.RingState.{IsRing, owed_in, owed_of, resets, posts_made, moves}
 use Rattle.bench_laws.proofs.Rounds.{AreRounds, round_pairs, run-rounds}
-use Rattle.bench_laws.proofs.Sums.{sum_until, sum-constant}
+use Rattle.bench_laws.proofs.Sums.{sum-constant}
 use Rattle.bench_laws.proofs.Totals.{is_found_pair, rounds-count}
 
 -- at most so many pairs of each round pass
