@@ -160,27 +160,19 @@ module _ (command : Command) (before after held held' : Option (List ℕ)) (faul
 
 -- The answer of `bench`.
 
-pub answered-bench : (seed ranks rounds : ℕ) (held held' : Option (List ℕ)) (sink_faults sink_faults' : ℕ) (answer : Answer) (r : Result Told ScriptFault)
-    → IfOk r (λ told. HasBenched seed ranks rounds told.journal told.tally told.status told.text) → ((number line : ℕ) → IsErrOf r (At number line) → ⊥)
-    → Says held held' sink_faults sink_faults' answer r → AnswersBench seed ranks rounds held held' sink_faults sink_faults' answer
-answered-bench seed ranks rounds held held' sink_faults sink_faults' answer (Ok told) tells none (inl written, journal, tally) = inl (record {
+pub answered-bench : (seed ranks rounds : ℕ) (held held' : Option (List ℕ)) (sink_faults sink_faults' : ℕ) (answer : Answer) (told : Told)
+    → HasBenched seed ranks rounds told.journal told.tally told.status told.text → Says held held' sink_faults sink_faults' answer (Ok told) → AnswersBench seed ranks rounds held held' sink_faults sink_faults' answer
+answered-bench seed ranks rounds held held' sink_faults sink_faults' answer told tells (inl written, journal, tally) = inl (record {
   text = told.text;
   still = written.2;
   told = rw (written.0, journal, tally) tells;
   written = written.1;
 })
-answered-bench seed ranks rounds held held' sink_faults sink_faults' answer (Ok told) tells none (inr failed, journal, tally) = inr (inl (record {
+answered-bench seed ranks rounds held held' sink_faults sink_faults' answer told tells (inr failed, journal, tally) = inr (inl (record {
   text = told.text;
   would_be = told.status;
   of = rw (journal, tally) tells;
   front = failed.1;
   cause = failed.2;
   status = failed.0;
-}))
-answered-bench seed ranks rounds held held' sink_faults sink_faults' answer (Err (At number line)) tells none says = absurd (none number line refl)
-answered-bench seed ranks rounds held held' sink_faults sink_faults' answer (Err NoMemory) tells none (silent, empty) = inr (inr (record {
-  kept = silent.1;
-  still = silent.2;
-  status = silent.0;
-  empty = empty;
 }))

@@ -21,6 +21,7 @@ use Rattle.rank_script.specs.WorldText.{AreScriptsOf, is_script_of}
 use Rattle.rank_script.specs.declared.scripts.RunOutcome.{RunOutcome}
 use Rattle.rank_script.specs.declared.scripts.RunOutcome.TheVariants as outcomes
 use Rattle.rank_script.specs.declared.scripts.Script.{Script}
+use Rattle.rank_script.specs.declared.scripts.ScriptLine.{ScriptLine}
 use Rattle.gaspi_run.specs.Command.{is_wrong_outcome, is_limit_outcome, is_any_wrong, is_any_limit, run_status, bench_limit, numbers_text, AreClosed, HasBenched}
 use Rattle.gaspi_run.specs.Endings.{HasLimitCause, HasEnded, HaveEnded}
 use Rattle.gaspi_run.specs.Threads.{ToldTally, HasRunWorld}
@@ -58,23 +59,13 @@ module _ (seed ranks rounds : ℕ) where
 
   one-of-each : (n rank : ℕ) → rank < n → 1 ≤ count_by (is-of rank) (bench_scripts seed ranks rounds n)
   one-of-each zero rank less = absurd (omega arith)
-  one-of-each (suc n) rank less = go (rank == n) refl
+  one-of-each (suc n) rank less = go (rank == n) refl (one-of-each n rank)
     where
       both : count_by (is-of rank) (bench_scripts seed ranks rounds (suc n)) ≡ count_by (is-of rank) (bench_scripts seed ranks rounds n) + count_by (is-of rank) (script-of n ∷ [])
       both = count-append (is-of rank) (bench_scripts seed ranks rounds n) (script-of n ∷ [])
 
       last : rank ≡ n → count_by (is-of rank) (script-of n ∷ []) ≡ 1
       last is = counts (is-of rank) (script-of n) [] true (subst (λ (r : ℕ). is_caller r 0 (caller-of n) ≡ true) (sym is) (is-itself (caller-of n)))
-
-      go : (b : Bool) → (rank == n) ≡ b → 1 ≤ count_by (is-of rank) (bench_scripts seed ranks rounds (suc n))
-      go true is = (let one = last (eqb-true rank n is) in let all = both in omega arith)
-      go false is = (
-          let apart : rank ≡ n → ⊥ = λ same. (let no : ◌≡◌ {A = Bool} true false = sym (eq-eqb rank n same) ∙ is in let never : ⊥ = cc in never) in
-          let below : rank < n = below-it rank n less apart in
-          let some = one-of-each n rank below in
-          let all = both in
-          omega arith
-          )
 
       below-it : (r m : ℕ) → r < suc m → (r ≡ m → ⊥) → r < m
       below-it r m less apart = go-on (eq-or-lt_of_le (omega arith))
@@ -83,17 +74,27 @@ module _ (seed ranks rounds : ℕ) where
           go-on (inl same) = absurd (apart same)
           go-on (inr below) = below
 
+      go : (b : Bool) → (rank == n) ≡ b → (rank < n → 1 ≤ count_by (is-of rank) (bench_scripts seed ranks rounds n)) → 1 ≤ count_by (is-of rank) (bench_scripts seed ranks rounds (suc n))
+      go true is rest = (let one = last (eqb-true rank n is) in let all = both in omega arith)
+      go false is rest = (
+          let apart : rank ≡ n → ⊥ = λ same. (let no : ◌≡◌ {A = Bool} true false = sym (eq-eqb rank n same) ∙ is in let never : ⊥ = cc in never) in
+          let below : rank < n = below-it rank n less apart in
+          let some = rest below in
+          let all = both in
+          omega arith
+          )
+
 -- what is counted stands somewhere
 some-counted : {A : Type 0} (p : A → Bool) (xs : List A) → 1 ≤ count_by p xs → (k : ℕ) × (x : A) × (slice_get xs k ≡ Some x) × (p x ≡ true)
 some-counted p [] some = absurd (omega arith)
-some-counted {A} p (y ∷ xs) some = go (p y) refl
+some-counted {A} p (y ∷ xs) some = go (p y) refl (some-counted p xs)
   where
-    go : (b : Bool) → p y ≡ b → (k : ℕ) × (x : A) × (slice_get (y ∷ xs) k ≡ Some x) × (p x ≡ true)
-    go true is = (0, y, refl, is)
-    go false is =
-        let one = counts p y xs false is in
-        let rest = some-counted p xs (omega arith) in
-        (suc rest.0, rest.1, rest.2, rest.3)
+    go : (b : Bool) → p y ≡ b → (1 ≤ count_by p xs → (k : ℕ) × (x : A) × (slice_get xs k ≡ Some x) × (p x ≡ true)) → (k : ℕ) × (x : A) × (slice_get (y ∷ xs) k ≡ Some x) × (p x ≡ true)
+    go true is rest = (0, y, refl, is)
+    go false is rest =
+        let one : count_by p (y ∷ xs) ≡ 0 + count_by p xs = counts p y xs false is in
+        let found = rest (omega arith) in
+        (suc found.0, found.1, found.2, found.3)
 
 -- A run of status 0 ended well.
 
@@ -108,14 +109,14 @@ ended-well w journal c lines (outcomes.NoMemory line) right room cause = absurd 
 none-wrong : (finished : List Finished) → run_status finished ≡ 0 → (is_any_wrong finished ≡ false) × (is_any_limit finished ≡ false)
 none-wrong finished is = go (is_any_wrong finished) (is_any_limit finished) is
   where
-    go : (a b : Bool) → (if a then 3 else (if b then 8 else 0)) ≡ 0 → (a ≡ false) × (b ≡ false)
+    go : (a b : Bool) → ◌≡◌ {A = ℕ} (if a then 3 else (if b then 8 else 0)) 0 → (a ≡ false) × (b ≡ false)
     go false false at = (refl, refl)
     go false true at = absurd (omega arith)
     go true b at = absurd (omega arith)
 
 module _ (seed ranks rounds limit : ℕ) (journal : List Event) (tally : ToldTally) (finished : List Finished)
     (ran : HasRunWorld (bench_shape ranks rounds) (bench_scripts seed ranks rounds ranks) limit journal tally finished) (well : run_status finished ≡ 0) where
-  abbrev lines-of : ℕ → _
+  abbrev lines-of : ℕ → List ScriptLine
   lines-of rank = bench_lines seed ranks rounds rank rounds
 
   ran-lines : (rank : ℕ) → rank < ranks → IsRun (lines-of rank) (own_calls rank 0 journal) outcomes.Ended

@@ -170,11 +170,10 @@ pub fn run_bench<R: Threads + Wait + Sync, K: Sink>(
     requires { IsWithin (commands.Bench seed ranks rounds) }
     ensures { AnswersBench seed ranks rounds (K.held sink.old) (K.held sink.new) (K.faults sink.old) (K.faults sink.new) result }
 {
-    let told = match tell_bench(rt, alloc, seed, ranks, rounds) {
-        Ok(told) => Ok(told),
-        Err(NoMemory) => Err(ScriptFault::NoMemory),
-    };
-    answer_told(alloc, sink, told)
+    match tell_bench(rt, alloc, seed, ranks, rounds) {
+        Ok(told) => answer_told(alloc, sink, Ok(told)),
+        Err(NoMemory) => bare(alloc, 7),
+    }
 }
 
 /// Does what a command asks for.

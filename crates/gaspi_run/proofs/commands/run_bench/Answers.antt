@@ -1,5 +1,9 @@
+use Rattle.std.proofs.Common.{inr, refl}
 use Rattle.gaspi_run.proofs.Answering.{answered-bench}
 use Rattle.gaspi_run.proofs.commands.run_bench.Goals as goal
 
-pub returns : goal.returns
-returns g c = answered-bench c.args.seed c.args.ranks c.args.rounds _ _ _ _ c.answer_told.result c.told (c.told_is) (λ number line is. cc) c.answer_told.ensures
+pub returns-in-Ok : goal.returns-in-Ok
+returns-in-Ok g c = answered-bench c.args.seed c.args.ranks c.args.rounds _ _ _ _ c.answer_told.result c.in-Ok.told c.in-Ok.ensures c.answer_told.ensures
+
+pub returns-in-Err : goal.returns-in-Err
+returns-in-Err g c = inr (inr (record { kept = refl; still = refl; status = c.bare.ensures.0; empty = c.bare.ensures.1 }))

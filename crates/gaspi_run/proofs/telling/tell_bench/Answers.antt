@@ -1,6 +1,7 @@
 -- What `bench` tells.
 use Rattle.std.proofs.Common.{List, Some, sym, ap, ◌∙◌, subst}
 use Rattle.gaspi_types.specs.World.{World}
+use Rattle.rank_script.specs.Bench.{bench_shape}
 use Rattle.rank_script.specs.WorldText.{AreScriptsOf}
 use Rattle.rank_script.specs.declared.scripts.Script.{Script}
 use Rattle.gaspi_run.specs.Command.{run_status}
@@ -8,9 +9,9 @@ use Rattle.gaspi_run.proofs.Benched.{bench-scripts-of, has-benched}
 use Rattle.gaspi_run.proofs.telling.tell_bench.Goals as goal
 
 pub run_on_threads-requires-clause-scripts : goal.run_on_threads-requires-clause-scripts
-run_on_threads-requires-clause-scripts g c =
+run_on_threads-requires-clause-scripts g c κs within =
     subst (λ (w : World). AreScriptsOf w c.in_ok-shape.scripts) (sym c.in_ok-shape.ensures.shape)
-    (subst (λ (scripts : List Script). AreScriptsOf _ scripts) (sym c.in_ok-shape.ensures.scripts) (bench-scripts-of c.args.seed c.args.ranks c.args.rounds))
+    (subst (λ (scripts : List Script). AreScriptsOf (bench_shape c.args.ranks c.args.rounds) scripts) (sym c.in_ok-shape.ensures.scripts) (bench-scripts-of c.args.seed c.args.ranks c.args.rounds))
 
 pub returns : goal.returns
 returns g c =
