@@ -2,7 +2,8 @@
 use Rattle.std.proofs.Common.{ℕ, List, [], Option, None, Some, refl, inr, arith}
 use Rattle.gaspi_io.specs.Source.{TakesAtMost}
 use Rattle.command_line.specs.declared.words.Command.{Command}
-use Rattle.gaspi_run.specs.Command.{Refuses, Answers}
+use Rattle.command_line.specs.declared.words.Command.TheVariants.{Run, Step, Check, Bench}
+use Rattle.gaspi_run.specs.Command.{Refuses, Answers, LacksMemory}
 use Rattle.gaspi_run.specs.declared.commands.Answer.{Answer}
 
 -- no memory, and nothing told
@@ -16,11 +17,17 @@ nothing-taken most (Some bytes) = record { count = 0; within = omega arith; rest
 pub starved-refuses : (held : Option (List ℕ)) (faults : ℕ) → Refuses held held faults faults starved
 starved-refuses held faults = record { says = inr (inr (refl, refl, refl)); empty = (refl, refl) }
 
-pub starved-answers : (command : Command) (left held : Option (List ℕ)) (faults sink_faults : ℕ) → Answers command left left faults faults held held sink_faults sink_faults starved
-starved-answers command left held faults sink_faults = inr (inr (inr (inr (record {
+starved-input : (left held : Option (List ℕ)) (faults sink_faults : ℕ) → LacksMemory left left held held faults faults sink_faults sink_faults starved
+starved-input left held faults sink_faults = record {
   taken = nothing-taken _ left;
   kept = refl;
   still = (refl, refl);
   status = refl;
   empty = (refl, refl);
-}))))
+}
+
+pub starved-answers : (command : Command) (left held : Option (List ℕ)) (faults sink_faults : ℕ) → Answers command left left faults faults held held sink_faults sink_faults starved
+starved-answers (Run workers limit brief) left held faults sink_faults = inr (inr (inr (inr (starved-input left held faults sink_faults))))
+starved-answers (Step seed limit brief) left held faults sink_faults = inr (inr (inr (inr (starved-input left held faults sink_faults))))
+starved-answers Check left held faults sink_faults = inr (inr (inr (inr (starved-input left held faults sink_faults))))
+starved-answers (Bench seed ranks rounds) left held faults sink_faults = (refl, refl, inr (inr (record { kept = refl; still = refl; status = refl; empty = (refl, refl) })))
