@@ -13,8 +13,8 @@ use crate::attempts::{Halt, attempt};
 use crate::starts::Start;
 use crate::worlds::Pass;
 use commit_table::CommitTable;
-use crossbeam_utils::Backoff;
 use gaspi_types::{Call, CallerId, Reply, Timeout};
+use pauses::Pauses;
 use std::alloc::Global;
 use std::sync::Wait;
 use timeout_state::Budget;
@@ -28,8 +28,8 @@ pub enum Stop {
     EventLimit,
 }
 
-/// Makes a call: it looks until the call is recorded, backing off between looks, and never holds the shard meanwhile. A missed shard
-/// is no look. (GASPI: timeouts)
+/// Makes a call: it looks until the call is recorded, pausing between looks, and never holds the shard meanwhile. A missed shard is
+/// no look. (GASPI: timeouts)
 pub fn call<R: Wait>(
     rt: &R,
     table: &CommitTable<Start>,
@@ -49,16 +49,16 @@ pub fn call<R: Wait>(
     ensures ends { call.now ≡ End → result ≢ Err NoMemory }
     ensures calls { Calls table.now.start.shape caller.now call.now timeout pass.old.known result pass.new.known }
 {
-    let backoff = Backoff::new();
+    let mut pauses = Pauses::new();
     let mut budget = Budget::new(timeout);
     let mut look = budget.next();
     for _ in rt.forever() {
         match attempt(table, pass, alloc, caller, call, look) {
             Ok(reply) => return Ok(reply),
-            Err(Halt::Busy) => backoff.snooze(),
+            Err(Halt::Busy) => pauses.pause(rt),
             Err(Halt::NotYet) => {
                 look = budget.next();
-                backoff.snooze();
+                pauses.pause(rt);
             }
             Err(Halt::EventLimit) => return Err(Stop::EventLimit),
             Err(Halt::NoMemory) => return Err(Stop::NoMemory),

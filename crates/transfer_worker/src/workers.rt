@@ -8,9 +8,9 @@ ghost use Rattle.transfer_worker.specs.Turns.{GoesOn, Turned, IsDrained};
 
 use crate::rounds::try_all;
 use crate::turns::Turn;
-use crossbeam_utils::Backoff;
 use gaspi_types::NoMemory;
 use gaspi_world::{Pass, World};
+use pauses::Pauses;
 use std::alloc::Global;
 use std::sync::Wait;
 
@@ -57,12 +57,12 @@ impl<'a> Worker<'a> {
         ensures legal { is_legal self.old.world.now.start.shape self.new.pass.now.known.seen ≡ true }
         ensures drained { OnOk result (IsDrained self.old.world.now.start.shape self.new.pass.now.known.seen) }
     {
-        let backoff = Backoff::new();
+        let mut pauses = Pauses::new();
         for _ in rt.forever() {
             match self.turn(alloc)? {
-                Turn::Moved => backoff.reset(),
-                Turn::Busy => backoff.snooze(),
-                Turn::Idle => backoff.snooze(),
+                Turn::Moved => pauses.reset(),
+                Turn::Busy => pauses.pause(rt),
+                Turn::Idle => pauses.pause(rt),
                 Turn::Drained => return Ok(()),
             }
         }
