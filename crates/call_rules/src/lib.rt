@@ -16,6 +16,3 @@ pub use comparisons::{same_args, same_coll, same_reply};
 pub use members::{Members, members_of};
 pub use numbers::reduce;
 pub use pendings::resume;
-
-#[cfg(test)]
-mod tests;

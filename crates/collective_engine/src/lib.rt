@@ -17,6 +17,3 @@ mod slots;
 pub use call_rules::{check_count, check_type};
 pub use generations::Generations;
 pub use rounds::Rounds;
-
-#[cfg(test)]
-mod tests;

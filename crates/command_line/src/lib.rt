@@ -11,6 +11,3 @@ pub use laws::{
     words_without_a_fault_are_taken,
 };
 pub use words::{Command, read_words};
-
-#[cfg(test)]
-mod tests;

@@ -7,4 +7,6 @@ mod races;
 pub use races::{raise_often, raised_by_two};
 
 #[cfg(test)]
+mod one_table;
+#[cfg(test)]
 mod tests;

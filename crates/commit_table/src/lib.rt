@@ -31,6 +31,3 @@ pub use ranks::{Act, Noted, RankPart, TwoRanks, parts_are_the_history};
 pub use sharded::Sharded;
 pub use table::CommitTable;
 pub use views::{Known, Turn, View};
-
-#[cfg(test)]
-mod tests;

@@ -21,6 +21,3 @@ pub use source::Source;
 pub use standard::{StdSink, StdSource};
 pub use sure::{SureSink, SureSource};
 pub use write::write_all;
-
-#[cfg(test)]
-mod tests;

@@ -5,7 +5,6 @@ pub mod Going
 pub mod Histories
 pub mod Holdings
 pub mod Looks
-pub mod Mapped
 pub mod Numbers
 pub mod OwnEvents
 pub mod Recordable

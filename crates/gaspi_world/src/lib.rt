@@ -31,8 +31,3 @@ pub use ranks::{Note, Rank};
 pub use shards::{Placed, WorldShard};
 pub use starts::Start;
 pub use worlds::{Pass, Passes, Started, World};
-
-#[cfg(test)]
-mod tests;
-#[cfg(test)]
-mod two_senders;

@@ -13,6 +13,3 @@ mod meetings;
 pub use groups::Groups;
 pub use laws::no_id_is_given_again;
 pub use meetings::Meeting;
-
-#[cfg(test)]
-mod tests;

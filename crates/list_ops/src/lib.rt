@@ -10,6 +10,3 @@ mod stops;
 
 pub use builds::build;
 pub use stops::BuildStop;
-
-#[cfg(test)]
-mod tests;

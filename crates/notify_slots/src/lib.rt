@@ -9,6 +9,3 @@ mod ranges;
 mod slots;
 
 pub use slots::Slots;
-
-#[cfg(test)]
-mod tests;

@@ -9,6 +9,3 @@
 mod inbox;
 
 pub use inbox::Inbox;
-
-#[cfg(test)]
-mod tests;

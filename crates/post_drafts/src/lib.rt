@@ -10,6 +10,3 @@ mod entries;
 
 pub use drafts::{Draft, payload_size};
 pub use entries::Entries;
-
-#[cfg(test)]
-mod tests;

@@ -16,6 +16,3 @@ mod tallies;
 pub use entries::PostedEntry;
 pub use lanes::Lanes;
 pub use laws::{puts, takes};
-
-#[cfg(test)]
-mod tests;

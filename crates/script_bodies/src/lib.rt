@@ -9,6 +9,3 @@ mod looks;
 mod running;
 
 pub use bodies::ScriptBody;
-
-#[cfg(test)]
-mod tests;

@@ -15,6 +15,3 @@ mod tables;
 pub use laws::{extents, writes};
 pub use segments::Segments;
 pub use stops::PartStop;
-
-#[cfg(test)]
-mod tests;

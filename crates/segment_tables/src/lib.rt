@@ -22,6 +22,3 @@ pub use tables::{
     next_generation, remove_own, set_known,
 };
 pub use words::{add_to_word, check_word, swap_word, word_at};
-
-#[cfg(test)]
-mod tests;

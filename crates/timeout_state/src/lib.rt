@@ -12,6 +12,3 @@ mod pending;
 pub use budget::{Budget, Look};
 pub use laws::last_look_is_final;
 pub use pending::Pending;
-
-#[cfg(test)]
-mod tests;

@@ -12,6 +12,3 @@ mod workers;
 
 pub use turns::Turn;
 pub use workers::Worker;
-
-#[cfg(test)]
-mod tests;
