@@ -1,20 +1,18 @@
-//! Tests alone: the public calls of the lower crates with ample memory, and values that no run has. A crate with a test is
-//! proved twice, so these crates have theirs here.
+//! Tests alone, of calls of the large crates that no command makes, and of the texts of faults. What the commands call is
+//! tested by the tables of whole runs in `tests/`, with ample memory and every byte compared.
+//!
+//! Values that a test is not about are made in functions without clauses, so that its proof does not carry them.
 #![tactic(auto)]
 
 #[cfg(test)]
-mod journals;
+mod faults;
 #[cfg(test)]
-mod lists;
+mod journals;
 #[cfg(test)]
 mod machine;
 #[cfg(test)]
 mod one_rank;
 #[cfg(test)]
-mod replies;
-#[cfg(test)]
 mod scripts;
 #[cfg(test)]
 mod texts;
-#[cfg(test)]
-mod types;

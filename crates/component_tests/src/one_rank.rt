@@ -1,7 +1,4 @@
-//! A world of one rank with a segment of 16 bytes and one thread, which notifies its own rank. Each caller, call and
-//! event is made anew where it is needed.
-
-ghost use Rattle.std.specs.Prelude.{◌≡◌};
+//! A world of one rank with a segment of 16 bytes and one thread, which notifies its own rank.
 
 use gaspi_types::{
     Call, CallerId, Event, Notify, Outcome, QueueId, RankId, Reply, Shape, ThreadId,
@@ -18,50 +15,26 @@ pub fn shape(alloc: Global) -> Result<Shape, Fail> {
 }
 
 /// Its only caller.
-pub fn caller() -> CallerId
-    ensures rank { result.rank ≡ 0 }
-    ensures thread { result.thread ≡ 0 }
-{
+pub fn caller() -> CallerId {
     CallerId {
         rank: RankId::of(0),
         thread: ThreadId::of(0),
     }
 }
 
-/// A notification of the rank to itself, on slot 3.
-pub fn notify() -> Call {
-    Call::Notify(Notify {
+/// The call of a notification of the rank to itself, on slot 3.
+pub fn notified(caller: CallerId) -> Event {
+    let notify = Notify {
         rseg: 0,
         rank: 0,
         note: 3,
         value: 7,
         queue: 0,
-    })
-}
-
-/// The call of it.
-pub fn notified() -> Event {
-    Event::Called(caller(), notify(), Reply::Done)
+    };
+    Event::Called(caller, Call::Notify(notify), Reply::Done)
 }
 
 /// Its take.
-pub fn taken() -> Event {
-    Event::Take(
-        RankId::of(0),
-        QueueId::of(0),
-        RankId::of(0),
-        0,
-        Outcome::Applied,
-    )
-}
-
-/// Its put.
-pub fn put() -> Event {
-    Event::Put(
-        RankId::of(0),
-        QueueId::of(0),
-        RankId::of(0),
-        0,
-        Outcome::Applied,
-    )
+pub fn taken(rank: RankId) -> Event {
+    Event::Take(rank, QueueId::of(0), rank, 0, Outcome::Applied)
 }

@@ -1,7 +1,10 @@
-//! Tests alone: the streams and the words of the program. A crate with a test is proved twice, so these crates have theirs here.
+//! Tests alone, of sources and sinks. That whole runs go well over them, and what is said where a read or a write fails, is
+//! tested in `acceptance`; the words of the program are tested in `tests/words.table`.
+//!
+//! What a test looks at is made in functions without clauses, so that its proof does not carry it.
 #![tactic(auto)]
 
 #[cfg(test)]
-mod streams;
+mod pieces;
 #[cfg(test)]
-mod words;
+mod system;

@@ -312,8 +312,8 @@ module _ {S : Type 0} (w : World) (c : CallerId) where
       unready times j h (inr is) = ap (λ (x : List Event). is_waiting (found_after w c call x)) is ∙ called.timely times
 
   -- a call that is not recorded
-  pub waited-stopped : (call : Call) (full : Bool) (v n : Known S Event) (ns : List ℕ) → HaveWaited w c ns v → IsStopped w c call full v n → HaveWaited w c ns n
-  waited-stopped call full v n ns so_far stopped =
+  pub waited-stopped : (call : Call) (timeout : timeouts.Timeout) (full : Bool) (v n : Known S Event) (ns : List ℕ) → HaveWaited w c ns v → IsStopped w c call timeout full v n → HaveWaited w c ns n
+  waited-stopped call timeout full v n ns so_far stopped =
       let none = first-join w c call stopped.earlier stopped.last stopped.joins stopped.joined in
       let mine : own_calls c.rank c.thread n.mine ≡ own_calls c.rank c.thread v.mine = ap (λ (h : List Event). own_calls c.rank c.thread h) stopped.mine
       ∙ (own-append c v.mine stopped.joins ∙ (ap (λ (ps : List (Call × Reply)). own_calls c.rank c.thread v.mine ++ ps) none ∙ append-nil (own_calls c.rank c.thread v.mine))) in

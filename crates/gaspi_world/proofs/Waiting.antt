@@ -1,5 +1,5 @@
 -- What holds between two looks of a call.
-use Rattle.std.proofs.Common.{◌≡◌, ◌⊎◌, ℕ, zero, suc, ◌+◌, ◌-◌, ◌==◌, Bool, true, false, List, [], ◌∷◌, ◌++◌, map, length, length-append, Option, None, Some, Result, Ok, Err, inl, inr, refl, sym, ap, ◌∙◌, subst, arith}
+use Rattle.std.proofs.Common.{◌≡◌, ◌⊎◌, ℕ, zero, suc, ◌+◌, ◌-◌, ◌<◌, ◌==◌, Bool, true, false, List, [], ◌∷◌, ◌++◌, map, length, length-append, Option, None, Some, Result, Ok, Err, inl, inr, refl, sym, ap, ◌∙◌, subst, arith}
 use Rattle.std.specs.List.{slice_get}
 use Rattle.std.proofs.lemmas.Bool.{eq-eqb, eqb-true}
 use Rattle.std.proofs.lemmas.List.{append_assoc, append-nil, map-append}
@@ -24,14 +24,14 @@ use Rattle.gaspi_model.proofs.Histories.{prefix, after-first, after-both, leads,
 use Rattle.gaspi_model.proofs.Listed.Joining.{pending-joins-not}
 use Rattle.gaspi_model.proofs.Listed.Readiness.{unready-waits}
 use Rattle.gaspi_model.proofs.Sound.Steps.{steps}
-use Rattle.timeout_state.specs.Looks.{looks_of, left_after, answer_of, spent}
+use Rattle.timeout_state.specs.Looks.{looks_of, left_after, answer_of, spent, HasLook}
 use Rattle.timeout_state.specs.declared.budget.Look.{Look}
 use Rattle.timeout_state.specs.declared.budget.Look.TheVariants.{More, Final}
 use Rattle.commit_table.specs.declared.views.Known.{Known}
 use Rattle.commit_table.proofs.Lists.{prefix_self, prefix_trans}
-use Rattle.gaspi_world.specs.Attempts.{is_waiting, found_after, is_pending_after, MayHaveJoined, GoesOn, HasCommitted, IsLook, IsBusy, IsNotYet, IsRecorded, IsAtLimit, IsOutOfMemory}
+use Rattle.gaspi_world.specs.Attempts.{is_waiting, found_after, is_full_after, is_pending_after, MayHaveJoined, GoesOn, HasCommitted, IsLook, IsBusy, IsNotYet, IsRecorded, IsAtLimit, IsOutOfMemory}
 use Rattle.gaspi_world.specs.Callers.{events_of, is_event_of}
-use Rattle.gaspi_world.specs.Calling.{AreUnready, JoinedFirst, AreLooks, IsCalled, IsStopped, HasWaited}
+use Rattle.gaspi_world.specs.Calling.{AreUnready, HadRoom, JoinedFirst, AreLooks, IsCalled, IsStopped, HasWaited}
 use Rattle.gaspi_world.proofs.Recordable.{join-group}
 use Rattle.gaspi_world.proofs.StaysPending.{pending-stays}
 use Rattle.gaspi_world.proofs.Working.{committed-both}
@@ -121,6 +121,12 @@ final-spent k (Some n) last =
     let one : n - k ≡ 1 = final-one (n - k) ((n - k) == 1) refl left in
     ap (λ (m : ℕ). Some m) (omega arith)
 
+-- where there is a look yet after so many, there were fewer than there are in all
+few-looks : (k : ℕ) (o : Option ℕ) → HasLook (left_after k o) → (most : ℕ) → o ≡ Some most → k < most
+few-looks k o left most is =
+    let some : HasLook (Some (most - k)) = subst HasLook (ap (left_after k) is ∙ left-some k most) left in
+    omega arith
+
 pub left-more : (k : ℕ) (o : Option ℕ) → left_after (suc k) o ≡ spent (left_after k o)
 left-more zero o = refl
 left-more (suc k) o = left-more k (spent o)
@@ -145,6 +151,13 @@ module _ (w : World) (c : CallerId) (call : Call) where
       go (inl there) = unready k g there
       go (inr same) = ap (λ (x : List Event). is_waiting (found_after w c call x)) same ∙ now
 
+  room-more : (earlier : List (List Event)) (h : List Event) → HadRoom w c call earlier → is_full_after w c call h ≡ false → HadRoom w c call (earlier ++ h ∷ [])
+  room-more earlier h roomy now k g at = go (at-snoc earlier h k g at)
+    where
+      go : (slice_get earlier k ≡ Some g) ⊎ (g ≡ h) → is_full_after w c call g ≡ false
+      go (inl there) = roomy k g there
+      go (inr same) = ap (is_full_after w c call) same ∙ now
+
 module _ {S : Type 0} (w : World) (c : CallerId) (call : Call) where
   pub waited-none : (v : Known S Event) → HasWaited w c call [] v v
   waited-none v = record {
@@ -153,6 +166,7 @@ module _ {S : Type 0} (w : World) (c : CallerId) (call : Call) where
     start = refl;
     looks = record { looks = sym (append-nil v.looks); between = λ k h at. absurd (none-at k h at) };
     unready = λ k h at. absurd (none-at k h at);
+    roomy = λ k h at. absurd (none-at k h at);
     joins = [];
     joined = refl;
     mine = sym (append-nil v.mine);
@@ -197,6 +211,7 @@ module _ {S : Type 0} (w : World) (c : CallerId) (call : Call) where
         start = busy.goes_on.start ∙ waited.start;
         looks = looks-on v m n earlier waited.looks busy.goes_on.seen busy.missed.looks;
         unready = waited.unready;
+        roomy = waited.roomy;
         joins = waited.joins;
         joined = waited.joined;
         mine = busy.missed.mine ∙ waited.mine;
@@ -215,6 +230,7 @@ module _ {S : Type 0} (w : World) (c : CallerId) (call : Call) where
         start = early.goes_on.start ∙ waited.start;
         looks = looks-more v m n earlier early.history waited.seen waited.looks early.looked.is_look early.looked.looks;
         unready = unready-more w c call earlier early.history waited.unready early.unready;
+        roomy = room-more w c call earlier early.history waited.roomy early.room;
         joins = waited.joins ++ early.joins;
         joined = joined-more w c call earlier early.history waited.joins early.joins waited.joined pending early.joined;
         mine = early.mine ∙ (ap (λ (es : List Event). es ++ early.joins) waited.mine ∙ append_assoc v.mine waited.joins early.joins);
@@ -234,15 +250,17 @@ module _ {S : Type 0} (w : World) (c : CallerId) (call : Call) where
 
   -- the last look
   pub called-now : (v m n : Known S Event) (earlier : List (List Event)) (look : Look) (timeout : timeouts.Timeout) (reply : Reply) → IsWorld w → HasWaited w c call earlier v m → IsRecorded w c call look reply m n
-      → look ≡ answer_of (left_after (length earlier) (looks_of timeout)) → IsCalled w c call timeout reply v n
-  called-now v m n earlier look timeout reply world waited done last =
+      → look ≡ answer_of (left_after (length earlier) (looks_of timeout)) → HasLook (left_after (length earlier) (looks_of timeout)) → IsCalled w c call timeout reply v n
+  called-now v m n earlier look timeout reply world waited done last left =
       let pending = pending-next v m n earlier done.history world waited done.looked.is_look done.goes_on.legal in
       record {
         goes_on = on-from v m n earlier waited done.goes_on;
         earlier = earlier;
         last = done.history;
         looks = looks-more v m n earlier done.history waited.seen waited.looks done.looked.is_look done.looked.looks;
+        within = few-looks (length earlier) (looks_of timeout) left;
         unready = waited.unready;
+        roomy = waited.roomy;
         joins = waited.joins ++ done.joins;
         joined = joined-more w c call earlier done.history waited.joins done.joins waited.joined pending done.joined;
         before = done.before;
@@ -259,15 +277,17 @@ module _ {S : Type 0} (w : World) (c : CallerId) (call : Call) where
       before k h (inl at) = prefix_trans h m.seen done.before (waited.looks.between k h at).1 (prefix_trans m.seen done.history done.before done.looked.is_look.later done.after_look)
       before k h (inr same) = subst (λ (x : List Event). IsPrefix x done.before) (sym same) done.after_look
 
-  pub stopped-full : (v m n : Known S Event) (earlier : List (List Event)) → IsWorld w → HasWaited w c call earlier v m → IsAtLimit w c call m n → IsStopped w c call true v n
-  stopped-full v m n earlier world waited stop =
+  pub stopped-full : (v m n : Known S Event) (earlier : List (List Event)) (timeout : timeouts.Timeout) → IsWorld w → HasWaited w c call earlier v m → IsAtLimit w c call m n → HasLook (left_after (length earlier) (looks_of timeout)) → IsStopped w c call timeout true v n
+  stopped-full v m n earlier timeout world waited stop left =
       let pending = pending-next v m n earlier n.seen world waited stop.looked.is_look stop.goes_on.legal in
       record {
         goes_on = on-from v m n earlier waited stop.goes_on;
         earlier = earlier;
         last = n.seen;
         looks = looks-more v m n earlier n.seen waited.seen waited.looks stop.looked.is_look stop.looked.looks;
+        within = few-looks (length earlier) (looks_of timeout) left;
         unready = waited.unready;
+        roomy = waited.roomy;
         joins = waited.joins;
         joined = subst (JoinedFirst w c call (earlier ++ n.seen ∷ [])) (append-nil waited.joins) (joined-more w c call earlier n.seen waited.joins [] waited.joined pending (inl refl));
         mine = stop.mine ∙ waited.mine;
@@ -276,15 +296,17 @@ module _ {S : Type 0} (w : World) (c : CallerId) (call : Call) where
         now = λ full. refl;
       }
 
-  pub stopped-empty : (v m n : Known S Event) (earlier : List (List Event)) → IsWorld w → HasWaited w c call earlier v m → IsOutOfMemory w c call m n → IsStopped w c call false v n
-  stopped-empty v m n earlier world waited stop =
+  pub stopped-empty : (v m n : Known S Event) (earlier : List (List Event)) (timeout : timeouts.Timeout) → IsWorld w → HasWaited w c call earlier v m → IsOutOfMemory w c call m n → HasLook (left_after (length earlier) (looks_of timeout)) → IsStopped w c call timeout false v n
+  stopped-empty v m n earlier timeout world waited stop left =
       let pending = pending-next v m n earlier stop.history world waited stop.looked.is_look stop.goes_on.legal in
       record {
         goes_on = on-from v m n earlier waited stop.goes_on;
         earlier = earlier;
         last = stop.history;
         looks = looks-more v m n earlier stop.history waited.seen waited.looks stop.looked.is_look stop.looked.looks;
+        within = few-looks (length earlier) (looks_of timeout) left;
         unready = waited.unready;
+        roomy = waited.roomy;
         joins = waited.joins ++ stop.joins;
         joined = joined-more w c call earlier stop.history waited.joins stop.joins waited.joined pending stop.joined;
         mine = stop.mine ∙ (ap (λ (es : List Event). es ++ stop.joins) waited.mine ∙ append_assoc v.mine waited.joins stop.joins);

@@ -1,5 +1,5 @@
 -- What a call tells, which may look more than once.
-use Rattle.std.specs.Prelude.{◌≡◌, ℕ, ◌+◌, Bool, true, false, List, [], ◌∷◌, ◌++◌, map, length, slice_get, Some, Result, Ok, Err}
+use Rattle.std.specs.Prelude.{◌≡◌, ℕ, ◌+◌, ◌<◌, Bool, true, false, List, [], ◌∷◌, ◌++◌, map, length, slice_get, Some, Result, Ok, Err}
 use mathlib.Core.List.{IsPrefix}
 use Rattle.gaspi_types.specs.CallRows.{is_collective}
 use Rattle.gaspi_types.specs.World.{World}
@@ -24,6 +24,10 @@ module _ (w : World) (c : CallerId) (call : Call) where
   abbrev pub AreUnready : List (List Event) → Type 0
   AreUnready histories = (k : ℕ) (h : List Event) → slice_get histories k ≡ Some h → is_waiting (found_after w c call h) ≡ true
 
+  -- at each of these looks the caller's rank had room for what the call needs
+  abbrev pub HadRoom : List (List Event) → Type 0
+  HadRoom histories = (k : ℕ) (h : List Event) → slice_get histories k ≡ Some h → is_full_after w c call h ≡ false
+
   -- at each of these looks a collective was pending for its caller
   abbrev pub ArePending : List (List Event) → Type 0
   ArePending histories = (k : ℕ) (h : List Event) → slice_get histories k ≡ Some h → is_collective call ≡ true → is_pending_after w c call h ≡ true
@@ -39,13 +43,15 @@ module _ {S : Type 0} (w : World) (c : CallerId) where
     pub looks : n.looks ≡ v.looks ++ map length histories
     pub between : (k : ℕ) (h : List Event) → slice_get histories k ≡ Some h → IsPrefix v.seen h × IsPrefix h n.seen
 
-  -- The call was recorded with its reply, once, after all its looks, and what is seen ends with it. At the earlier looks it was neither
-  -- refused nor ready. A timeout comes when all looks are spent, and the call is neither refused nor ready at the last one.
+  -- The call was recorded with its reply, once, after all its looks, and what is seen ends with it. It took no more looks than its
+  -- timeout has. At the earlier ones it was neither refused nor ready, and its rank had room for it at each. A timeout comes when all
+  -- looks are spent, and the call is neither refused nor ready at the last one.
   pub record IsCalled (call : Call) (timeout : timeouts.Timeout) (reply : Reply) (v n : Known S Event) : Type 0 where
     pub goes_on : GoesOn w c v n
     pub earlier : List (List Event)
     pub last : List Event
     pub looks : AreLooks v n (earlier ++ last ∷ [])
+    pub within : (most : ℕ) → looks_of timeout ≡ Some most → length earlier < most
     pub unready : AreUnready w c call earlier
     pub joins : List Event
     pub joined : JoinedFirst w c call (earlier ++ last ∷ []) joins
@@ -54,29 +60,32 @@ module _ {S : Type 0} (w : World) (c : CallerId) where
     pub after_looks : (k : ℕ) (h : List Event) → slice_get (earlier ++ last ∷ []) k ≡ Some h → IsPrefix h before
     pub mine : n.mine ≡ (v.mine ++ joins) ++ Called c call reply ∷ []
     pub commits : HasCommitted (joins ++ Called c call reply ∷ []) v n
+    pub roomy : HadRoom w c call earlier
     pub room : is_full_after w c call last ≡ false
     pub spent : reply ≡ Timeout → looks_of timeout ≡ Some (length earlier + 1)
     pub timely : reply ≡ Timeout → is_waiting (found_after w c call last) ≡ true
 
-  -- The call was not recorded, after a last look at which its rank had no room for what it needs, or had. Where it had none, nothing
-  -- was seen since that look.
-  pub record IsStopped (call : Call) (full : Bool) (v n : Known S Event) : Type 0 where
+  -- The call was not recorded, after a last look at which its rank had no room for what it needs, or had. It had room at the earlier
+  -- ones, and there were no more looks than the timeout has. Where it had none at the last, nothing was seen since that look.
+  pub record IsStopped (call : Call) (timeout : timeouts.Timeout) (full : Bool) (v n : Known S Event) : Type 0 where
     pub goes_on : GoesOn w c v n
     pub earlier : List (List Event)
     pub last : List Event
     pub looks : AreLooks v n (earlier ++ last ∷ [])
+    pub within : (most : ℕ) → looks_of timeout ≡ Some most → length earlier < most
     pub unready : AreUnready w c call earlier
     pub joins : List Event
     pub joined : JoinedFirst w c call (earlier ++ last ∷ []) joins
     pub mine : n.mine ≡ v.mine ++ joins
     pub commits : HasCommitted joins v n
+    pub roomy : HadRoom w c call earlier
     pub room : is_full_after w c call last ≡ full
     pub now : full ≡ true → last ≡ n.seen
 
   abbrev pub Calls : Call → timeouts.Timeout → Known S Event → Result Reply Stop → Known S Event → Type 0
   Calls call timeout v (Ok reply) n = IsCalled call timeout reply v n
-  Calls call timeout v (Err EventLimit) n = IsStopped call true v n
-  Calls call timeout v (Err NoMemory) n = IsStopped call false v n
+  Calls call timeout v (Err EventLimit) n = IsStopped call timeout true v n
+  Calls call timeout v (Err NoMemory) n = IsStopped call timeout false v n
 
   -- what holds between two looks of a call
   pub record HasWaited (call : Call) (earlier : List (List Event)) (v n : Known S Event) : Type 0 where
@@ -85,6 +94,7 @@ module _ {S : Type 0} (w : World) (c : CallerId) where
     pub start : n.start ≡ v.start
     pub looks : AreLooks v n earlier
     pub unready : AreUnready w c call earlier
+    pub roomy : HadRoom w c call earlier
     pub joins : List Event
     pub joined : JoinedFirst w c call earlier joins
     pub mine : n.mine ≡ v.mine ++ joins

@@ -34,5 +34,5 @@ pub fn waits_on()
     ensures fresh { (w : World) (c : CallerId) (v : Known Start Event) → v.mine ≡ [] → HaveWaited w c [] v }
     ensures called { (w : World) (c : CallerId) (call : Call) (timeout : timeouts.Timeout) (reply : Reply) (v n : Known Start Event) (ns : List ℕ) (k : ℕ) → HaveWaited w c ns v
         → IsCalled w c call timeout reply v n → (reply ≡ Timeout → looks_of timeout ≡ Some k) → HaveWaited w c (ns ++ k ∷ []) n }
-    ensures stopped { (w : World) (c : CallerId) (call : Call) (full : Bool) (v n : Known Start Event) (ns : List ℕ) → HaveWaited w c ns v → IsStopped w c call full v n → HaveWaited w c ns n }
+    ensures stopped { (w : World) (c : CallerId) (call : Call) (timeout : timeouts.Timeout) (full : Bool) (v n : Known Start Event) (ns : List ℕ) → HaveWaited w c ns v → IsStopped w c call timeout full v n → HaveWaited w c ns n }
 {}

@@ -33,8 +33,8 @@ Replies = (s t : State) (c : CallerId) (call : Call) (reply : Reply) → step s 
 
 module _ {S : Type 0} (w : World) (c : CallerId) (m n : Known S Event) (world : IsWorld w) (declared : list_any (is_caller c.rank c.thread) w.callers ≡ true) (active : HasNoEnd c m.mine) where
   -- its end has room
-  never-full : IsStopped w c End true m n → ⊥
-  never-full stop = go (reached w stop.last) refl
+  never-full : (timeout : Timeout) → IsStopped w c End timeout true m n → ⊥
+  never-full timeout stop = go (reached w stop.last) refl
     where
       seen : own_calls c.rank c.thread n.seen ≡ own_calls c.rank c.thread m.mine
       seen = sym (own-events c n.seen) ∙ (ap (own_calls c.rank c.thread) (stop.goes_on.own ∙ stop.mine) ∙ own-after w c End stop.earlier stop.last m.mine stop.joins stop.joined)
@@ -71,5 +71,5 @@ module _ {S : Type 0} (w : World) (c : CallerId) (m n : Known S Event) (world : 
 
   pub ends-done : Replies → (timeout : Timeout) (r : Result Reply Stop) → (r ≡ Err NoMemory → ⊥) → Calls w c End timeout m r n → IsCalled w c End timeout Done m n
   ends-done replies timeout (Ok reply) some told = subst (λ (x : Reply). IsCalled w c End timeout x m n) (is-done replies timeout reply told) told
-  ends-done replies timeout (Err EventLimit) some told = absurd (never-full told)
+  ends-done replies timeout (Err EventLimit) some told = absurd (never-full timeout told)
   ends-done replies timeout (Err NoMemory) some told = absurd (some refl)

@@ -1,5 +1,5 @@
 -- A run of a script goes on with each call, and the caller's end makes it whole.
-use Rattle.std.proofs.Common.{◌≡◌, ℕ, ◌+◌, ◌-◌, ◌<◌, ◌≤◌, Bool, true, false, ◌&&◌, nat_lt, List, [], ◌∷◌, ◌++◌, Option, None, Some, Result, Ok, Err, inl, inr, refl, sym, ap, ◌∙◌, subst, arith, if◌then◌else◌, append_assoc, append-nil, length, map}
+use Rattle.std.proofs.Common.{◌≡◌, ℕ, suc, ◌+◌, ◌-◌, ◌<◌, ◌≤◌, Bool, true, false, ◌&&◌, nat_lt, List, [], ◌∷◌, ◌++◌, Option, None, Some, Result, Ok, Err, inl, inr, refl, sym, ap, ◌∙◌, subst, arith, if◌then◌else◌, append_assoc, append-nil, length, length-append, map}
 use Rattle.std.specs.List.{All, slice_get, sum_by}
 use Rattle.std.proofs.lemmas.Bool.{ltb-true}
 use Rattle.std.proofs.lemmas.List.Elements.{All-nil, All-cons, All-head, All-tail}
@@ -11,6 +11,7 @@ use Rattle.gaspi_types.specs.World.{World}
 use Rattle.gaspi_types.specs.declared.calls.Call.{Call}
 use Rattle.gaspi_types.specs.declared.calls.Call.TheVariants.{End}
 use Rattle.gaspi_types.specs.declared.calls.Timeout.{Timeout}
+use Rattle.gaspi_types.specs.declared.calls.Timeout.TheVariants.{Looks}
 use Rattle.gaspi_types.specs.declared.events.Event.{Event}
 use Rattle.gaspi_types.specs.declared.events.Event.TheVariants.{Called}
 use Rattle.gaspi_types.specs.declared.replies.Reply.{Reply}
@@ -25,17 +26,18 @@ use Rattle.rank_script.specs.declared.scripts.RunOutcome.{RunOutcome}
 use Rattle.rank_script.specs.declared.scripts.RunOutcome.TheVariants as outcomes
 use Rattle.rank_script.specs.declared.scripts.ScriptLine.{ScriptLine}
 use Rattle.gaspi_world.specs.Attempts.{is_full_after}
-use Rattle.gaspi_world.specs.Calling.{IsCalled, IsStopped as IsCallStopped, Calls}
+use Rattle.gaspi_world.specs.Calling.{AreLooks, IsCalled, IsStopped as IsCallStopped, Calls}
 use Rattle.gaspi_world.specs.Waits.{HaveWaited}
 use Rattle.gaspi_world.specs.declared.calling.Stop.{Stop}
 use Rattle.gaspi_world.specs.declared.calling.Stop.TheVariants.{NoMemory, EventLimit}
 use Rattle.gaspi_world.specs.declared.starts.Start.{Start}
-use Rattle.script_bodies.specs.Looks.{looks_in, bounded, looks_along, HasLookAfter}
-use Rattle.script_bodies.specs.Runs.{moved, HadNoRoom, IsStoppedBefore, HasCause, HasRun}
-use Rattle.script_bodies.specs.SoFar.{HasNoEnd, ComesTo, HasComeTo}
+use Rattle.script_bodies.specs.Looks.{looks_in, bounded, looks_along, HasLookAfter, AreWithin}
+use Rattle.script_bodies.specs.Runs.{moved, HadNoRoom, WasFull, IsStoppedBefore, HasCause, HasRun}
+use Rattle.script_bodies.specs.SoFar.{HasNoEnd, HadRoomSoFar, LookedSoFar, ComesTo, HasComeTo}
 use Rattle.script_bodies.specs.Joins.{AreJoinsFollowed}
 use Rattle.script_bodies.proofs.Joins.{Itself, joins-itself, end-adds-nothing, followed-both, followed-all, call-follows, end-follows}
-use Rattle.script_bodies.proofs.OwnCalls.{own-after, own-events, own-more, no-end-more, no-end-same}
+use Rattle.script_bodies.proofs.OwnCalls.{own-after, own-events, own-more, same-front, no-end-more, no-end-same}
+use Rattle.script_bodies.proofs.RunLooks.{all, all-more, within-one, within-more, same-between, none-earlier, line-looks, looks-both, last-full}
 
 abbrev Pairs : Type 0
 Pairs = List (Call × Reply)
@@ -63,7 +65,7 @@ WaitsCalled = (w : World) (c : CallerId) (call : Call) (timeout : Timeout) (repl
     → IsCalled w c call timeout reply v n → (reply ≡ replies.Timeout → looks_of timeout ≡ Some k) → HaveWaited w c (ns ++ k ∷ []) n
 
 abbrev pub WaitsStopped : Type 0
-WaitsStopped = (w : World) (c : CallerId) (call : Call) (full : Bool) (v n : Known Start Event) (ns : List ℕ) → HaveWaited w c ns v → IsCallStopped w c call full v n → HaveWaited w c ns n
+WaitsStopped = (w : World) (c : CallerId) (call : Call) (timeout : Timeout) (full : Bool) (v n : Known Start Event) (ns : List ℕ) → HaveWaited w c ns v → IsCallStopped w c call timeout full v n → HaveWaited w c ns n
 
 -- How many looks the calls of a run have, with one call more.
 
@@ -143,6 +145,13 @@ module _ (w : World) (c : CallerId) (lines : List ScriptLine) (limit : ℕ) wher
           no_limit = going-no-limit lines;
           followed = subst (AreJoinsFollowed None) (sym none) tt;
         });
+        looks = [];
+        looked = record { looks = sym (append-nil v.looks); between = λ k h at. (let no : ⊥ = cc in absurd no) };
+        room = inl (record {
+          each = ap (λ (ps : Pairs). length (along ps)) (sym calls);
+          within = tt;
+          roomy = λ k h number at was. (let no : ⊥ = cc in no);
+        });
       }
 
   module _ (v m n : Known Start Event) (line : ScriptLine) (made : ℕ) (later : List ScriptLine) where
@@ -155,17 +164,40 @@ module _ (w : World) (c : CallerId) (lines : List ScriptLine) (limit : ℕ) wher
     joins-followed (inl way) = way.followed
     joins-followed (inr (outcome, over, stop)) = cc
 
+    -- and there was room at each look so far
+    had-room : (looks : List (List (List Event))) → LookedSoFar w c lines limit (Going line made later) looks m → HadRoomSoFar w c lines limit looks m
+    had-room looks (inl had) = had
+    had-room looks (inr (outcome, over, stop)) = (let no : ⊥ = cc in absurd no)
+
     comes-called : Onward → Itself → WaitsCalled → (reply : Reply) → (line.call ≡ End → ⊥) → HasComeTo w c lines limit (Going line made later) v m → IsCalled w c line.call (bounded limit line.timeout) reply m n
         → HasComeTo w c lines limit (advanced (Going line made later) reply) v n
     comes-called onward itself on reply plain so_far called =
         let before = own-after w c line.call called.earlier called.last m.mine called.joins called.joined in
         let calls : own n.mine ≡ own m.mine ++ (line.call, reply) ∷ [] = ap own called.mine ∙ (own-more c (m.mine ++ called.joins) line.call reply ∙ ap (λ (ps : Pairs). ps ++ (line.call, reply) ∷ []) before) in
+        let had = had-room so_far.looks so_far.room in
+        let hs = called.earlier ++ called.last ∷ [] in
+        let grown : along (own n.mine) ≡ along (own m.mine) ++ looks_in limit line.timeout ∷ [] = ap along calls ∙ along-line limit (going_on lines) (own m.mine) line made later (line.call, reply) (leads-there so_far.comes) in
+        let bare : own called.before ≡ own m.mine =
+            same-front (own called.before) (own m.mine) (line.call, reply) (line.call, reply)
+            (sym (own-more c called.before line.call reply) ∙ (ap own (sym called.ends) ∙ (sym (own-events c n.seen) ∙ (ap own called.goes_on.own ∙ calls)))) in
+        let same : (j : ℕ) (h : List Event) → slice_get hs j ≡ Some h → own h ≡ own m.mine =
+            λ j h at. same-between c m.mine m.seen h called.before so_far.waited.seen (called.looks.between j h at).0 (called.after_looks j h at) bare in
         record {
           seen = prefix_trans v.seen m.seen n.seen so_far.seen called.goes_on.seen;
           party = called.goes_on.party ∙ so_far.party;
           start = called.goes_on.start ∙ so_far.start;
           waited = subst (λ (ns : List ℕ). HaveWaited w c ns n) (sym (ap along calls ∙ along-line limit (going_on lines) (own m.mine) line made later (line.call, reply) (leads-there so_far.comes)))
               (on w c line.call (bounded limit line.timeout) reply m n (along (own m.mine)) (looks_in limit line.timeout) so_far.waited called (λ late. refl));
+          looks = so_far.looks ++ hs ∷ [];
+          looked = subst (AreLooks w c v n) (sym (all-more so_far.looks hs)) (looks-both w c v m n (all so_far.looks) hs so_far.seen called.goes_on.seen so_far.looked called.looks);
+          room = inl (record {
+            each = (let a = length-append so_far.looks (hs ∷ []) in let b = ap length grown in let d = length-append (along (own m.mine)) (looks_in limit line.timeout ∷ []) in let e = had.each in omega arith);
+            within = subst (AreWithin (so_far.looks ++ hs ∷ [])) (sym grown) (within-one so_far.looks (along (own m.mine)) hs (looks_in limit line.timeout) had.each had.within (line-looks limit line.timeout called.earlier called.last called.within));
+            roomy = λ k h number at was.
+                let full = last-full w c lines m.mine line made later (leads-there so_far.comes) (all so_far.looks) called.earlier called.last same had.roomy called.roomy k h number
+                (subst (λ (ks : List (List Event)). slice_get ks k ≡ Some h) (all-more so_far.looks hs) at) was in
+                (let no : true ≡ false = sym full.0 ∙ called.room in let never : ⊥ = cc in never);
+          });
           active = subst (HasNoEnd c) (sym called.mine) (no-end-more c (m.mine ++ called.joins) line.call reply plain (no-end-same c (m.mine ++ called.joins) m.mine before so_far.active));
           comes = inl (record {
             follows = subst (λ (ps : Pairs). Follows (going_on lines) ps (advanced (Going line made later) reply)) (sym calls) (onward (going_on lines) (own m.mine) line made later reply (leads-there so_far.comes));
@@ -175,15 +207,37 @@ module _ (w : World) (c : CallerId) (lines : List ScriptLine) (limit : ℕ) wher
           });
         }
 
-    comes-stopped : Itself → WaitsStopped → (full : Bool) (outcome : RunOutcome) → IsStopped line.number outcome → (outcome ≡ outcomes.Limit line.number → full ≡ true) → HasComeTo w c lines limit (Going line made later) v m
-        → IsCallStopped w c line.call full m n → HasComeTo w c lines limit (Over outcome) v n
-    comes-stopped itself still full outcome is_stopped no_room so_far stop =
+    comes-stopped : Itself → WaitsStopped → (full : Bool) (outcome : RunOutcome) → IsStopped line.number outcome → (outcome ≡ outcomes.Limit line.number → full ≡ true) → (full ≡ true → outcome ≡ outcomes.Limit line.number)
+        → HasComeTo w c lines limit (Going line made later) v m → IsCallStopped w c line.call (bounded limit line.timeout) full m n → HasComeTo w c lines limit (Over outcome) v n
+    comes-stopped itself still full outcome is_stopped no_room limited so_far stop =
         let calls : own n.mine ≡ own m.mine = ap own stop.mine ∙ own-after w c line.call stop.earlier stop.last m.mine stop.joins stop.joined in
+        let had = had-room so_far.looks so_far.room in
+        let hs = stop.earlier ++ stop.last ∷ [] in
+        let same : (j : ℕ) (h : List Event) → slice_get hs j ≡ Some h → own h ≡ own m.mine =
+            λ j h at. same-between c m.mine m.seen h n.seen so_far.waited.seen (stop.looks.between j h at).0 (stop.looks.between j h at).1 (sym (own-events c n.seen) ∙ (ap own stop.goes_on.own ∙ calls)) in
         record {
           seen = prefix_trans v.seen m.seen n.seen so_far.seen stop.goes_on.seen;
           party = stop.goes_on.party ∙ so_far.party;
           start = stop.goes_on.start ∙ so_far.start;
-          waited = subst (λ (ps : Pairs). HaveWaited w c (along ps) n) (sym calls) (still w c line.call full m n (along (own m.mine)) so_far.waited stop);
+          waited = subst (λ (ps : Pairs). HaveWaited w c (along ps) n) (sym calls) (still w c line.call (bounded limit line.timeout) full m n (along (own m.mine)) so_far.waited stop);
+          looks = so_far.looks ++ hs ∷ [];
+          looked = subst (AreLooks w c v n) (sym (all-more so_far.looks hs)) (looks-both w c v m n (all so_far.looks) hs so_far.seen stop.goes_on.seen so_far.looked stop.looks);
+          room = inr (
+            outcome,
+            refl,
+            record {
+              line = line;
+              made = made;
+              later = later;
+              follows = subst (λ (ps : Pairs). Follows (going_on lines) ps (Going line made later)) (sym calls) (leads-there so_far.comes);
+              within = subst (λ (ps : Pairs). AreWithin (so_far.looks ++ hs ∷ []) (along ps ++ looks_in limit line.timeout ∷ [])) (sym calls)
+                  (within-one so_far.looks (along (own m.mine)) hs (looks_in limit line.timeout) had.each had.within (line-looks limit line.timeout stop.earlier stop.last stop.within));
+              full = λ k h number at was.
+                  let told = last-full w c lines m.mine line made later (leads-there so_far.comes) (all so_far.looks) stop.earlier stop.last same had.roomy stop.roomy k h number
+                  (subst (λ (ks : List (List Event)). slice_get ks k ≡ Some h) (all-more so_far.looks hs) at) was in
+                  (limited (sym stop.room ∙ told.0) ∙ ap (λ (number : ℕ). outcomes.Limit number) told.1.0, told.1.1 ∙ ap length (sym (all-more so_far.looks hs)));
+            },
+          );
           active = no-end-same c n.mine m.mine calls so_far.active;
           comes = inr (
             outcome,
@@ -213,13 +267,13 @@ module _ (w : World) (c : CallerId) (lines : List ScriptLine) (limit : ℕ) wher
     pub comes-going : Onward → Itself → WaitsCalled → WaitsStopped → (r : Result Reply Stop) → (line.call ≡ End → ⊥) → HasComeTo w c lines limit (Going line made later) v m → Calls w c line.call (bounded limit line.timeout) m r n
         → HasComeTo w c lines limit (moved (Going line made later) r) v n
     comes-going onward itself on still (Ok reply) plain so_far told = comes-called onward itself on reply plain so_far told
-    comes-going onward itself on still (Err EventLimit) plain so_far told = comes-stopped itself still true (outcomes.Limit line.number) (inl refl) (λ is. refl) so_far told
-    comes-going onward itself on still (Err NoMemory) plain so_far told = comes-stopped itself still false (outcomes.NoMemory line.number) (inr refl) (λ is. (let no : ⊥ = cc in absurd no)) so_far told
+    comes-going onward itself on still (Err EventLimit) plain so_far told = comes-stopped itself still true (outcomes.Limit line.number) (inl refl) (λ is. refl) (λ is. refl) so_far told
+    comes-going onward itself on still (Err NoMemory) plain so_far told = comes-stopped itself still false (outcomes.NoMemory line.number) (inr refl) (λ is. (let no : ⊥ = cc in absurd no)) (λ is. (let no : ⊥ = cc in absurd no)) so_far told
 
   -- the end makes the run whole
-  pub has-run : Ended → Stopped → WaitsCalled → (v m n : Known Start Event) (outcome : RunOutcome) (timeout : Timeout) → HasComeTo w c lines limit (Over outcome) v m → IsCalled w c End timeout Done m n
+  pub has-run : Ended → Stopped → WaitsCalled → (v m n : Known Start Event) (outcome : RunOutcome) → HasComeTo w c lines limit (Over outcome) v m → IsCalled w c End (Looks 1) Done m n
       → HasRun w c lines limit outcome v n
-  has-run ended stopped on v m n outcome timeout so_far called = record {
+  has-run ended stopped on v m n outcome so_far called = record {
     goes_on = record {
       seen = prefix_trans v.seen m.seen n.seen so_far.seen called.goes_on.seen;
       legal = called.goes_on.legal;
@@ -232,7 +286,13 @@ module _ (w : World) (c : CallerId) (lines : List ScriptLine) (limit : ℕ) wher
     unmade = left-unmade so_far.comes;
     stopped_before = before-it so_far.comes;
     followed = subst (AreJoinsFollowed (left-unmade so_far.comes)) (sym ends) (all-followed so_far.comes);
-    waited = subst (λ (ns : List ℕ). HaveWaited w c ns n) (sym (ap along calls ∙ one.1)) (on w c End timeout Done m n (along (own m.mine)) one.0 so_far.waited called (λ late. (let no : ⊥ = cc in absurd no)));
+    waited = subst (λ (ns : List ℕ). HaveWaited w c ns n) (sym (ap along calls ∙ one.1)) (on w c End (Looks 1) Done m n (along (own m.mine)) one.0 so_far.waited called (λ late. (let no : ⊥ = cc in absurd no)));
+    looks = so_far.looks;
+    last = called.last;
+    looked = looks-both w c v m n (all so_far.looks) (called.last ∷ []) so_far.seen called.goes_on.seen so_far.looked
+        (subst (λ (earlier : List (List Event)). AreLooks w c m n (earlier ++ called.last ∷ [])) (none-earlier called.earlier (called.within 1 refl)) called.looks);
+    within = few so_far.room;
+    full = no-room so_far.room;
   }
     where
       calls : own n.mine ≡ own m.mine ++ end_pair
@@ -240,6 +300,20 @@ module _ (w : World) (c : CallerId) (lines : List ScriptLine) (limit : ℕ) wher
 
       ends : n.mine ≡ m.mine ++ Called c End Done ∷ []
       ends = called.mine ∙ ap (λ (es : List Event). es ++ Called c End Done ∷ []) (ap (λ (es : List Event). m.mine ++ es) (end-adds-nothing w c called.earlier called.last called.joins called.joined) ∙ append-nil m.mine)
+
+      -- no call made more looks than its line has
+      few : LookedSoFar w c lines limit (Over outcome) so_far.looks m → AreWithin so_far.looks (along (own n.mine))
+      few (inl had) = subst (AreWithin so_far.looks) (sym (ap along calls ∙ one.1)) (within-more so_far.looks (along (own m.mine)) (one.0 ∷ []) had.within)
+      few (inr (o, over, stop)) =
+          subst (AreWithin so_far.looks) (sym (ap along calls ∙ along-line limit (going_on lines) (own m.mine) stop.line stop.made stop.later (End, Done) stop.follows)) stop.within
+
+      no-room : LookedSoFar w c lines limit (Over outcome) so_far.looks m → (k : ℕ) (h : List Event) (number : ℕ) → slice_get (all so_far.looks) k ≡ Some h → WasFull w c lines h number
+          → (outcome ≡ outcomes.Limit number) × (suc k ≡ length (all so_far.looks))
+      no-room (inl had) k h number at was = absurd (had.roomy k h number at was)
+      no-room (inr (o, over, stop)) k h number at was =
+          let same : o ≡ outcome = cc in
+          let told = stop.full k h number at was in
+          (sym same ∙ told.0, told.1)
 
       -- the end has some number of looks, and never times out
       one : (k : ℕ) × (along (own m.mine ++ end_pair) ≡ along (own m.mine) ++ k ∷ [])

@@ -3,3 +3,4 @@ pub mod Ending
 pub mod GoingOn
 pub mod Joins
 pub mod OwnCalls
+pub mod RunLooks

@@ -1,5 +1,5 @@
 -- How often the calls of a script may look. (GASPI: timeouts)
-use Rattle.std.specs.Prelude.{◌≡◌, ℕ, List, [], ◌∷◌, ◌++◌, length}
+use Rattle.std.specs.Prelude.{◌≡◌, ℕ, ◌≤◌, List, [], ◌∷◌, ◌++◌, length}
 use Rattle.gaspi_types.specs.declared.calls.Call.{Call}
 use Rattle.gaspi_types.specs.declared.calls.Timeout.{Timeout}
 use Rattle.gaspi_types.specs.declared.calls.Timeout.TheVariants.{Looks, Block}
@@ -26,3 +26,9 @@ looks_along limit (Going line made lines) (pair ∷ pairs) = looks_in limit line
 -- a look of these, by the lengths of the histories that they saw, was made after a history
 abbrev pub HasLookAfter : List Event → List ℕ → Type 0
 HasLookAfter history looks = (earlier : List ℕ) × (later : List ℕ) × (looks ≡ earlier ++ length history ∷ later)
+
+-- Looks call by call, each by the history that it saw: each call has one of these numbers, and made no more looks than that.
+abbrev pub AreWithin : List (List (List Event)) → List ℕ → Type 0
+AreWithin [] numbers = Unit {0}
+AreWithin (looks ∷ others) [] = ⊥
+AreWithin (looks ∷ others) (number ∷ numbers) = (length looks ≤ number) × AreWithin others numbers

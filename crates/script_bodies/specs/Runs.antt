@@ -1,5 +1,6 @@
 -- What comes of a script that its caller runs in a world, and how the caller ends. (own choice)
-use Rattle.std.specs.Prelude.{◌≡◌, ℕ, true, List, [], ◌∷◌, ◌++◌, Option, Some, Result, Ok, Err}
+use Rattle.std.specs.Prelude.{◌≡◌, ℕ, suc, true, List, [], ◌∷◌, ◌++◌, length, slice_get, Option, Some, Result, Ok, Err}
+use Rattle.std.specs.List.{flat_map}
 use mathlib.Core.List.{IsPrefix}
 use Rattle.gaspi_types.specs.World.{World}
 use Rattle.gaspi_types.specs.declared.calls.Call.{Call}
@@ -18,11 +19,12 @@ use Rattle.rank_script.specs.declared.scripts.RunOutcome.TheVariants as outcomes
 use Rattle.rank_script.specs.declared.scripts.ScriptLine.{ScriptLine}
 use Rattle.gaspi_world.specs.Attempts.{is_full_after, GoesOn}
 use Rattle.gaspi_world.specs.Callers.{events_of}
+use Rattle.gaspi_world.specs.Calling.{AreLooks}
 use Rattle.gaspi_world.specs.Waits.{HaveWaited}
 use Rattle.gaspi_world.specs.declared.calling.Stop.{Stop}
 use Rattle.gaspi_world.specs.declared.calling.Stop.TheVariants as stops
 use Rattle.script_bodies.specs.Joins.{AreJoinsFollowed}
-use Rattle.script_bodies.specs.Looks.{looks_along, HasLookAfter}
+use Rattle.script_bodies.specs.Looks.{looks_along, HasLookAfter, AreWithin}
 
 -- after what came of the present call: it goes on after its reply, and ends before a call that was not made
 abbrev pub moved : Progress → Result Reply Stop → Progress
@@ -43,6 +45,15 @@ module _ (w : World) (c : CallerId) (lines : List ScriptLine) where
     pub follows : Follows (going_on lines) (own_calls c.rank c.thread history) (Going line made later)
     pub events : events_of c history ++ Called c End Done ∷ [] ≡ n.mine
     pub looked : HasLookAfter history n.looks
+    pub full : is_full_after w c line.call history ≡ true
+
+  -- After a history the run had come to the line of that number, and the caller's rank had no room for the line's call.
+  pub record WasFull (history : List Event) (number : ℕ) : Type 0 where
+    pub line : ScriptLine
+    pub made : ℕ
+    pub later : List ScriptLine
+    pub is_line : line.number ≡ number
+    pub follows : Follows (going_on lines) (own_calls c.rank c.thread history) (Going line made later)
     pub full : is_full_after w c line.call history ≡ true
 
   -- why the run ended where it was stopped for want of room
@@ -66,7 +77,9 @@ module _ (w : World) (c : CallerId) (lines : List ScriptLine) where
 
   -- The caller ran these lines and ended: its calls, the end among them, are a whole run of the lines with that outcome. Each of its
   -- joins is of the call that it makes next, or of the one before which the run was stopped. Its timeouts came only when the looks of
-  -- their lines were spent, where a call that blocks has so many.
+  -- their lines were spent, where a call that blocks has so many. It made its looks call by call, those of the call before which it was
+  -- stopped among them, for none more than its line has, and one for its end. Where its rank had no room at one of them for the call of
+  -- the line that it had come to, it was the last before the end's, and the run was stopped there for want of room.
   pub record HasRun {S : Type 0} (limit : ℕ) (outcome : RunOutcome) (v n : Known S Event) : Type 0 where
     pub goes_on : GoesOn w c v n
     pub run : IsRun lines (own_calls c.rank c.thread n.mine) outcome
@@ -75,3 +88,9 @@ module _ (w : World) (c : CallerId) (lines : List ScriptLine) where
     pub stopped_before : (call : Call) → unmade ≡ Some call → IsStoppedBefore outcome n call
     pub followed : AreJoinsFollowed unmade n.mine
     pub waited : HaveWaited w c (looks_along limit (going_on lines) (own_calls c.rank c.thread n.mine)) n
+    pub looks : List (List (List Event))
+    pub last : List Event
+    pub looked : AreLooks w c v n (flat_map (λ (ks : List (List Event)). ks) looks ++ last ∷ [])
+    pub within : AreWithin looks (looks_along limit (going_on lines) (own_calls c.rank c.thread n.mine))
+    pub full : (k : ℕ) (h : List Event) (number : ℕ) → slice_get (flat_map (λ (ks : List (List Event)). ks) looks) k ≡ Some h → WasFull h number
+        → (outcome ≡ outcomes.Limit number) × (suc k ≡ length (flat_map (λ (ks : List (List Event)). ks) looks))

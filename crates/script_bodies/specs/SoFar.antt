@@ -1,5 +1,6 @@
 -- How far a caller has run its script, and that it has not ended. (own choice)
-use Rattle.std.specs.Prelude.{◌≡◌, ◌⊎◌, ℕ, true, List, ◌++◌, slice_get, None, Some}
+use Rattle.std.specs.Prelude.{◌≡◌, ◌⊎◌, ℕ, suc, true, List, [], ◌∷◌, ◌++◌, length, slice_get, None, Some}
+use Rattle.std.specs.List.{flat_map}
 use mathlib.Core.List.{IsPrefix}
 use Rattle.gaspi_types.specs.World.{World}
 use Rattle.gaspi_types.specs.declared.calls.Call.TheVariants.{End}
@@ -14,9 +15,11 @@ use Rattle.rank_script.specs.declared.scripts.RunOutcome.TheVariants.{Limit}
 use Rattle.rank_script.specs.declared.scripts.ScriptLine.{ScriptLine}
 use Rattle.gaspi_world.specs.Attempts.{is_full_after}
 use Rattle.gaspi_world.specs.Callers.{events_of}
+use Rattle.gaspi_world.specs.Calling.{AreLooks}
 use Rattle.gaspi_world.specs.Waits.{HaveWaited}
 use Rattle.script_bodies.specs.Joins.{AreJoinsFollowed, IsJoinOf}
-use Rattle.script_bodies.specs.Looks.{looks_along, HasLookAfter}
+use Rattle.script_bodies.specs.Looks.{looks_in, looks_along, HasLookAfter, AreWithin}
+use Rattle.script_bodies.specs.Runs.{WasFull}
 
 -- no call of the caller among these events is its end
 abbrev pub HasNoEnd : CallerId → List Event → Type 0
@@ -57,6 +60,25 @@ module _ {S : Type 0} (w : World) (c : CallerId) (lines : List ScriptLine) where
   abbrev pub ComesTo : Progress → Known S Event → Type 0
   ComesTo p n = IsOnWay p n ⊎ ((outcome : RunOutcome) × (p ≡ Over outcome) × WasStopped outcome n)
 
+  -- each call that was made made no more of these looks than its line has, and there was room at each
+  pub record HadRoomSoFar (limit : ℕ) (looks : List (List (List Event))) (n : Known S Event) : Type 0 where
+    pub each : length looks ≡ length (looks_along limit (going_on lines) (own_calls c.rank c.thread n.mine))
+    pub within : AreWithin looks (looks_along limit (going_on lines) (own_calls c.rank c.thread n.mine))
+    pub roomy : (k : ℕ) (h : List Event) (number : ℕ) → slice_get (flat_map (λ (ks : List (List Event)). ks) looks) k ≡ Some h → WasFull w c lines h number → ⊥
+
+  -- So did the call of the line before which the run was stopped with that outcome, where there may have been no room at the last look.
+  pub record WasStoppedAfter (limit : ℕ) (outcome : RunOutcome) (looks : List (List (List Event))) (n : Known S Event) : Type 0 where
+    pub line : ScriptLine
+    pub made : ℕ
+    pub later : List ScriptLine
+    pub follows : Follows (going_on lines) (own_calls c.rank c.thread n.mine) (Going line made later)
+    pub within : AreWithin looks (looks_along limit (going_on lines) (own_calls c.rank c.thread n.mine) ++ looks_in limit line.timeout ∷ [])
+    pub full : (k : ℕ) (h : List Event) (number : ℕ) → slice_get (flat_map (λ (ks : List (List Event)). ks) looks) k ≡ Some h → WasFull w c lines h number
+        → (outcome ≡ Limit number) × (suc k ≡ length (flat_map (λ (ks : List (List Event)). ks) looks))
+
+  abbrev pub LookedSoFar : ℕ → Progress → List (List (List Event)) → Known S Event → Type 0
+  LookedSoFar limit p looks n = HadRoomSoFar limit looks n ⊎ ((outcome : RunOutcome) × (p ≡ Over outcome) × WasStoppedAfter limit outcome looks n)
+
   -- The caller ran these lines so far, and has not ended.
   pub record HasComeTo (limit : ℕ) (p : Progress) (v n : Known S Event) : Type 0 where
     pub seen : IsPrefix v.seen n.seen
@@ -65,3 +87,6 @@ module _ {S : Type 0} (w : World) (c : CallerId) (lines : List ScriptLine) where
     pub waited : HaveWaited w c (looks_along limit (going_on lines) (own_calls c.rank c.thread n.mine)) n
     pub active : HasNoEnd c n.mine
     pub comes : ComesTo p n
+    pub looks : List (List (List Event))
+    pub looked : AreLooks w c v n (flat_map (λ (ks : List (List Event)). ks) looks)
+    pub room : LookedSoFar limit p looks n

@@ -13,6 +13,7 @@ invariant-loop g l =
     × (l.pass.table ≡ l.fn.pass.table)
     × HoldsNone l.pass.known
     × ((earlier : List (List Event)) × HasWaited l.fn.table.start.shape l.fn.caller l.fn.call earlier l.fn.pass.known l.pass.known
+    × HasLook (left_after (length earlier) (looks_of l.fn.timeout))
     × (l.look ≡ answer_of (left_after (length earlier) (looks_of l.fn.timeout)))
     × (l.budget ≡ left_after (suc (length earlier)) (looks_of l.fn.timeout))
     × (l.look ≡ More → HasLook l.budget))

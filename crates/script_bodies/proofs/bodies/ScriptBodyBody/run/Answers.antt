@@ -1,5 +1,4 @@
 use Rattle.std.proofs.Common.{◌≡◌, Option, Some, refl, sym, ◌∙◌, subst}
-use Rattle.gaspi_types.specs.declared.calls.Timeout.TheVariants.{Looks}
 use Rattle.gaspi_world.specs.declared.starts.Start.{Start}
 use Rattle.script_bodies.specs.Runs.{HasRun}
 use Rattle.script_bodies.proofs.GoingOn.{has-run}
@@ -21,7 +20,7 @@ returns g c = (
           let caller = c.requires.1.caller in
           subst (λ (s : Start). HasRun s.shape c.args.self.now.script.now.caller c.args.self.now.script.now.lines c.args.self.now.limit c.run_lines-outcome.result c.args.pass.now.known c.end.new.pass.known) same
           (has-run c.args.world.now.start.shape c.args.self.now.script.now.caller c.args.self.now.script.now.lines c.args.self.now.limit c.runs.ensures.ended c.runs.ensures.stopped c.waits_on.ensures.called c.args.pass.now.known c.run_lines-outcome.new.pass.known c.end.new.pass.known
-          c.run_lines-outcome.result (Looks 1) so_far (c.end.ensures.ends c.args.self.now.script.now.caller (caller.0, so_far.party ∙ caller.1) so_far.active)),
+          c.run_lines-outcome.result so_far (c.end.ensures.ends c.args.self.now.script.now.caller (caller.0, so_far.party ∙ caller.1) so_far.active)),
     );
   },
 )
