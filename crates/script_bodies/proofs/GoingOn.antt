@@ -178,10 +178,10 @@ module _ (w : World) (c : CallerId) (lines : List ScriptLine) (limit : ℕ) wher
         let hs = called.earlier ++ called.last ∷ [] in
         let grown : along (own n.mine) ≡ along (own m.mine) ++ looks_in limit line.timeout ∷ [] = ap along calls ∙ along-line limit (going_on lines) (own m.mine) line made later (line.call, reply) (leads-there so_far.comes) in
         let bare : own called.before ≡ own m.mine =
-            same-front (own called.before) (own m.mine) (line.call, reply) (line.call, reply)
-            (sym (own-more c called.before line.call reply) ∙ (ap own (sym called.ends) ∙ (sym (own-events c n.seen) ∙ (ap own called.goes_on.own ∙ calls)))) in
+        same-front (own called.before) (own m.mine) (line.call, reply) (line.call, reply)
+        (sym (own-more c called.before line.call reply) ∙ (ap own (sym called.ends) ∙ (sym (own-events c n.seen) ∙ (ap own called.goes_on.own ∙ calls)))) in
         let same : (j : ℕ) (h : List Event) → slice_get hs j ≡ Some h → own h ≡ own m.mine =
-            λ j h at. same-between c m.mine m.seen h called.before so_far.waited.seen (called.looks.between j h at).0 (called.after_looks j h at) bare in
+        λ j h at. same-between c m.mine m.seen h called.before so_far.waited.seen (called.looks.between j h at).0 (called.after_looks j h at) bare in
         record {
           seen = prefix_trans v.seen m.seen n.seen so_far.seen called.goes_on.seen;
           party = called.goes_on.party ∙ so_far.party;
@@ -214,7 +214,7 @@ module _ (w : World) (c : CallerId) (lines : List ScriptLine) (limit : ℕ) wher
         let had = had-room so_far.looks so_far.room in
         let hs = stop.earlier ++ stop.last ∷ [] in
         let same : (j : ℕ) (h : List Event) → slice_get hs j ≡ Some h → own h ≡ own m.mine =
-            λ j h at. same-between c m.mine m.seen h n.seen so_far.waited.seen (stop.looks.between j h at).0 (stop.looks.between j h at).1 (sym (own-events c n.seen) ∙ (ap own stop.goes_on.own ∙ calls)) in
+        λ j h at. same-between c m.mine m.seen h n.seen so_far.waited.seen (stop.looks.between j h at).0 (stop.looks.between j h at).1 (sym (own-events c n.seen) ∙ (ap own stop.goes_on.own ∙ calls)) in
         record {
           seen = prefix_trans v.seen m.seen n.seen so_far.seen stop.goes_on.seen;
           party = stop.goes_on.party ∙ so_far.party;
@@ -301,6 +301,10 @@ module _ (w : World) (c : CallerId) (lines : List ScriptLine) (limit : ℕ) wher
       ends : n.mine ≡ m.mine ++ Called c End Done ∷ []
       ends = called.mine ∙ ap (λ (es : List Event). es ++ Called c End Done ∷ []) (ap (λ (es : List Event). m.mine ++ es) (end-adds-nothing w c called.earlier called.last called.joins called.joined) ∙ append-nil m.mine)
 
+      -- the end has some number of looks, and never times out
+      one : (k : ℕ) × (along (own m.mine ++ end_pair) ≡ along (own m.mine) ++ k ∷ [])
+      one = along-any limit (going_on lines) (own m.mine) (End, Done)
+
       -- no call made more looks than its line has
       few : LookedSoFar w c lines limit (Over outcome) so_far.looks m → AreWithin so_far.looks (along (own n.mine))
       few (inl had) = subst (AreWithin so_far.looks) (sym (ap along calls ∙ one.1)) (within-more so_far.looks (along (own m.mine)) (one.0 ∷ []) had.within)
@@ -314,10 +318,6 @@ module _ (w : World) (c : CallerId) (lines : List ScriptLine) (limit : ℕ) wher
           let same : o ≡ outcome = cc in
           let told = stop.full k h number at was in
           (sym same ∙ told.0, told.1)
-
-      -- the end has some number of looks, and never times out
-      one : (k : ℕ) × (along (own m.mine ++ end_pair) ≡ along (own m.mine) ++ k ∷ [])
-      one = along-any limit (going_on lines) (own m.mine) (End, Done)
 
       whole : ComesTo w c lines (Over outcome) m → IsRun lines (own m.mine ++ end_pair) outcome
       whole (inl way) = ended lines (own m.mine) outcome way.follows

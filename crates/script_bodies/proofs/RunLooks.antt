@@ -1,5 +1,5 @@
 -- The looks of a run: how many each call made, and where there was no room.
-use Rattle.std.proofs.Common.{◌≡◌, ◌⊎◌, ℕ, zero, suc, ◌+◌, ◌<◌, ◌≤◌, Bool, true, false, List, [], ◌∷◌, ◌++◌, map, length, length-append, Some, inl, inr, refl, sym, ap, ◌∙◌, subst, arith, append_assoc, append-nil}
+use Rattle.std.proofs.Common.{◌≡◌, ◌⊎◌, ℕ, zero, suc, ◌+◌, ◌<◌, ◌≤◌, true, false, List, [], ◌∷◌, ◌++◌, map, length, length-append, Some, inl, inr, refl, sym, ap, ◌∙◌, subst, arith, append_assoc, append-nil}
 use Rattle.std.specs.List.{slice_get, flat_map}
 use Rattle.std.proofs.lemmas.List.{map-append}
 use mathlib.Core.List.{IsPrefix}
@@ -7,7 +7,6 @@ use Rattle.gaspi_types.specs.World.{World}
 use Rattle.gaspi_types.specs.declared.calls.Call.{Call}
 use Rattle.gaspi_types.specs.declared.calls.Timeout.{Timeout}
 use Rattle.gaspi_types.specs.declared.events.Event.{Event}
-use Rattle.gaspi_types.specs.declared.events.Event.TheVariants.{Called}
 use Rattle.gaspi_types.specs.declared.replies.Reply.{Reply}
 use Rattle.gaspi_types.specs.declared.shapes.CallerId.{CallerId}
 use Rattle.gaspi_model.specs.Step.{own_calls}
@@ -15,8 +14,6 @@ use Rattle.timeout_state.specs.Looks.{looks_of}
 use Rattle.commit_table.specs.declared.views.Known.{Known}
 use Rattle.commit_table.proofs.Lists.{prefix_trans}
 use Rattle.rank_script.specs.Runs.{Progress, Going, Over, going_on, advanced, Follows}
-use Rattle.rank_script.specs.declared.scripts.RunOutcome.{RunOutcome}
-use Rattle.rank_script.specs.declared.scripts.RunOutcome.TheVariants as outcomes
 use Rattle.rank_script.specs.declared.scripts.ScriptLine.{ScriptLine}
 use Rattle.gaspi_world.specs.Attempts.{is_full_after}
 use Rattle.gaspi_world.specs.Calling.{HadRoom, AreLooks}
@@ -114,7 +111,7 @@ module _ (w : World) (c : CallerId) (lines : List ScriptLine) (mine : List Event
   pub full-here : (h : List Event) (number : ℕ) → own_calls c.rank c.thread h ≡ own_calls c.rank c.thread mine → WasFull w c lines h number → (is_full_after w c line.call h ≡ true) × (line.number ≡ number)
   full-here h number same was =
       let one : Going was.line was.made was.later ≡ Going line made later =
-          follows-one (going_on lines) (own_calls c.rank c.thread mine) (Going was.line was.made was.later) (Going line made later) (subst (λ (ps : List (Call × Reply)). Follows (going_on lines) ps (Going was.line was.made was.later)) same was.follows) there in
+      follows-one (going_on lines) (own_calls c.rank c.thread mine) (Going was.line was.made was.later) (Going line made later) (subst (λ (ps : List (Call × Reply)). Follows (going_on lines) ps (Going was.line was.made was.later)) same was.follows) there in
       let is : was.line ≡ line = cc in
       (ap (λ (l : ScriptLine). is_full_after w c l.call h) (sym is) ∙ was.full, ap (λ (l : ScriptLine). l.number) (sym is) ∙ was.is_line)
 
