@@ -5,6 +5,8 @@
 #[cfg(test)]
 mod launches;
 #[cfg(test)]
+mod procedures;
+#[cfg(test)]
 mod scripts;
 #[cfg(test)]
 mod two_senders;
