@@ -1,5 +1,5 @@
-//! Tests alone: ranks as threads. A crate with a test is proved twice, so these crates have theirs here. `two_senders` is also the
-//! example of how a program embeds ranks.
+//! Tests alone, of ranks as threads without scripts: worlds with bodies of their own, and each procedure once. `two_senders` is also
+//! the example of how a program embeds ranks. Workers and scripts are run by the tables of whole runs in `tests/`.
 #![tactic(auto)]
 
 #[cfg(test)]
@@ -7,8 +7,4 @@ mod launches;
 #[cfg(test)]
 mod procedures;
 #[cfg(test)]
-mod scripts;
-#[cfg(test)]
 mod two_senders;
-#[cfg(test)]
-mod workers;
