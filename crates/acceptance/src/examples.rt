@@ -1,8 +1,7 @@
 //! The worked examples of the rules, over the public call.
 
-use crate::running::{RUN, STEP, calls_are_told, journals_are_judged, words_run_to};
+use crate::running::{RUN, STEP, answer_to, calls_are_told, journals_are_judged, words_run_to};
 use gaspi_io::{SureSink, SureSource};
-use gaspi_run::gaspirun;
 use gaspi_types::{Bytes, NoMemory};
 use std::alloc::Global;
 use std::process::Abort;
@@ -61,7 +60,7 @@ fn one_finds_it<R: Threads + Wait + Sync + Abort>(
 ) -> Result<(), NoMemory> {
     let mut source = SureSource::new(Bytes::copied_from(alloc, TWO_RESETS.as_bytes())?);
     let mut sink = SureSink::with_room(alloc, 4096)?;
-    let answer = gaspirun(rt, alloc, words, &mut source, &mut sink);
+    let answer = answer_to(rt, alloc, words, &mut source, &mut sink);
     assert_eq!(rt; answer.status, 0);
     let first = sink.bytes() == FIRST_FINDS.as_bytes();
     let second = sink.bytes() == SECOND_FINDS.as_bytes();

@@ -1,10 +1,10 @@
 //! The parts of the command, called one by one.
 
 use crate::examples::{TOLD, TWO_RANKS, TWO_RESETS};
-use crate::running::RUN;
+use crate::running::{RUN, answer_to};
 use command_line::Command;
 use gaspi_io::{SureSink, SureSource};
-use gaspi_run::{gaspirun, run_command, schedule};
+use gaspi_run::{Answer, run_command, schedule};
 use gaspi_types::Bytes;
 use journal_texts::Journal;
 use rank_script::{RunOutcome, ScriptFault, read_world};
@@ -51,18 +51,23 @@ fn a_schedule_is_told(rt: HostRuntime) -> Result<(), Fail> {
     Ok(())
 }
 
-#[test]
-fn a_command_answers_with_its_journal(rt: HostRuntime) -> Result<(), Fail> {
-    let alloc = rt.alloc();
-    let mut source = SureSource::new(Bytes::copied_from(alloc, TWO_RANKS.as_bytes())?);
-    let mut sink = SureSink::with_room(alloc, 1000)?;
+/// What the command without threads answers with seed 0. Nothing is claimed of it.
+fn stepped(alloc: Global, source: &mut SureSource, sink: &mut SureSink) -> Answer {
     let command = Command::Step {
         seed: 0,
         limit: 1_000_000,
         brief: true,
     };
-    let answer = run_command(alloc, command, &mut source, &mut sink);
-    assert_eq!(rt; (answer.status, answer.journal.len()), (0, 12));
+    run_command(alloc, command, source, sink)
+}
+
+#[test]
+fn a_command_answers_with_its_journal(rt: HostRuntime) -> Result<(), Fail> {
+    let alloc = rt.alloc();
+    let mut source = SureSource::new(Bytes::copied_from(alloc, TWO_RANKS.as_bytes())?);
+    let mut sink = SureSink::with_room(alloc, 1000)?;
+    let answer = stepped(alloc, &mut source, &mut sink);
+    assert!(rt; answer.status == 0 && answer.journal.len() == 12);
     assert!(rt; sink.bytes() == TOLD.as_bytes());
     Ok(())
 }
@@ -81,7 +86,7 @@ fn a_run_on_threads_tells_its_own_journal(rt: HostRuntime) -> Result<(), Fail> {
     let text = TWO_RESETS.as_bytes();
     let mut source = SureSource::new(Bytes::copied_from(alloc, text)?);
     let mut sink = SureSink::with_room(alloc, 1000)?;
-    let answer = gaspirun(&rt, alloc, &RUN, &mut source, &mut sink);
+    let answer = answer_to(&rt, alloc, &RUN, &mut source, &mut sink);
     assert_eq!(rt; answer.status, 0);
     assert!(rt; answer.tally.is_some());
     let told = transcripts_of(alloc, text, &answer.journal)?;

@@ -1,8 +1,8 @@
 //! Runs of the command, compared with what they must give. A table of many cases is one text, since a proof goes over
 //! each row of a list, and over a text at once.
 
-use gaspi_io::{SureSink, SureSource};
-use gaspi_run::gaspirun;
+use gaspi_io::{Sink, Source, SureSink, SureSource};
+use gaspi_run::{Answer, gaspirun};
 use gaspi_types::{Bytes, NoMemory};
 use std::alloc::Global;
 use std::process::Abort;
@@ -19,6 +19,17 @@ pub const RUN: [&str; 4] = ["run", "--brief", "--limit", "100000000"];
 /// More bytes than any text that a test expects.
 const ROOM: usize = 4096;
 
+/// What the command answers. Nothing is claimed of it, so that what a test proves does not hold all that is said of a run.
+pub fn answer_to<R: Threads + Wait + Sync, S: Source, K: Sink>(
+    rt: &R,
+    alloc: Global,
+    words: &[&str],
+    source: &mut S,
+    sink: &mut K,
+) -> Answer {
+    gaspirun(rt, alloc, words, source, sink)
+}
+
 /// Runs the command with these words over a text, and asserts its status, and all that it writes. No run here is
 /// short of memory.
 pub fn words_run_to<R: Threads + Wait + Sync + Abort>(
@@ -31,7 +42,7 @@ pub fn words_run_to<R: Threads + Wait + Sync + Abort>(
 ) -> Result<(), NoMemory> {
     let mut source = SureSource::new(Bytes::copied_from(alloc, text.as_bytes())?);
     let mut sink = SureSink::with_room(alloc, ROOM)?;
-    let answer = gaspirun(rt, alloc, words, &mut source, &mut sink);
+    let answer = answer_to(rt, alloc, words, &mut source, &mut sink);
     assert_eq!(rt; answer.status, status, "{text}");
     assert_eq!(rt; sink.bytes(), output.as_bytes(), "{text}");
     if status == 1 || status == 2 {

@@ -3,9 +3,8 @@
 ghost use Rattle.std.specs.Prelude.{◌<◌};
 
 use crate::examples::{TOLD, TWO_RANKS};
-use crate::running::STEP;
+use crate::running::{STEP, answer_to};
 use gaspi_io::{MemSink, MemSource, SureSink, SureSource};
-use gaspi_run::gaspirun;
 use gaspi_types::{Bytes, NoMemory, Rows};
 use std::alloc::Global;
 use std::process::Abort;
@@ -22,16 +21,28 @@ fn source_in_pieces(alloc: Global, piece: usize) -> Result<MemSource, NoMemory>
     Ok(source)
 }
 
+/// Asserts what is written where the text is read and written in pieces of a size.
+fn is_told_in_pieces<R: Threads + Wait + Sync + Abort>(
+    rt: &R,
+    alloc: Global,
+    piece: usize,
+) -> Result<(), NoMemory>
+    requires { 0 < piece }
+{
+    let mut source = source_in_pieces(alloc, piece)?;
+    let mut sink = MemSink::with_room(alloc, 4096)?;
+    sink.set_piece(piece);
+    let answer = answer_to(rt, alloc, &STEP, &mut source, &mut sink);
+    assert!(rt; answer.status == 0, "pieces of {piece}");
+    assert!(rt; sink.bytes() == TOLD.as_bytes(), "pieces of {piece}");
+    Ok(())
+}
+
 #[test]
 fn pieces_of_each_size_are_one_text(rt: HostRuntime) -> Result<(), Fail> {
     let alloc = rt.alloc();
     for piece in [1, 2, 7, 184, 185] {
-        let mut source = source_in_pieces(alloc, piece)?;
-        let mut sink = MemSink::with_room(alloc, 4096)?;
-        sink.set_piece(piece);
-        let answer = gaspirun(&rt, alloc, &STEP, &mut source, &mut sink);
-        assert_eq!(rt; answer.status, 0, "pieces of {piece}");
-        assert_eq!(rt; sink.bytes(), TOLD.as_bytes(), "pieces of {piece}");
+        is_told_in_pieces(&rt, alloc, piece)?;
     }
     Ok(())
 }
@@ -48,7 +59,7 @@ fn fails_at_read<R: Threads + Wait + Sync + Abort>(
     let mut source = source_in_pieces(alloc, piece)?;
     source.set_failing(Rows::copied_from(alloc, &[call])?);
     let mut sink = SureSink::with_room(alloc, 4096)?;
-    let answer = gaspirun(rt, alloc, &STEP, &mut source, &mut sink);
+    let answer = answer_to(rt, alloc, &STEP, &mut source, &mut sink);
     assert_eq!(rt; answer.status, 5, "read {call} of {piece}");
     assert!(rt; sink.bytes().is_empty(), "read {call} of {piece}");
     assert!(rt; answer.journal.is_empty(), "read {call} of {piece}");
@@ -81,7 +92,7 @@ fn fails_at_write<R: Threads + Wait + Sync + Abort>(
     let mut sink = MemSink::with_room(alloc, 4096)?;
     sink.set_piece(piece);
     sink.set_failing(Rows::copied_from(alloc, &[call as u64])?);
-    let answer = gaspirun(rt, alloc, &STEP, &mut source, &mut sink);
+    let answer = answer_to(rt, alloc, &STEP, &mut source, &mut sink);
     let before = piece.saturating_mul(call);
     let written = TOLD.get(..before).expect(rt, "a front part");
     assert_eq!(rt; answer.status, 6, "write {call} of {piece}");

@@ -1,6 +1,7 @@
 //! Each procedure of a rank once, in a world of one rank whose posts nobody transfers.
 
-ghost use Rattle.std.specs.Prelude.{◌≡◌, ℕ, Some, slice_get};
+ghost use Rattle.std.specs.Prelude.{◌≡◌, ℕ, Some, length, slice_get};
+ghost use Rattle.std.specs.List.{All};
 ghost use Rattle.gaspi_world.specs.Calling.{MayCall};
 
 use call_texts::read_call;
@@ -148,7 +149,37 @@ fn one_rank(alloc: Global) -> Result<Shape, Fail> {
     Ok(shape)
 }
 
-/// How many calls got their replies, of those that the world's only caller makes.
+fn run_slice<R: Threads + Wait + Sync>(
+    rt: &R,
+    alloc: Global,
+    world: &World,
+    tasks: &mut [Task<Caller>],
+)
+    requires { All (λ t. MayCall world.now t.pass) tasks.old }
+    ensures { length tasks.new ≡ length tasks.old }
+{
+    launch(rt, alloc, world, tasks);
+}
+
+/// How many calls got their replies, of those that a caller makes on a thread of its own.
+fn run_one<R: Threads + Wait + Sync>(
+    rt: &R,
+    alloc: Global,
+    world: &World,
+    pass: Pass,
+) -> Result<u32, Fail>
+    requires { MayCall world.now pass }
+{
+    let body = Caller { answered: 0 };
+    let mut tasks = vec![in alloc; Task { body, pass }]?;
+    run_slice(rt, alloc, world, tasks.as_mut_slice());
+    match tasks.pop() {
+        Some(task) => Ok(task.body.answered),
+        None => Ok(0),
+    }
+}
+
+/// The same of the last of the world's callers.
 fn answered<R: Threads + Wait + Sync>(
     rt: &R,
     alloc: Global,
@@ -157,14 +188,8 @@ fn answered<R: Threads + Wait + Sync>(
 ) -> Result<u32, Fail>
     requires { (k : ℕ) (p : _) → slice_get passes.items k ≡ Some p → MayCall world.now p }
 {
-    let Some(pass) = passes.pop() else {
-        return Ok(0);
-    };
-    let body = Caller { answered: 0 };
-    let mut tasks = vec![in alloc; Task { body, pass }]?;
-    launch(rt, alloc, world, tasks.as_mut_slice());
-    match tasks.pop() {
-        Some(task) => Ok(task.body.answered),
+    match passes.pop() {
+        Some(pass) => run_one(rt, alloc, world, pass),
         None => Ok(0),
     }
 }

@@ -1,26 +1,6 @@
-use Rattle.std.proofs.Common.{rules, ◌≡◌, ℕ, ◌+◌, ◌<◌, List, [], length, Option, Some, sym, ◌∙◌, refl, subst, arith}
-use Rattle.std.proofs.lemmas.Option.{slice_get_within}
-use Rattle.std.specs.List.{slice_get}
-use Rattle.gaspi_types.specs.World.{World}
-use Rattle.gaspi_types.specs.declared.events.Event.{Event}
-use Rattle.gaspi_types.specs.declared.shapes.CallerId.{CallerId}
-use Rattle.commit_table.specs.Calls.{TableValue, PassValue}
-use Rattle.commit_table.specs.Views.{new_pass}
-use Rattle.gaspi_world.specs.Callers.{IsPassOf}
-use Rattle.gaspi_world.specs.Calling.{MayCall}
-use Rattle.gaspi_world.specs.declared.starts.Start.{Start}
+use Rattle.std.proofs.Common.{rules}
+use Rattle.world_tests.proofs.Made.{made-callers}
 use Rattle.world_tests.proofs.two_senders.two_ranks_send_each_other_a_message.Goals as goal
-
--- each pass of a world without workers is that of a caller
-made-callers : (t : TableValue Start) (w : World) (n : ℕ) (ps : List (PassValue Start Event)) → t.start.shape ≡ w → length ps ≡ n + 0 → ((k : ℕ) → k < n + 0 → slice_get ps k ≡ Some (record { table = t.table; known = new_pass t.start (Some k) [] }))
-    → ((k : ℕ) → k < n → (c : CallerId) × IsPassOf {S = Start} {E = Event} w c (new_pass t.start (Some k) [])) → (k : ℕ) (p : PassValue Start Event) → slice_get ps k ≡ Some p → MayCall t p
-made-callers t w n ps began count made callers k p at =
-    let less = slice_get_within ps k p at in
-    let new : PassValue Start Event = record { table = t.table; known = new_pass t.start (Some k) [] } in
-    let both : ◌≡◌ {A = Option (PassValue Start Event)} (Some new) (Some p) = sym (made k (omega arith)) ∙ at in
-    let same : new ≡ p = cc in
-    let caller = callers k (omega arith) in
-    subst (MayCall t) same ((refl, refl), (λ i. refl), (caller.0, subst (λ (v : World). IsPassOf {S = Start} {E = Event} v caller.0 (new_pass t.start (Some k) [])) (sym began) caller.1))
 
 pub each_sends-requires-after_bounds : goal.each_sends-requires-after_bounds
 each_sends-requires-after_bounds g c κs =
