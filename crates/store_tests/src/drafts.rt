@@ -1,45 +1,69 @@
-use gaspi_types::{ByteRange, Kind, NoteSlot};
+use gaspi_types::{ByteRange, Kind, NoMemory, NoteSlot};
 use post_drafts::{Draft, Entries, payload_size};
+use std::alloc::Global;
 use std::test::Fail;
 
-#[test]
-fn drafts_have_room_for_their_bytes(rt: HostRuntime) -> Result<(), Fail> {
-    let alloc = rt.alloc();
+/// A write of three bytes.
+fn write() -> Kind {
     let range = ByteRange {
         segment: 1,
         generation: 0,
         offset: 8,
         size: 3,
     };
-    let write = Kind::Write {
+    Kind::Write {
         own: range,
         target: range,
-    };
-    let notify = Kind::Notify {
+    }
+}
+
+/// A notification.
+fn notify() -> Kind {
+    Kind::Notify {
         target: NoteSlot {
             segment: 1,
             generation: 0,
             note: 2,
         },
         value: 7,
-    };
-    assert_eq!(rt; payload_size(&write), 3);
-    let draft = Draft::new(alloc, write)?;
-    assert_eq!(rt; *draft.kind(), write);
-    let (kind, room) = draft.into_parts();
-    assert_eq!(rt; kind, write);
-    assert_eq!(rt; room.len(), 3);
-    let (kind, room) = Draft::new(alloc, notify)?.into_parts();
-    assert_eq!(rt; kind, notify);
-    assert_eq!(rt; room.len(), 0);
-    let mut entries = Entries::new(alloc, &[write, notify])?;
-    assert_eq!(rt; entries.len(), 2);
-    for kind in [write, notify] {
-        match entries.take_first() {
-            Some(draft) => assert_eq!(rt; *draft.kind(), kind),
-            None => assert_eq!(rt; entries.len(), 2),
-        }
     }
-    assert_eq!(rt; entries.len(), 0);
+}
+
+/// Whether a kind carries that many bytes.
+fn carries(kind: &Kind, size: u32) -> bool {
+    payload_size(kind) == size
+}
+
+/// Whether a draft has its kind, before and after it is taken apart, and room for that many bytes.
+fn has_room(alloc: Global, kind: Kind, size: usize) -> Result<bool, NoMemory> {
+    let draft = Draft::new(alloc, kind)?;
+    let has_kind = *draft.kind() == kind;
+    let (same, room) = draft.into_parts();
+    Ok(has_kind && same == kind && room.len() == size)
+}
+
+/// Whether the first entry is of that kind, which is taken out.
+fn takes(entries: &mut Entries, kind: &Kind) -> bool {
+    match entries.take_first() {
+        Some(draft) => draft.kind() == kind,
+        None => false,
+    }
+}
+
+/// Whether two entries are of these kinds, in order, and no more are there.
+fn are_two(alloc: Global, first: Kind, second: Kind) -> Result<bool, NoMemory> {
+    let mut entries = Entries::new(alloc, &[first, second])?;
+    let are_two = entries.len() == 2;
+    let taken = takes(&mut entries, &first) && takes(&mut entries, &second);
+    Ok(are_two && taken && entries.len() == 0)
+}
+
+#[test]
+fn drafts_have_room_for_their_bytes(rt: HostRuntime) -> Result<(), Fail> {
+    let alloc = rt.alloc();
+    assert!(rt; carries(&write(), 3));
+    assert!(rt; has_room(alloc, write(), 3)?);
+    assert!(rt; has_room(alloc, notify(), 0)?);
+    assert!(rt; are_two(alloc, write(), notify())?);
     Ok(())
 }

@@ -1,54 +1,119 @@
-ghost use Rattle.std.specs.Prelude.{◌≡◌};
-ghost use Rattle.gaspi_types.specs.Groups.{commit_list};
-
-use gaspi_types::{GroupId, RankId, Refusal, Stage};
+use gaspi_types::{NoMemory, RankId, Refusal, Stage};
 use group_registry::{Groups, Meeting};
+use std::alloc::Global;
 use std::test::Fail;
 
-/// Commits a group alone.
-fn commit(groups: &mut Groups, group: u64) -> Result<u32, Refusal>
-    ensures { result ≡ commit_list groups.old.groups groups.old.me group }
-{
+/// The groups of rank 2 at the start, in a world of four ranks.
+fn opening(alloc: Global) -> Result<Groups, NoMemory> {
+    Groups::new(alloc, RankId::of(2), 4)
+}
+
+/// The stage of a group.
+fn stage(groups: &Groups, group: u64) -> Result<Stage, Refusal> {
+    groups.stage(group)
+}
+
+/// Whether a group is made, with the number that was told before.
+fn is_made(groups: &mut Groups, id: u32) -> bool {
+    let told = matches!(groups.next(), Ok(group) if group.number() == id);
+    told && matches!(groups.create(), Ok(group) if group.number() == id)
+}
+
+/// What one more group than there may be is answered.
+fn create(groups: &mut Groups) -> Option<Refusal> {
+    groups.create().err()
+}
+
+/// What a rank that is added to a group is answered.
+fn add(groups: &mut Groups, group: u64, rank: RankId) -> Result<(), Refusal> {
+    groups.add(group, rank)
+}
+
+/// Commits a group alone, and gives its ranks.
+fn commit(groups: &mut Groups, group: u64) -> Result<u32, Refusal> {
     let members = groups.commit_list(group)?;
     groups.committed(group);
     Ok(members)
 }
 
+/// What a delete of a group is answered.
+fn delete(groups: &mut Groups, group: u64) -> Result<(), Refusal> {
+    groups.delete(group)
+}
+
+/// Whether a call is refused, since its group is committed.
+fn is_late(answer: Result<(), Refusal>) -> bool {
+    matches!(
+        answer,
+        Err(Refusal::GroupStage {
+            stage: Stage::Committed
+        })
+    )
+}
+
+/// Whether group 0 is there and stays, and group 1 is not there.
+fn is_start(groups: &mut Groups) -> bool {
+    matches!(stage(groups, 0), Ok(Stage::Committed))
+        && is_late(delete(groups, 0))
+        && matches!(stage(groups, 1), Err(Refusal::NoGroup))
+}
+
+/// Whether group 1 is built, of ranks 0 and 2.
+fn is_built(groups: &mut Groups) -> bool {
+    is_made(groups, 1)
+        && add(groups, 1, RankId::of(0)).is_ok()
+        && matches!(commit(groups, 1), Err(Refusal::NotMember))
+        && add(groups, 1, RankId::of(2)).is_ok()
+        && add(groups, 1, RankId::of(0)).is_ok()
+}
+
+/// Whether group 1 is committed, and no rank is added then.
+fn is_committed(groups: &mut Groups) -> bool {
+    matches!(commit(groups, 1), Ok(5))
+        && matches!(stage(groups, 1), Ok(Stage::Committed))
+        && is_late(add(groups, 1, RankId::of(3)))
+}
+
+/// Whether group 1 is deleted.
+fn is_deleted(groups: &mut Groups) -> bool {
+    delete(groups, 1).is_ok() && matches!(stage(groups, 1), Err(Refusal::NoGroup))
+}
+
+/// Whether the other groups are made, and no more.
+fn are_made(groups: &mut Groups) -> bool {
+    for id in 2..8u32 {
+        if !is_made(groups, id) {
+            return false;
+        }
+    }
+    matches!(create(groups), Some(Refusal::GroupsFull))
+}
+
 #[test]
 fn groups_are_built_and_committed(rt: HostRuntime) -> Result<(), Fail> {
-    let committed = Refusal::GroupStage {
-        stage: Stage::Committed,
-    };
-    let mut groups = Groups::new(rt.alloc(), RankId::of(2), 4)?;
-    assert_eq!(rt; groups.stage(0), Ok(Stage::Committed));
-    assert_eq!(rt; groups.delete(0), Err(committed));
-    assert_eq!(rt; groups.stage(1), Err(Refusal::NoGroup));
-
-    assert_eq!(rt; groups.create(), Ok(GroupId::of(1)));
-    assert_eq!(rt; groups.add(1, RankId::of(0)), Ok(()));
-    assert_eq!(rt; groups.commit_list(1), Err(Refusal::NotMember));
-    assert_eq!(rt; groups.add(1, RankId::of(2)), Ok(()));
-    assert_eq!(rt; groups.add(1, RankId::of(0)), Ok(()));
-    assert_eq!(rt; commit(&mut groups, 1), Ok(5));
-    assert_eq!(rt; groups.stage(1), Ok(Stage::Committed));
-    assert_eq!(rt; groups.add(1, RankId::of(3)), Err(committed));
-
-    assert_eq!(rt; groups.delete(1), Ok(()));
-    assert_eq!(rt; groups.stage(1), Err(Refusal::NoGroup));
-    assert_eq!(rt; groups.next(), Ok(GroupId::of(2)));
-    for id in 2..8u32 {
-        assert_eq!(rt; groups.create(), Ok(GroupId::of(id)));
-    }
-    assert_eq!(rt; groups.create(), Err(Refusal::GroupsFull));
+    let mut groups = opening(rt.alloc())?;
+    assert!(rt; is_start(&mut groups));
+    assert!(rt; is_built(&mut groups));
+    assert!(rt; is_committed(&mut groups));
+    assert!(rt; is_deleted(&mut groups));
+    assert!(rt; are_made(&mut groups));
     Ok(())
+}
+
+/// Whether a list of ranks is fixed.
+fn is_fixed(meeting: &mut Meeting, mask: u32) -> bool {
+    meeting.fix(mask).is_ok() && meeting.members() == Some(mask)
+}
+
+/// Whether a list of ranks is refused, since another is kept.
+fn is_refused(meeting: &mut Meeting, mask: u32, kept: u32) -> bool {
+    meeting.fix(mask) == Err(Refusal::GroupMismatch { kept })
 }
 
 #[test]
 fn first_list_is_kept(rt: HostRuntime) {
     let mut meeting = Meeting::new();
-    assert_eq!(rt; meeting.members(), None);
-    assert_eq!(rt; meeting.fix(5), Ok(()));
-    assert_eq!(rt; meeting.fix(7), Err(Refusal::GroupMismatch { kept: 5 }));
-    assert_eq!(rt; meeting.fix(5), Ok(()));
-    assert_eq!(rt; meeting.members(), Some(5));
+    assert!(rt; meeting.members().is_none());
+    assert!(rt; is_fixed(&mut meeting, 5));
+    assert!(rt; is_refused(&mut meeting, 7, 5) && is_fixed(&mut meeting, 5));
 }

@@ -1,31 +1,218 @@
 use gaspi_types::{
-    ByteRange, Call, CallerId, Extent, Item, Kind, NoMemory, NoteSlot, Notify, RankId, Read,
-    ReadList, ReadListNotify, ReadNotify, Rows, SegmentTable, Shape, ThreadId, Write, WriteList,
-    WriteListNotify, WriteNotify,
+    ByteRange, Call, CallerId, Extent, Extents, Item, Kind, NoMemory, NoteSlot, Notify, RankId,
+    Read, ReadList, ReadListNotify, ReadNotify, Rows, SegmentTable, Shape, ThreadId, Write,
+    WriteList, WriteListNotify, WriteNotify,
 };
 use list_ops::build;
 use post_drafts::Entries;
 use std::alloc::Global;
 use std::test::Fail;
 
+/// Segments of a rank, by their numbers.
+fn extents(alloc: Global, extents: &[Option<Extent>]) -> Result<Extents, NoMemory> {
+    Rows::copied_from(alloc, extents)
+}
+
+/// What is known of the segments of two ranks.
+fn known_of(alloc: Global, first: Extents, second: Extents) -> Result<Rows<Extents>, NoMemory> {
+    let ranks = vec![in alloc; first, second]?;
+    Ok(Rows::from_vec(ranks))
+}
+
+/// A segment in a generation and a size.
+fn extent(generation: u32, size: u32) -> Option<Extent> {
+    Some(Extent { generation, size })
+}
+
 /// The table of rank 0, which has segment 0 and knows segment 1 of rank 1.
 fn table(alloc: Global) -> Result<SegmentTable, NoMemory> {
-    let own = Extent {
-        generation: 2,
-        size: 16,
-    };
-    let target = Extent {
-        generation: 5,
-        size: 32,
-    };
-    let mut known = Rows::new(alloc);
-    known.push(Rows::new(alloc))?;
-    known.push(Rows::copied_from(alloc, &[None, Some(target)])?)?;
+    let nothing = extents(alloc, &[])?;
+    let target = extents(alloc, &[None, extent(5, 32)])?;
+    let known = known_of(alloc, nothing, target)?;
+    let own = extents(alloc, &[extent(2, 16)])?;
     Ok(SegmentTable {
-        own: Rows::copied_from(alloc, &[Some(own)])?,
+        own,
         next_generations: Rows::new(alloc),
         known,
     })
+}
+
+/// The range of the caller's own segment.
+fn own() -> ByteRange {
+    ByteRange {
+        segment: 0,
+        generation: 2,
+        offset: 8,
+        size: 4,
+    }
+}
+
+/// The range of the target's segment.
+fn target() -> ByteRange {
+    ByteRange {
+        segment: 1,
+        generation: 5,
+        offset: 16,
+        size: 4,
+    }
+}
+
+/// The kind of a write.
+fn write() -> Kind {
+    Kind::Write {
+        own: own(),
+        target: target(),
+    }
+}
+
+/// The kind of a read.
+fn read() -> Kind {
+    Kind::Read {
+        own: own(),
+        target: target(),
+    }
+}
+
+/// The kind of a notification of the target.
+fn notify() -> Kind {
+    Kind::Notify {
+        target: NoteSlot {
+            segment: 1,
+            generation: 5,
+            note: 3,
+        },
+        value: 7,
+    }
+}
+
+/// The kind of a notification of the caller, after its reads.
+fn read_note() -> Kind {
+    Kind::ReadNote {
+        own: NoteSlot {
+            segment: 0,
+            generation: 2,
+            note: 3,
+        },
+    }
+}
+
+/// A write.
+fn write_call() -> Call {
+    Call::Write(Write {
+        seg: 0,
+        offset: 8,
+        rank: 1,
+        rseg: 1,
+        roffset: 16,
+        size: 4,
+        queue: 0,
+    })
+}
+
+/// A read.
+fn read_call() -> Call {
+    Call::Read(Read {
+        seg: 0,
+        offset: 8,
+        rank: 1,
+        rseg: 1,
+        roffset: 16,
+        size: 4,
+        queue: 0,
+    })
+}
+
+/// A notification.
+fn notify_call() -> Call {
+    Call::Notify(Notify {
+        rseg: 1,
+        rank: 1,
+        note: 3,
+        value: 7,
+        queue: 0,
+    })
+}
+
+/// A write with its notification.
+fn write_notify_call() -> Call {
+    Call::WriteNotify(WriteNotify {
+        seg: 0,
+        offset: 8,
+        rank: 1,
+        rseg: 1,
+        roffset: 16,
+        size: 4,
+        note: 3,
+        value: 7,
+        queue: 0,
+    })
+}
+
+/// A read with its notification.
+fn read_notify_call() -> Call {
+    Call::ReadNotify(ReadNotify {
+        seg: 0,
+        offset: 8,
+        rank: 1,
+        rseg: 1,
+        roffset: 16,
+        size: 4,
+        note: 3,
+        queue: 0,
+    })
+}
+
+/// The items of a list, which are two of these ranges.
+fn items(alloc: Global) -> Result<Rows<Item>, NoMemory> {
+    let item = Item {
+        seg: 0,
+        offset: 8,
+        rseg: 1,
+        roffset: 16,
+        size: 4,
+    };
+    Rows::copied_from(alloc, &[item, item])
+}
+
+/// A list of writes.
+fn write_list_call(alloc: Global) -> Result<Call, NoMemory> {
+    Ok(Call::WriteList(WriteList {
+        rank: 1,
+        queue: 0,
+        items: items(alloc)?,
+    }))
+}
+
+/// A list of reads.
+fn read_list_call(alloc: Global) -> Result<Call, NoMemory> {
+    Ok(Call::ReadList(ReadList {
+        rank: 1,
+        queue: 0,
+        items: items(alloc)?,
+    }))
+}
+
+/// A list of writes with their notification.
+fn write_list_notify_call(alloc: Global) -> Result<Call, NoMemory> {
+    Ok(Call::WriteListNotify(WriteListNotify {
+        rank: 1,
+        queue: 0,
+        nseg: 1,
+        note: 3,
+        value: 7,
+        items: items(alloc)?,
+    }))
+}
+
+/// A list of reads with their notification.
+fn read_list_notify_call(alloc: Global) -> Result<Call, NoMemory> {
+    Ok(Call::ReadListNotify(ReadListNotify {
+        rank: 1,
+        queue: 0,
+        nseg: 0,
+        note: 3,
+        items: items(alloc)?,
+    }))
 }
 
 /// Whether the entries are of these kinds, in order.
@@ -41,7 +228,7 @@ fn are_of(entries: Entries, kinds: &[Kind]) -> bool {
 }
 
 /// Whether the entries of a call are built, and are of these kinds.
-fn brings(alloc: Global, table: &SegmentTable, shape: &Shape, call: &Call, kinds: &[Kind]) -> bool {
+fn brings(alloc: Global, table: &SegmentTable, shape: &Shape, call: Call, kinds: &[Kind]) -> bool {
     if call.row().posting.is_none() {
         return false;
     }
@@ -49,157 +236,66 @@ fn brings(alloc: Global, table: &SegmentTable, shape: &Shape, call: &Call, kinds
         rank: RankId::of(0),
         thread: ThreadId::of(0),
     };
-    match build(alloc, table, shape, caller, call) {
+    match build(alloc, table, shape, caller, &call) {
         Ok(entries) => are_of(entries, kinds),
         Err(_) => false,
     }
+}
+
+/// Whether each call without a list brings its entries.
+fn calls_bring(alloc: Global, table: &SegmentTable, shape: &Shape) -> bool {
+    brings(alloc, table, shape, write_call(), &[write()])
+        && brings(alloc, table, shape, read_call(), &[read()])
+        && brings(alloc, table, shape, notify_call(), &[notify()])
+        && brings(
+            alloc,
+            table,
+            shape,
+            write_notify_call(),
+            &[write(), notify()],
+        )
+        && brings(
+            alloc,
+            table,
+            shape,
+            read_notify_call(),
+            &[read(), read_note()],
+        )
+}
+
+/// Whether each call with a list of two items brings its entries.
+fn lists_bring(alloc: Global, table: &SegmentTable, shape: &Shape) -> Result<bool, NoMemory> {
+    let writes = brings(
+        alloc,
+        table,
+        shape,
+        write_list_call(alloc)?,
+        &[write(), write()],
+    );
+    let reads = brings(
+        alloc,
+        table,
+        shape,
+        read_list_call(alloc)?,
+        &[read(), read()],
+    );
+    let call = write_list_notify_call(alloc)?;
+    let notifies = brings(alloc, table, shape, call, &[write(), write(), notify()]);
+    let call = read_list_notify_call(alloc)?;
+    let notes = brings(alloc, table, shape, call, &[read(), read(), read_note()]);
+    Ok(writes && reads && notifies && notes)
+}
+
+/// Whether all calls bring their entries, in a world of two ranks.
+fn all_bring(alloc: Global, shape: &Shape) -> Result<bool, NoMemory> {
+    let table = table(alloc)?;
+    Ok(calls_bring(alloc, &table, shape) && lists_bring(alloc, &table, shape)?)
 }
 
 #[test]
 fn each_call_brings_its_entries(rt: HostRuntime) -> Result<(), Fail> {
     let alloc = rt.alloc();
     let shape = Shape::new(alloc, 2, 1, 8, 4, 1, 9)?;
-    let table = table(alloc)?;
-    let (seg, offset, rseg, roffset, size) = (0, 8, 1, 16, 4);
-    let (rank, queue, note, value) = (1, 0, 3, 7);
-    let own = ByteRange {
-        segment: 0,
-        generation: 2,
-        offset: 8,
-        size: 4,
-    };
-    let target = ByteRange {
-        segment: 1,
-        generation: 5,
-        offset: 16,
-        size: 4,
-    };
-    let write = Kind::Write { own, target };
-    let read = Kind::Read { own, target };
-    let there = NoteSlot {
-        segment: 1,
-        generation: 5,
-        note: 3,
-    };
-    let notify = Kind::Notify {
-        target: there,
-        value: 7,
-    };
-    let here = NoteSlot {
-        segment: 0,
-        generation: 2,
-        note: 3,
-    };
-    let read_note = Kind::ReadNote { own: here };
-    let items = [
-        Item {
-            seg,
-            offset,
-            rseg,
-            roffset,
-            size,
-        },
-        Item {
-            seg,
-            offset,
-            rseg,
-            roffset,
-            size,
-        },
-    ];
-
-    let call = Call::Write(Write {
-        seg,
-        offset,
-        rank,
-        rseg,
-        roffset,
-        size,
-        queue,
-    });
-    assert_eq!(rt; brings(alloc, &table, &shape, &call, &[write]), true);
-    let call = Call::Read(Read {
-        seg,
-        offset,
-        rank,
-        rseg,
-        roffset,
-        size,
-        queue,
-    });
-    assert_eq!(rt; brings(alloc, &table, &shape, &call, &[read]), true);
-    let call = Call::Notify(Notify {
-        rseg,
-        rank,
-        note,
-        value,
-        queue,
-    });
-    assert_eq!(rt; brings(alloc, &table, &shape, &call, &[notify]), true);
-    let call = Call::WriteNotify(WriteNotify {
-        seg,
-        offset,
-        rank,
-        rseg,
-        roffset,
-        size,
-        note,
-        value,
-        queue,
-    });
-    assert_eq!(rt;
-        brings(alloc, &table, &shape, &call, &[write, notify]),
-        true
-    );
-    let call = Call::ReadNotify(ReadNotify {
-        seg,
-        offset,
-        rank,
-        rseg,
-        roffset,
-        size,
-        note,
-        queue,
-    });
-    assert_eq!(rt;
-        brings(alloc, &table, &shape, &call, &[read, read_note]),
-        true
-    );
-
-    let call = Call::WriteList(WriteList {
-        rank,
-        queue,
-        items: Rows::copied_from(alloc, &items)?,
-    });
-    assert_eq!(rt; brings(alloc, &table, &shape, &call, &[write, write]), true);
-    let call = Call::ReadList(ReadList {
-        rank,
-        queue,
-        items: Rows::copied_from(alloc, &items)?,
-    });
-    assert_eq!(rt; brings(alloc, &table, &shape, &call, &[read, read]), true);
-    let call = Call::WriteListNotify(WriteListNotify {
-        rank,
-        queue,
-        nseg: rseg,
-        note,
-        value,
-        items: Rows::copied_from(alloc, &items)?,
-    });
-    assert_eq!(rt;
-        brings(alloc, &table, &shape, &call, &[write, write, notify]),
-        true
-    );
-    let call = Call::ReadListNotify(ReadListNotify {
-        rank,
-        queue,
-        nseg: seg,
-        note,
-        items: Rows::copied_from(alloc, &items)?,
-    });
-    assert_eq!(rt;
-        brings(alloc, &table, &shape, &call, &[read, read, read_note]),
-        true
-    );
+    assert!(rt; all_bring(alloc, &shape)?);
     Ok(())
 }

@@ -1,49 +1,73 @@
 use gaspi_types::{
-    Args, Coll, GroupId, NumType, Numbers, Op, Refusal, Resume, Rows, ThreadId, Timeout,
+    Args, Coll, GroupId, NoMemory, NumType, Numbers, Op, Refusal, Resume, Rows, ThreadId,
 };
+use std::alloc::Global;
 use std::test::Fail;
-use timeout_state::{Budget, Look, Pending};
+use timeout_state::Pending;
+
+/// A sum of one number.
+fn sum_of(alloc: Global, number: i32) -> Result<Args, NoMemory> {
+    let items = Rows::copied_from(alloc, &[i128::from(number)])?;
+    Ok(Args {
+        coll: Coll::Allreduce(Op::Sum, NumType::Int, 1),
+        values: Numbers::new(NumType::Int, items),
+    })
+}
+
+/// What a collective of a thread meets on a group.
+fn state(
+    pending: &Pending,
+    group: GroupId,
+    thread: ThreadId,
+    args: &Args,
+) -> Result<Resume, Refusal> {
+    pending.state(group, thread, args)
+}
+
+/// Whether a copy of a collective is made pending, where none is.
+fn is_put_in(
+    alloc: Global,
+    pending: &mut Pending,
+    group: GroupId,
+    thread: ThreadId,
+    args: &Args,
+) -> Result<bool, NoMemory> {
+    let fresh = matches!(pending.state(group, thread, args), Ok(Resume::Fresh));
+    if fresh {
+        pending.put_in(group, thread, args.copy(alloc)?);
+    }
+    Ok(fresh)
+}
+
+/// Whether a collective is taken out, where it is the one that is pending.
+fn is_taken_out(pending: &mut Pending, group: GroupId, thread: ThreadId, args: &Args) -> bool {
+    let same = matches!(pending.state(group, thread, args), Ok(Resume::Same));
+    same && pending.take_out(group, thread) == *args
+}
+
+/// Whether another collective is refused to the thread and to others on a group, and not on the group beside.
+fn is_refused(pending: &Pending, group: GroupId, thread: ThreadId, args: &Args) -> bool {
+    let other = state(pending, group, thread, args);
+    let active = state(pending, group, ThreadId::of(0), args);
+    matches!(other, Err(Refusal::ResumeOther { kept }) if kept == args.coll)
+        && matches!(active, Err(Refusal::ActiveCollective { thread: 2 }))
+        && is_fresh(pending, GroupId::of(6), thread, args)
+}
+
+/// Whether none is pending on a group.
+fn is_fresh(pending: &Pending, group: GroupId, thread: ThreadId, args: &Args) -> bool {
+    matches!(state(pending, group, thread, args), Ok(Resume::Fresh))
+}
 
 #[test]
 fn collective_is_resumed_and_ended(rt: HostRuntime) -> Result<(), Fail> {
     let alloc = rt.alloc();
-    let coll = Coll::Allreduce(Op::Sum, NumType::Int, 1);
-    let three = Args {
-        coll,
-        values: Numbers::new(NumType::Int, Rows::copied_from(alloc, &[3])?),
-    };
-    let four = Args {
-        coll,
-        values: Numbers::new(NumType::Int, Rows::copied_from(alloc, &[4])?),
-    };
+    let (three, four) = (sum_of(alloc, 3)?, sum_of(alloc, 4)?);
     let (group, thread) = (GroupId::of(7), ThreadId::of(2));
     let mut pending = Pending::new(alloc)?;
-    assert_eq!(rt; pending.state(group, thread, &three), Ok(Resume::Fresh));
-    pending.put_in(group, thread, three.copy(alloc)?);
-    assert_eq!(rt; pending.state(group, thread, &three), Ok(Resume::Same));
-    assert_eq!(rt;
-        pending.state(group, thread, &four),
-        Err(Refusal::ResumeOther { kept: coll })
-    );
-    assert_eq!(rt;
-        pending.state(group, ThreadId::of(0), &four),
-        Err(Refusal::ActiveCollective { thread: 2 })
-    );
-    assert_eq!(rt;
-        pending.state(GroupId::of(6), thread, &four),
-        Ok(Resume::Fresh)
-    );
-    assert_eq!(rt; pending.take_out(group, thread), three);
-    assert_eq!(rt; pending.state(group, thread, &four), Ok(Resume::Fresh));
+    assert!(rt; is_put_in(alloc, &mut pending, group, thread, &three)?);
+    assert!(rt; is_refused(&pending, group, thread, &four));
+    assert!(rt; is_taken_out(&mut pending, group, thread, &three));
+    assert!(rt; is_fresh(&pending, group, thread, &four));
     Ok(())
-}
-
-#[test]
-fn third_look_of_three_is_the_last(rt: HostRuntime) {
-    let mut budget = Budget::new(Timeout::Looks(3));
-    assert_eq!(rt; budget.next(), Look::More);
-    assert_eq!(rt; budget.next(), Look::More);
-    assert_eq!(rt; budget.next(), Look::Final);
-    let mut endless = Budget::new(Timeout::Block);
-    assert_eq!(rt; endless.next(), Look::More);
 }

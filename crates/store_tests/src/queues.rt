@@ -30,6 +30,14 @@ fn notify() -> Kind {
     }
 }
 
+/// The empty queues of a rank: two, each of four entries at most, in a world of two ranks.
+fn empty(alloc: Global) -> Result<Lanes, NoMemory> {
+    Lanes::new(alloc, 2, 2, 4)
+}
+
+/// What a post of the tests answers.
+type Posted = Result<Option<Result<(), Refusal>>, NoMemory>;
+
 /// Posts a write and its notification, where the world has the target and few were posted.
 fn post(alloc: Global, lanes: &mut Lanes, queue: u64, target: RankId, segment: u32) -> Posted {
     let entries = Entries::new(alloc, &[write_of(segment), notify()])?;
@@ -38,9 +46,6 @@ fn post(alloc: Global, lanes: &mut Lanes, queue: u64, target: RankId, segment: u
     }
     Ok(Some(lanes.post(queue, target, entries)))
 }
-
-/// What a post of the tests answers.
-type Posted = Result<Option<Result<(), Refusal>>, NoMemory>;
 
 /// The entry that may take its bytes next takes these, where it has room for so many.
 fn carry(lanes: &mut Lanes, queue: u64, target: RankId, bytes: &[u8]) -> bool {
@@ -83,7 +88,7 @@ fn fail_take(lanes: &mut Lanes, queue: u64, target: RankId) -> bool {
 
 /// A wait that is ready is done.
 fn wait(lanes: &mut Lanes, queue: u64) -> bool {
-    let ready = lanes.wait_ready(queue) == Ok(true);
+    let ready = matches!(lanes.wait_ready(queue), Ok(true));
     if ready {
         lanes.close_wait(queue);
     }
@@ -103,60 +108,142 @@ fn is_write(lanes: &Lanes, queue: u64, target: RankId, segment: u32, bytes: &[u8
     }
 }
 
+/// Whether that many entries were posted, and events of that many are owed.
+fn counts(lanes: &Lanes, posted: u32, owed: u64) -> bool {
+    lanes.next_number() == posted && lanes.owed() == owed
+}
+
+/// Whether a queue has that open count.
+fn is_open(lanes: &Lanes, queue: u64, entries: u32) -> bool {
+    lanes.open_count(queue) == Ok(entries)
+}
+
+/// Whether that is the least queue with an entry that uses a segment.
+fn is_used(lanes: &Lanes, segment: u64, queue: Option<u32>) -> bool {
+    lanes.uses(segment) == queue
+}
+
+/// What a wait for a queue finds.
+fn waiting(lanes: &Lanes, queue: u64) -> Result<bool, Refusal> {
+    lanes.wait_ready(queue)
+}
+
+/// The number of the entry that may take its bytes next.
+fn posted(lanes: &Lanes, queue: u64, target: RankId) -> Option<u32> {
+    lanes
+        .front_posted(queue, target)
+        .map(|entry| entry.number())
+}
+
+/// What a purge of a queue answers.
+fn purge(lanes: &mut Lanes, queue: u64) -> Result<(), Refusal> {
+    lanes.purge(queue)
+}
+
+/// Whether a write and its notification of queue 1 are posted, and are the first of their lane alone.
+fn are_posted(lanes: &Lanes, target: RankId) -> bool {
+    counts(lanes, 2, 4)
+        && is_open(lanes, 1, 2)
+        && is_open(lanes, 0, 0)
+        && is_used(lanes, 5, Some(1))
+        && matches!(waiting(lanes, 1), Ok(false))
+        && posted(lanes, 1, target) == Some(0)
+}
+
+/// Whether no entry of the other lanes may take its bytes.
+fn are_alone(lanes: &Lanes, target: RankId) -> bool {
+    posted(lanes, 0, target).is_none() && posted(lanes, 1, RankId::of(0)).is_none()
+}
+
+/// Whether both take their bytes, and need not be waited for then.
+fn are_carried(lanes: &mut Lanes, target: RankId) -> bool {
+    carry(lanes, 1, target, &[1, 2, 3])
+        && is_used(lanes, 5, None)
+        && carry(lanes, 1, target, &[])
+        && counts(lanes, 2, 2)
+        && wait(lanes, 1)
+        && is_open(lanes, 1, 0)
+}
+
+/// Whether both are put, the write first, and no more.
+fn are_put(lanes: &mut Lanes, target: RankId) -> bool {
+    is_write(lanes, 1, target, 5, &[1, 2, 3])
+        && put(lanes, 1, target)
+        && put(lanes, 1, target)
+        && !put(lanes, 1, target)
+        && counts(lanes, 2, 0)
+}
+
 #[test]
 fn a_write_and_its_notification_are_carried_and_put(rt: HostRuntime) -> Result<(), Fail> {
     let alloc = rt.alloc();
     let target = RankId::of(1);
-    let mut lanes = Lanes::new(alloc, 2, 2, 4)?;
-    assert_eq!(rt; post(alloc, &mut lanes, 1, target, 5)?, Some(Ok(())));
-    assert_eq!(rt; lanes.next_number(), 2);
-    assert_eq!(rt; lanes.owed(), 4);
-    assert_eq!(rt; lanes.open_count(1), Ok(2));
-    assert_eq!(rt; lanes.open_count(0), Ok(0));
-    assert_eq!(rt; lanes.uses(5), Some(1));
-    assert_eq!(rt; lanes.wait_ready(1), Ok(false));
-    assert_eq!(rt; lanes.front_posted(1, target).map(|e| e.number()), Some(0));
-    assert!(rt; lanes.front_posted(0, target).is_none());
-    assert!(rt; lanes.front_posted(1, RankId::of(0)).is_none());
-    assert!(rt; carry(&mut lanes, 1, target, &[1, 2, 3]));
-    assert_eq!(rt; lanes.uses(5), None);
-    assert!(rt; carry(&mut lanes, 1, target, &[]));
-    assert_eq!(rt; lanes.owed(), 2);
-    assert!(rt; wait(&mut lanes, 1));
-    assert_eq!(rt; lanes.open_count(1), Ok(0));
-    assert!(rt; is_write(&lanes, 1, target, 5, &[1, 2, 3]));
-    assert!(rt; put(&mut lanes, 1, target));
-    assert!(rt; put(&mut lanes, 1, target));
-    assert!(rt; lanes.front_carried(1, target).is_none());
-    assert_eq!(rt; lanes.owed(), 0);
+    let mut lanes = empty(alloc)?;
+    assert!(rt; matches!(post(alloc, &mut lanes, 1, target, 5)?, Some(Ok(()))));
+    assert!(rt; are_posted(&lanes, target));
+    assert!(rt; are_alone(&lanes, target));
+    assert!(rt; are_carried(&mut lanes, target));
+    assert!(rt; are_put(&mut lanes, target));
     Ok(())
+}
+
+/// Whether two posts fill queue 0, and one is posted to queue 1.
+fn are_filled(
+    alloc: Global,
+    lanes: &mut Lanes,
+    near: RankId,
+    far: RankId,
+) -> Result<bool, NoMemory> {
+    let first = matches!(post(alloc, lanes, 0, near, 3)?, Some(Ok(())));
+    let second = matches!(post(alloc, lanes, 0, far, 4)?, Some(Ok(())));
+    let other = matches!(post(alloc, lanes, 1, far, 4)?, Some(Ok(())));
+    let over = post(alloc, lanes, 0, near, 3)?;
+    let is_full = matches!(over, Some(Err(Refusal::QueueFull { count: 4, need: 2 })));
+    Ok(first && second && other && is_full)
+}
+
+/// Whether a queue is broken with rank 1.
+fn is_broken(lanes: &Lanes, queue: u64) -> bool {
+    matches!(waiting(lanes, queue), Err(Refusal::QueueBroken { rank: 1 }))
+}
+
+/// Whether a put that fails breaks queue 0, to which nothing is posted then.
+fn is_failed(
+    alloc: Global,
+    lanes: &mut Lanes,
+    near: RankId,
+    far: RankId,
+) -> Result<bool, NoMemory> {
+    let failed = carry(lanes, 0, far, &[1, 2, 3]) && fail_put(lanes, 0, far);
+    let late = post(alloc, lanes, 0, near, 3)?;
+    let refused = matches!(late, Some(Err(Refusal::QueueBroken { rank: 1 })));
+    Ok(failed && refused && is_broken(lanes, 0))
+}
+
+/// Whether the entries that did not fail stay.
+fn are_kept(lanes: &Lanes) -> bool {
+    is_used(lanes, 3, Some(0)) && is_used(lanes, 4, Some(1)) && counts(lanes, 6, 10)
+}
+
+/// Whether queue 0 is as it was made, once it is purged.
+fn is_purged(lanes: &mut Lanes) -> bool {
+    purge(lanes, 0).is_ok()
+        && matches!(purge(lanes, 2), Err(Refusal::BadQueue))
+        && matches!(waiting(lanes, 0), Ok(true))
+        && is_open(lanes, 0, 0)
+        && is_used(lanes, 3, None)
 }
 
 #[test]
 fn failures_break_their_queue_alone(rt: HostRuntime) -> Result<(), Fail> {
     let alloc = rt.alloc();
     let (near, far) = (RankId::of(0), RankId::of(1));
-    let mut lanes = Lanes::new(alloc, 2, 2, 4)?;
-    assert_eq!(rt; post(alloc, &mut lanes, 0, near, 3)?, Some(Ok(())));
-    assert_eq!(rt; post(alloc, &mut lanes, 0, far, 4)?, Some(Ok(())));
-    assert_eq!(rt; post(alloc, &mut lanes, 1, far, 4)?, Some(Ok(())));
-    let full = Refusal::QueueFull { count: 4, need: 2 };
-    assert_eq!(rt; post(alloc, &mut lanes, 0, near, 3)?, Some(Err(full)));
-    assert!(rt; carry(&mut lanes, 0, far, &[1, 2, 3]));
-    assert!(rt; fail_put(&mut lanes, 0, far));
-    let broken = Refusal::QueueBroken { rank: 1 };
-    assert_eq!(rt; lanes.wait_ready(0), Err(broken));
-    assert_eq!(rt; post(alloc, &mut lanes, 0, near, 3)?, Some(Err(broken)));
-    assert_eq!(rt; lanes.uses(3), Some(0));
-    assert_eq!(rt; lanes.uses(4), Some(1));
-    assert_eq!(rt; lanes.owed(), 10);
-    assert_eq!(rt; lanes.purge(0), Ok(()));
-    assert_eq!(rt; lanes.purge(2), Err(Refusal::BadQueue));
-    assert_eq!(rt; lanes.wait_ready(0), Ok(true));
-    assert_eq!(rt; lanes.open_count(0), Ok(0));
-    assert_eq!(rt; lanes.uses(3), None);
+    let mut lanes = empty(alloc)?;
+    assert!(rt; are_filled(alloc, &mut lanes, near, far)?);
+    assert!(rt; is_failed(alloc, &mut lanes, near, far)?);
+    assert!(rt; are_kept(&lanes));
+    assert!(rt; is_purged(&mut lanes));
     assert!(rt; fail_take(&mut lanes, 1, far));
-    assert_eq!(rt; lanes.wait_ready(1), Err(broken));
-    assert_eq!(rt; lanes.owed(), 2);
+    assert!(rt; is_broken(&lanes, 1) && counts(&lanes, 6, 2));
     Ok(())
 }

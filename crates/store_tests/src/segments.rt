@@ -1,109 +1,113 @@
-use gaspi_types::{Bytes, NoMemory, RankId, Rows, is_segment_size};
+use gaspi_types::{NoMemory, RankId, Rows, is_segment_size};
 use segment_store::Segments;
 use std::alloc::Global;
-use std::process::Abort;
 use std::test::Fail;
 
-/// So many ones.
-fn ones(alloc: Global, size: usize) -> Result<Bytes, NoMemory> {
-    Ok(Rows::from_vec(vec![in alloc; 1; size]?))
+/// No segments, in a world of two ranks.
+fn empty(alloc: Global) -> Result<Segments, NoMemory> {
+    Segments::new(alloc, 2)
 }
 
-/// Makes a segment, of a number that has a generation left.
-fn makes(rt: &impl Abort, alloc: Global, segments: &mut Segments, seg: u64, size: u64) {
-    assert!(rt; segments.has_next_generation(seg));
-    assert_eq!(rt; segments.alloc(alloc, seg, size), Ok(()));
+/// Whether a segment is made, of a number that has a generation left.
+fn makes(alloc: Global, segments: &mut Segments, seg: u64, size: u64) -> bool {
+    segments.has_next_generation(seg) && segments.alloc(alloc, seg, size).is_ok()
 }
 
 /// The same in a room that is handed in, full of ones.
 fn makes_in(
-    rt: &impl Abort,
     alloc: Global,
     segments: &mut Segments,
     seg: u64,
     size: usize,
-) -> Result<(), Fail> {
-    assert!(rt; segments.has_next_generation(seg));
-    let answered = segments.alloc_in(seg, ones(alloc, size)?);
-    assert_eq!(rt; answered, Ok(()));
-    Ok(())
+) -> Result<bool, NoMemory> {
+    let ones = Rows::from_vec(vec![in alloc; 1; size]?);
+    Ok(segments.has_next_generation(seg) && segments.alloc_in(seg, ones).is_ok())
 }
 
-/// The bytes of a range, copied and lent.
-fn holds(
-    rt: &impl Abort,
-    alloc: Global,
-    segments: &Segments,
-    seg: u64,
-    offset: u64,
-    bytes: &[u8],
-) -> Result<(), Fail> {
-    let size = bytes.len() as u64;
-    match segments.load(alloc, seg, offset, size) {
-        Ok(loaded) => assert!(rt; loaded.as_slice() == bytes, "load of {seg} at {offset}"),
-        Err(_) => assert!(rt; false, "load of {seg} at {offset}"),
+/// Whether these are the bytes of a range, copied.
+fn loads(alloc: Global, segments: &Segments, seg: u64, offset: u64, bytes: &[u8]) -> bool {
+    match segments.load(alloc, seg, offset, bytes.len() as u64) {
+        Ok(loaded) => loaded.as_slice() == bytes,
+        Err(_) => false,
     }
-    assert!(rt; segments.range(seg, offset, size).is_ok());
-    assert!(rt;
-        segments.bytes(seg, offset, size) == bytes,
-        "bytes of {seg} at {offset}"
-    );
-    Ok(())
 }
 
-/// The generation and the size of an own segment.
-fn has(rt: &impl Abort, segments: &Segments, seg: u64, extent: Option<(u32, u32)>) {
-    let generation = segments.generation(seg);
-    assert_eq!(rt; generation, extent.map(|e| e.0), "generation of {seg}");
-    assert_eq!(rt; segments.size_of(seg), extent.map(|e| e.1), "size of {seg}");
+/// Whether these are the bytes of a range, lent.
+fn lends(segments: &Segments, seg: u64, offset: u64, bytes: &[u8]) -> bool {
+    let size = bytes.len() as u64;
+    segments.range(seg, offset, size).is_ok() && segments.bytes(seg, offset, size) == bytes
 }
 
-fn stores(rt: &impl Abort, segments: &mut Segments, seg: u64, offset: u64, bytes: &[u8]) {
-    assert_eq!(rt; segments.store(seg, offset, bytes), Ok(()));
+/// Whether an own segment is there in that generation and size.
+fn has(segments: &Segments, seg: u64, generation: u32, size: u32) -> bool {
+    segments.generation(seg) == Some(generation) && segments.size_of(seg) == Some(size)
 }
 
-/// Adds to a word, and takes what stood there.
-fn adds(rt: &impl Abort, segments: &mut Segments, seg: u64, offset: u64, value: u64, old: u64) {
-    assert_eq!(rt; segments.fetch_add(seg, offset, value), Ok(old));
+/// Whether an own segment is not there.
+fn lacks(segments: &Segments, seg: u64) -> bool {
+    segments.generation(seg).is_none() && segments.size_of(seg).is_none()
 }
 
-/// Swaps a word that is `words.0` for `words.1`.
-fn swaps(rt: &impl Abort, segments: &mut Segments, seg: u64, offset: u64, words: (u64, u64)) {
-    let swapped = segments.compare_swap(seg, offset, words.0, words.1);
-    assert_eq!(rt; swapped, Ok(words.0));
+/// Whether bytes are stored.
+fn stores(segments: &mut Segments, seg: u64, offset: u64, bytes: &[u8]) -> bool {
+    segments.store(seg, offset, bytes).is_ok()
 }
 
-fn deletes(rt: &impl Abort, segments: &mut Segments, seg: u64) {
-    assert_eq!(rt; segments.delete(seg), Ok(()));
+/// Whether a value is added to a word that is `old`.
+fn adds(segments: &mut Segments, seg: u64, offset: u64, value: u64, old: u64) -> bool {
+    segments.fetch_add(seg, offset, value) == Ok(old)
 }
 
-/// Makes a segment of a rank known, and looks at what is known then.
-fn registers(rt: &impl Abort, segments: &mut Segments, owner: u32, seg: u64, extent: (u32, u32)) {
-    assert!(rt; owner < 16 && seg < 32);
-    let rank = RankId::of(owner);
-    assert!(rt; segments.has_rank(rank));
-    let size = u64::from(extent.1);
-    assert!(rt; is_segment_size(size));
-    segments.register(rank, seg, extent.0, size);
-    assert_eq!(rt; segments.known(rank, seg), Some(extent));
+/// Whether a word that is `old` is swapped for a new one.
+fn swaps(segments: &mut Segments, seg: u64, offset: u64, old: u64, new: u64) -> bool {
+    segments.compare_swap(seg, offset, old, new) == Ok(old)
+}
+
+/// Whether a segment is deleted.
+fn deletes(segments: &mut Segments, seg: u64) -> bool {
+    segments.delete(seg).is_ok()
+}
+
+/// Whether a segment of a rank is known in a generation and a size, once it is made known.
+fn registers(segments: &mut Segments, owner: RankId, seg: u64, generation: u32, size: u32) -> bool {
+    let bytes = u64::from(size);
+    if seg >= 32 || !segments.has_rank(owner) || !is_segment_size(bytes) {
+        return false;
+    }
+    segments.register(owner, seg, generation, bytes);
+    segments.known(owner, seg) == Some((generation, size))
+}
+
+/// Of how many ranks segments may be known.
+fn ranks(segments: &Segments) -> usize {
+    segments.table().known.len()
+}
+
+/// Whether a segment is made and written, and has the bytes that were written.
+fn is_written(alloc: Global, segments: &mut Segments) -> bool {
+    makes(alloc, segments, 31, 16)
+        && stores(segments, 31, 3, &[1, 2, 3])
+        && adds(segments, 31, 8, 5, 0)
+        && swaps(segments, 31, 8, 5, 0x0A09)
+        && loads(alloc, segments, 31, 2, &[0, 1, 2, 3, 0, 0, 9, 10, 0])
+        && lends(segments, 31, 2, &[0, 1, 2, 3, 0, 0, 9, 10, 0])
+        && has(segments, 31, 0, 16)
+}
+
+/// Whether a segment is made in its place, and has zeros.
+fn is_made_again(alloc: Global, segments: &mut Segments) -> Result<bool, NoMemory> {
+    let gone = deletes(segments, 31) && lacks(segments, 31);
+    let made = makes_in(alloc, segments, 31, 4)?;
+    Ok(gone && made && has(segments, 31, 1, 4) && lends(segments, 31, 0, &[0, 0, 0, 0]))
 }
 
 #[test]
 fn calls_answer(rt: HostRuntime) -> Result<(), Fail> {
     let alloc = rt.alloc();
-    let mut segments = Segments::new(alloc, 2)?;
-    makes(&rt, alloc, &mut segments, 31, 16);
-    stores(&rt, &mut segments, 31, 3, &[1, 2, 3]);
-    adds(&rt, &mut segments, 31, 8, 5, 0);
-    swaps(&rt, &mut segments, 31, 8, (5, 0x0A09));
-    holds(&rt, alloc, &segments, 31, 2, &[0, 1, 2, 3, 0, 0, 9, 10, 0])?;
-    has(&rt, &segments, 31, Some((0, 16)));
-    deletes(&rt, &mut segments, 31);
-    has(&rt, &segments, 31, None);
-    makes_in(&rt, alloc, &mut segments, 31, 4)?;
-    has(&rt, &segments, 31, Some((1, 4)));
-    holds(&rt, alloc, &segments, 31, 0, &[0, 0, 0, 0])?;
-    registers(&rt, &mut segments, 1, 31, (2, 8));
-    assert_eq!(rt; segments.table().known.len(), 2);
+    let mut segments = empty(alloc)?;
+    assert!(rt; is_written(alloc, &mut segments));
+    assert!(rt; is_made_again(alloc, &mut segments)?);
+    assert!(rt; registers(&mut segments, RankId::of(1), 31, 2, 8));
+    assert!(rt; ranks(&segments) == 2);
     Ok(())
 }

@@ -1,26 +1,51 @@
-use gaspi_types::{NoMemory, Shape};
+use gaspi_types::{NoMemory, Refusal, Shape};
 use notify_slots::Slots;
 use std::alloc::Global;
 use std::test::Fail;
 
-/// The slots of a segment of a world.
-fn slots_in(alloc: Global, shape: &Shape) -> Result<Slots, NoMemory> {
-    Slots::new(alloc, shape.limits().notes)
+/// The slots of a segment of a world of one rank with four of them.
+fn slots_of(alloc: Global) -> Result<Slots, Fail> {
+    let shape = Shape::new(alloc, 1, 1, 1, 4, 1, 1)?;
+    Ok(Slots::new(alloc, shape.limits().notes)?)
+}
+
+/// Sets a slot, where it is there.
+fn set(slots: &mut Slots, note: u64, value: u32) -> bool {
+    let there = note < slots.len() as u64;
+    if there {
+        slots.set(note, value);
+    }
+    there
+}
+
+/// The first slot of a range in which a notification stands.
+fn first(slots: &Slots, begin: u64, num: u64) -> Result<Option<u32>, Refusal> {
+    slots.waitsome(begin, num)
+}
+
+/// Whether a notification of that value stands in a slot, and is taken out of it.
+fn takes(slots: &mut Slots, note: u64, value: u32) -> bool {
+    slots.value(note) == Ok(value) && slots.reset(note) == Ok(value)
+}
+
+/// Whether two slots are set, the one of them twice.
+fn are_set(slots: &mut Slots) -> bool {
+    set(slots, 3, 6) && set(slots, 2, 5) && set(slots, 2, 8)
+}
+
+/// Whether the notification of slot 2 is taken, and then that of slot 3 is the first.
+fn are_found(slots: &mut Slots) -> bool {
+    matches!(first(slots, 1, 3), Ok(Some(2)))
+        && takes(slots, 2, 8)
+        && matches!(first(slots, 1, 3), Ok(Some(3)))
 }
 
 #[test]
 fn slots_keep_their_values(rt: HostRuntime) -> Result<(), Fail> {
-    let alloc = rt.alloc();
-    let shape = Shape::new(alloc, 1, 1, 1, 4, 1, 1)?;
-    let mut slots = slots_in(alloc, &shape)?;
-    assert_eq!(rt; slots.len(), 4);
-    assert_eq!(rt; slots.waitsome(0, 4), Ok(None));
-    slots.set(3, 6);
-    slots.set(2, 5);
-    slots.set(2, 8);
-    assert_eq!(rt; slots.value(2), Ok(8));
-    assert_eq!(rt; slots.waitsome(1, 3), Ok(Some(2)));
-    assert_eq!(rt; slots.reset(2), Ok(8));
-    assert_eq!(rt; slots.waitsome(1, 3), Ok(Some(3)));
+    let mut slots = slots_of(rt.alloc())?;
+    assert!(rt; slots.len() == 4);
+    assert!(rt; matches!(first(&slots, 0, 4), Ok(None)));
+    assert!(rt; are_set(&mut slots));
+    assert!(rt; are_found(&mut slots));
     Ok(())
 }
