@@ -37,7 +37,7 @@ use Rattle.script_bodies.specs.SoFar.{HasNoEnd, HadRoomSoFar, LookedSoFar, Comes
 use Rattle.script_bodies.specs.Joins.{AreJoinsFollowed}
 use Rattle.script_bodies.proofs.Joins.{Itself, joins-itself, end-adds-nothing, followed-both, followed-all, call-follows, end-follows}
 use Rattle.script_bodies.proofs.OwnCalls.{own-after, own-events, own-more, same-front, no-end-more, no-end-same}
-use Rattle.script_bodies.proofs.RunLooks.{all, all-more, within-one, within-more, same-between, none-earlier, line-looks, looks-both, last-full}
+use Rattle.script_bodies.proofs.RunLooks.{all, all-more, at-end, by-call-more, by-call-later, within-one, within-more, same-between, none-earlier, line-looks, looks-both, last-full}
 
 abbrev Pairs : Type 0
 Pairs = List (Call × Reply)
@@ -147,11 +147,15 @@ module _ (w : World) (c : CallerId) (lines : List ScriptLine) (limit : ℕ) wher
         });
         looks = [];
         looked = record { looks = sym (append-nil v.looks); between = λ k h at. (let no : ⊥ = cc in absurd no) };
-        room = inl (record {
-          each = ap (λ (ps : Pairs). length (along ps)) (sym calls);
-          within = tt;
-          roomy = λ k h number at was. (let no : ⊥ = cc in no);
-        });
+        by_call = λ i j ks h at there. (let no : ⊥ = cc in absurd no);
+        room = inl (
+          record {
+            each = ap (λ (ps : Pairs). length (along ps)) (sym calls);
+            within = tt;
+            roomy = λ k h number at was. (let no : ⊥ = cc in no);
+          },
+          going-no-limit lines,
+        );
       }
 
   module _ (v m n : Known Start Event) (line : ScriptLine) (made : ℕ) (later : List ScriptLine) where
@@ -166,7 +170,7 @@ module _ (w : World) (c : CallerId) (lines : List ScriptLine) (limit : ℕ) wher
 
     -- and there was room at each look so far
     had-room : (looks : List (List (List Event))) → LookedSoFar w c lines limit (Going line made later) looks m → HadRoomSoFar w c lines limit looks m
-    had-room looks (inl had) = had
+    had-room looks (inl had) = had.0
     had-room looks (inr (outcome, over, stop)) = (let no : ⊥ = cc in absurd no)
 
     comes-called : Onward → Itself → WaitsCalled → (reply : Reply) → (line.call ≡ End → ⊥) → HasComeTo w c lines limit (Going line made later) v m → IsCalled w c line.call (bounded limit line.timeout) reply m n
@@ -190,14 +194,19 @@ module _ (w : World) (c : CallerId) (lines : List ScriptLine) (limit : ℕ) wher
               (on w c line.call (bounded limit line.timeout) reply m n (along (own m.mine)) (looks_in limit line.timeout) so_far.waited called (λ late. refl));
           looks = so_far.looks ++ hs ∷ [];
           looked = subst (AreLooks w c v n) (sym (all-more so_far.looks hs)) (looks-both w c v m n (all so_far.looks) hs so_far.seen called.goes_on.seen so_far.looked called.looks);
-          room = inl (record {
-            each = (let a = length-append so_far.looks (hs ∷ []) in let b = ap length grown in let d = length-append (along (own m.mine)) (looks_in limit line.timeout ∷ []) in let e = had.each in omega arith);
-            within = subst (AreWithin (so_far.looks ++ hs ∷ [])) (sym grown) (within-one so_far.looks (along (own m.mine)) hs (looks_in limit line.timeout) had.each had.within (line-looks limit line.timeout called.earlier called.last called.within));
-            roomy = λ k h number at was.
-                let full = last-full w c lines m.mine line made later (leads-there so_far.comes) (all so_far.looks) called.earlier called.last same had.roomy called.roomy k h number
-                (subst (λ (ks : List (List Event)). slice_get ks k ≡ Some h) (all-more so_far.looks hs) at) was in
-                (let no : true ≡ false = sym full.0 ∙ called.room in let never : ⊥ = cc in never);
-          });
+          by_call = by-call-more c m.seen n.seen so_far.looks hs (length (own m.mine)) called.goes_on.seen so_far.by_call (had.each ∙ so_far.waited.each)
+              (λ j h at. ((called.looks.between j h at).1, ap length (same j h at)));
+          room = inl (
+            record {
+              each = (let a = length-append so_far.looks (hs ∷ []) in let b = ap length grown in let d = length-append (along (own m.mine)) (looks_in limit line.timeout ∷ []) in let e = had.each in omega arith);
+              within = subst (AreWithin (so_far.looks ++ hs ∷ [])) (sym grown) (within-one so_far.looks (along (own m.mine)) hs (looks_in limit line.timeout) had.each had.within (line-looks limit line.timeout called.earlier called.last called.within));
+              roomy = λ k h number at was.
+                  let full = last-full w c lines m.mine line made later (leads-there so_far.comes) (all so_far.looks) called.earlier called.last same had.roomy called.roomy k h number
+                  (subst (λ (ks : List (List Event)). slice_get ks k ≡ Some h) (all-more so_far.looks hs) at) was in
+                  (let no : true ≡ false = sym full.0 ∙ called.room in let never : ⊥ = cc in never);
+            },
+            advanced-no-limit line made later reply,
+          );
           active = subst (HasNoEnd c) (sym called.mine) (no-end-more c (m.mine ++ called.joins) line.call reply plain (no-end-same c (m.mine ++ called.joins) m.mine before so_far.active));
           comes = inl (record {
             follows = subst (λ (ps : Pairs). Follows (going_on lines) ps (advanced (Going line made later) reply)) (sym calls) (onward (going_on lines) (own m.mine) line made later reply (leads-there so_far.comes));
@@ -222,6 +231,8 @@ module _ (w : World) (c : CallerId) (lines : List ScriptLine) (limit : ℕ) wher
           waited = subst (λ (ps : Pairs). HaveWaited w c (along ps) n) (sym calls) (still w c line.call (bounded limit line.timeout) full m n (along (own m.mine)) so_far.waited stop);
           looks = so_far.looks ++ hs ∷ [];
           looked = subst (AreLooks w c v n) (sym (all-more so_far.looks hs)) (looks-both w c v m n (all so_far.looks) hs so_far.seen stop.goes_on.seen so_far.looked stop.looks);
+          by_call = by-call-more c m.seen n.seen so_far.looks hs (length (own m.mine)) stop.goes_on.seen so_far.by_call (had.each ∙ so_far.waited.each)
+              (λ j h at. ((stop.looks.between j h at).1, ap length (same j h at)));
           room = inr (
             outcome,
             refl,
@@ -236,6 +247,26 @@ module _ (w : World) (c : CallerId) (lines : List ScriptLine) (limit : ℕ) wher
                   let told = last-full w c lines m.mine line made later (leads-there so_far.comes) (all so_far.looks) stop.earlier stop.last same had.roomy stop.roomy k h number
                   (subst (λ (ks : List (List Event)). slice_get ks k ≡ Some h) (all-more so_far.looks hs) at) was in
                   (limited (sym stop.room ∙ told.0) ∙ ap (λ (number : ℕ). outcomes.Limit number) told.1.0, told.1.1 ∙ ap length (sym (all-more so_far.looks hs)));
+              at_limit = λ number is.
+                  let line_is : outcome ≡ outcomes.Limit line.number = stopped-at number is is_stopped in
+                  let numbers : outcomes.Limit line.number ≡ outcomes.Limit number = sym line_is ∙ is in
+                  let number_is : line.number ≡ number = cc in
+                  let last = stop.last in
+                  let there : slice_get (all so_far.looks ++ hs) (length (all so_far.looks ++ stop.earlier)) ≡ Some last =
+                  subst (λ (ks : List (List Event)). slice_get ks (length (all so_far.looks ++ stop.earlier)) ≡ Some last) (append_assoc (all so_far.looks) stop.earlier (last ∷ [])) (at-end (all so_far.looks ++ stop.earlier) last) in
+                  let own_last = same (length stop.earlier) last (at-end stop.earlier last) in (
+                    length (all so_far.looks ++ stop.earlier),
+                    last,
+                    subst (λ (ks : List (List Event)). slice_get ks (length (all so_far.looks ++ stop.earlier)) ≡ Some last) (sym (all-more so_far.looks hs)) there,
+                    record {
+                      line = line;
+                      made = made;
+                      later = later;
+                      is_line = number_is;
+                      follows = subst (λ (ps : Pairs). Follows (going_on lines) ps (Going line made later)) (sym own_last) (leads-there so_far.comes);
+                      full = stop.room ∙ no_room line_is;
+                    },
+                  );
             },
           );
           active = no-end-same c n.mine m.mine calls so_far.active;
@@ -263,6 +294,10 @@ module _ (w : World) (c : CallerId) (lines : List ScriptLine) (limit : ℕ) wher
             },
           );
         }
+      where
+        stopped-at : (number : ℕ) → outcome ≡ outcomes.Limit number → IsStopped line.number outcome → outcome ≡ outcomes.Limit line.number
+        stopped-at number is (inl limit) = limit
+        stopped-at number is (inr memory) = (let never : outcomes.Limit number ≡ outcomes.NoMemory line.number = sym is ∙ memory in let no : ⊥ = cc in absurd no)
 
     pub comes-going : Onward → Itself → WaitsCalled → WaitsStopped → (r : Result Reply Stop) → (line.call ≡ End → ⊥) → HasComeTo w c lines limit (Going line made later) v m → Calls w c line.call (bounded limit line.timeout) m r n
         → HasComeTo w c lines limit (moved (Going line made later) r) v n
@@ -291,8 +326,10 @@ module _ (w : World) (c : CallerId) (lines : List ScriptLine) (limit : ℕ) wher
     last = called.last;
     looked = looks-both w c v m n (all so_far.looks) (called.last ∷ []) so_far.seen called.goes_on.seen so_far.looked
         (subst (λ (earlier : List (List Event)). AreLooks w c m n (earlier ++ called.last ∷ [])) (none-earlier called.earlier (called.within 1 refl)) called.looks);
+    by_call = by-call-later c m.seen n.seen so_far.looks called.goes_on.seen so_far.by_call;
     within = few so_far.room;
     full = no-room so_far.room;
+    at_limit = came so_far.room;
   }
     where
       calls : own n.mine ≡ own m.mine ++ end_pair
@@ -307,17 +344,24 @@ module _ (w : World) (c : CallerId) (lines : List ScriptLine) (limit : ℕ) wher
 
       -- no call made more looks than its line has
       few : LookedSoFar w c lines limit (Over outcome) so_far.looks m → AreWithin so_far.looks (along (own n.mine))
-      few (inl had) = subst (AreWithin so_far.looks) (sym (ap along calls ∙ one.1)) (within-more so_far.looks (along (own m.mine)) (one.0 ∷ []) had.within)
+      few (inl had) = subst (AreWithin so_far.looks) (sym (ap along calls ∙ one.1)) (within-more so_far.looks (along (own m.mine)) (one.0 ∷ []) had.0.within)
       few (inr (o, over, stop)) =
           subst (AreWithin so_far.looks) (sym (ap along calls ∙ along-line limit (going_on lines) (own m.mine) stop.line stop.made stop.later (End, Done) stop.follows)) stop.within
 
       no-room : LookedSoFar w c lines limit (Over outcome) so_far.looks m → (k : ℕ) (h : List Event) (number : ℕ) → slice_get (all so_far.looks) k ≡ Some h → WasFull w c lines h number
           → (outcome ≡ outcomes.Limit number) × (suc k ≡ length (all so_far.looks))
-      no-room (inl had) k h number at was = absurd (had.roomy k h number at was)
+      no-room (inl had) k h number at was = absurd (had.0.roomy k h number at was)
       no-room (inr (o, over, stop)) k h number at was =
           let same : o ≡ outcome = cc in
           let told = stop.full k h number at was in
           (sym same ∙ told.0, told.1)
+
+      -- and where it was stopped for want of room, there was none at a look of the line's call
+      came : LookedSoFar w c lines limit (Over outcome) so_far.looks m → (number : ℕ) → outcome ≡ outcomes.Limit number → (k : ℕ) × (h : List Event) × (slice_get (all so_far.looks) k ≡ Some h) × WasFull w c lines h number
+      came (inl had) number is = absurd (had.1 number (ap (λ (o : RunOutcome). Over o) is))
+      came (inr (o, over, stop)) number is =
+          let same : o ≡ outcome = cc in
+          stop.at_limit number (same ∙ is)
 
       whole : ComesTo w c lines (Over outcome) m → IsRun lines (own m.mine ++ end_pair) outcome
       whole (inl way) = ended lines (own m.mine) outcome way.follows

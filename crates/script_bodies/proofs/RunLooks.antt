@@ -17,7 +17,7 @@ use Rattle.rank_script.specs.Runs.{Progress, Going, Over, going_on, advanced, Fo
 use Rattle.rank_script.specs.declared.scripts.ScriptLine.{ScriptLine}
 use Rattle.gaspi_world.specs.Attempts.{is_full_after}
 use Rattle.gaspi_world.specs.Calling.{HadRoom, AreLooks}
-use Rattle.script_bodies.specs.Looks.{looks_in, bounded, AreWithin}
+use Rattle.script_bodies.specs.Looks.{looks_in, bounded, AreWithin, AreByCall}
 use Rattle.script_bodies.specs.Runs.{WasFull}
 use Rattle.script_bodies.proofs.OwnCalls.{own_calls-append}
 
@@ -42,6 +42,11 @@ at-both {A} (x ∷ xs) ys (suc k) y at = go (at-both xs ys k y at)
 pub at-one : {A : Type 0} (x : A) (j : ℕ) (y : A) → slice_get (x ∷ []) j ≡ Some y → (j ≡ 0) × (y ≡ x)
 at-one x zero y at = (refl, (let same : x ≡ y = cc in sym same))
 at-one x (suc j) y at = absurd (let no : ⊥ = cc in no)
+
+-- the last of a list
+pub at-end : {A : Type 0} (xs : List A) (x : A) → slice_get (xs ++ x ∷ []) (length xs) ≡ Some x
+at-end [] x = refl
+at-end (y ∷ xs) x = at-end xs x
 
 -- one call more
 pub all-more : (looks : List Histories) (more : Histories) → all (looks ++ more ∷ []) ≡ all looks ++ more
@@ -92,6 +97,23 @@ none-earlier (h ∷ earlier) few = absurd (omega arith)
 -- no more looks than a line has
 pub line-looks : (limit : ℕ) (timeout : Timeout) (earlier : Histories) (last : List Event) → ((most : ℕ) → looks_of (bounded limit timeout) ≡ Some most → length earlier < most) → length (earlier ++ last ∷ []) ≤ looks_in limit timeout
 line-looks limit timeout earlier last within = (let few = within (looks_in limit timeout) refl in let long = length-append earlier (last ∷ []) in omega arith)
+
+-- the looks of one call more
+pub by-call-more : (c : CallerId) (before seen : List Event) (looks : List Histories) (more : Histories) (many : ℕ) → IsPrefix before seen → AreByCall c before looks → length looks ≡ many
+    → ((j : ℕ) (h : List Event) → slice_get more j ≡ Some h → IsPrefix h seen × (length (own_calls c.rank c.thread h) ≡ many)) → AreByCall c seen (looks ++ more ∷ [])
+by-call-more c before seen looks more many goes so_far count now i j ks h at there = go (at-both looks (more ∷ []) i ks at)
+  where
+    go : (slice_get looks i ≡ Some ks) ⊎ ((k : ℕ) × (i ≡ length looks + k) × (slice_get (more ∷ []) k ≡ Some ks)) → IsPrefix h seen × (length (own_calls c.rank c.thread h) ≡ i)
+    go (inl old) = (let was = so_far i j ks h old there in (prefix_trans h before seen was.0 goes, was.1))
+    go (inr (k, is, only)) =
+        let one = at-one more k ks only in
+        let new = now j h (subst (λ (x : Histories). slice_get x j ≡ Some h) one.1 there) in
+        let zero_is = one.0 in
+        let long = new.1 in
+        (new.0, (let same : length (own_calls c.rank c.thread h) ≡ i = omega arith in same))
+
+pub by-call-later : (c : CallerId) (before seen : List Event) (looks : List Histories) → IsPrefix before seen → AreByCall c before looks → AreByCall c seen looks
+by-call-later c before seen looks goes so_far i j ks h at there = (let was = so_far i j ks h at there in (prefix_trans h before seen was.0 goes, was.1))
 
 module _ {S : Type 0} (w : World) (c : CallerId) where
   -- looks of two calls

@@ -1,10 +1,13 @@
 -- How often the calls of a script may look. (GASPI: timeouts)
-use Rattle.std.specs.Prelude.{◌≡◌, ℕ, ◌≤◌, List, [], ◌∷◌, ◌++◌, length}
+use Rattle.std.specs.Prelude.{◌≡◌, ℕ, ◌≤◌, List, [], ◌∷◌, ◌++◌, length, slice_get, Some}
+use mathlib.Core.List.{IsPrefix}
 use Rattle.gaspi_types.specs.declared.calls.Call.{Call}
 use Rattle.gaspi_types.specs.declared.calls.Timeout.{Timeout}
 use Rattle.gaspi_types.specs.declared.calls.Timeout.TheVariants.{Looks, Block}
 use Rattle.gaspi_types.specs.declared.events.Event.{Event}
 use Rattle.gaspi_types.specs.declared.replies.Reply.{Reply}
+use Rattle.gaspi_types.specs.declared.shapes.CallerId.{CallerId}
+use Rattle.gaspi_model.specs.Step.{own_calls}
 use Rattle.rank_script.specs.Runs.{Progress, Going, Over, advanced}
 
 -- how many looks a call has: one that blocks has so many
@@ -27,8 +30,13 @@ looks_along limit (Going line made lines) (pair ∷ pairs) = looks_in limit line
 abbrev pub HasLookAfter : List Event → List ℕ → Type 0
 HasLookAfter history looks = (earlier : List ℕ) × (later : List ℕ) × (looks ≡ earlier ++ length history ∷ later)
 
--- Looks call by call, each by the history that it saw: each call has one of these numbers, and made no more looks than that.
+-- Looks in groups, each look by the history that it saw: each group has one of these numbers, and is no longer than that.
 abbrev pub AreWithin : List (List (List Event)) → List ℕ → Type 0
 AreWithin [] numbers = Unit {0}
 AreWithin (looks ∷ others) [] = ⊥
 AreWithin (looks ∷ others) (number ∷ numbers) = (length looks ≤ number) × AreWithin others numbers
+
+-- each group has the looks of one call, as many of its caller's calls having been recorded before each of them as there are groups before
+abbrev pub AreByCall : CallerId → List Event → List (List (List Event)) → Type 0
+AreByCall c seen groups =
+    (i j : ℕ) (looks : List (List Event)) (h : List Event) → slice_get groups i ≡ Some looks → slice_get looks j ≡ Some h → IsPrefix h seen × (length (own_calls c.rank c.thread h) ≡ i)

@@ -24,7 +24,7 @@ use Rattle.gaspi_world.specs.Waits.{HaveWaited}
 use Rattle.gaspi_world.specs.declared.calling.Stop.{Stop}
 use Rattle.gaspi_world.specs.declared.calling.Stop.TheVariants as stops
 use Rattle.script_bodies.specs.Joins.{AreJoinsFollowed}
-use Rattle.script_bodies.specs.Looks.{looks_along, HasLookAfter, AreWithin}
+use Rattle.script_bodies.specs.Looks.{looks_along, HasLookAfter, AreWithin, AreByCall}
 
 -- after what came of the present call: it goes on after its reply, and ends before a call that was not made
 abbrev pub moved : Progress → Result Reply Stop → Progress
@@ -79,7 +79,7 @@ module _ (w : World) (c : CallerId) (lines : List ScriptLine) where
   -- joins is of the call that it makes next, or of the one before which the run was stopped. Its timeouts came only when the looks of
   -- their lines were spent, where a call that blocks has so many. It made its looks call by call, those of the call before which it was
   -- stopped among them, for none more than its line has, and one for its end. Where its rank had no room at one of them for the call of
-  -- the line that it had come to, it was the last before the end's, and the run was stopped there for want of room.
+  -- the line that it had come to, it was the last before the end's, and the run was stopped there for want of room; and only there.
   pub record HasRun {S : Type 0} (limit : ℕ) (outcome : RunOutcome) (v n : Known S Event) : Type 0 where
     pub goes_on : GoesOn w c v n
     pub run : IsRun lines (own_calls c.rank c.thread n.mine) outcome
@@ -91,6 +91,8 @@ module _ (w : World) (c : CallerId) (lines : List ScriptLine) where
     pub looks : List (List (List Event))
     pub last : List Event
     pub looked : AreLooks w c v n (flat_map (λ (ks : List (List Event)). ks) looks ++ last ∷ [])
+    pub by_call : AreByCall c n.seen looks
     pub within : AreWithin looks (looks_along limit (going_on lines) (own_calls c.rank c.thread n.mine))
     pub full : (k : ℕ) (h : List Event) (number : ℕ) → slice_get (flat_map (λ (ks : List (List Event)). ks) looks) k ≡ Some h → WasFull h number
         → (outcome ≡ outcomes.Limit number) × (suc k ≡ length (flat_map (λ (ks : List (List Event)). ks) looks))
+    pub at_limit : (number : ℕ) → outcome ≡ outcomes.Limit number → (k : ℕ) × (h : List Event) × (slice_get (flat_map (λ (ks : List (List Event)). ks) looks) k ≡ Some h) × WasFull h number

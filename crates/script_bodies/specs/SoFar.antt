@@ -18,7 +18,7 @@ use Rattle.gaspi_world.specs.Callers.{events_of}
 use Rattle.gaspi_world.specs.Calling.{AreLooks}
 use Rattle.gaspi_world.specs.Waits.{HaveWaited}
 use Rattle.script_bodies.specs.Joins.{AreJoinsFollowed, IsJoinOf}
-use Rattle.script_bodies.specs.Looks.{looks_in, looks_along, HasLookAfter, AreWithin}
+use Rattle.script_bodies.specs.Looks.{looks_in, looks_along, HasLookAfter, AreWithin, AreByCall}
 use Rattle.script_bodies.specs.Runs.{WasFull}
 
 -- no call of the caller among these events is its end
@@ -75,9 +75,10 @@ module _ {S : Type 0} (w : World) (c : CallerId) (lines : List ScriptLine) where
     pub within : AreWithin looks (looks_along limit (going_on lines) (own_calls c.rank c.thread n.mine) ++ looks_in limit line.timeout ∷ [])
     pub full : (k : ℕ) (h : List Event) (number : ℕ) → slice_get (flat_map (λ (ks : List (List Event)). ks) looks) k ≡ Some h → WasFull w c lines h number
         → (outcome ≡ Limit number) × (suc k ≡ length (flat_map (λ (ks : List (List Event)). ks) looks))
+    pub at_limit : (number : ℕ) → outcome ≡ Limit number → (k : ℕ) × (h : List Event) × (slice_get (flat_map (λ (ks : List (List Event)). ks) looks) k ≡ Some h) × WasFull w c lines h number
 
   abbrev pub LookedSoFar : ℕ → Progress → List (List (List Event)) → Known S Event → Type 0
-  LookedSoFar limit p looks n = HadRoomSoFar limit looks n ⊎ ((outcome : RunOutcome) × (p ≡ Over outcome) × WasStoppedAfter limit outcome looks n)
+  LookedSoFar limit p looks n = (HadRoomSoFar limit looks n × ((number : ℕ) → p ≡ Over (Limit number) → ⊥)) ⊎ ((outcome : RunOutcome) × (p ≡ Over outcome) × WasStoppedAfter limit outcome looks n)
 
   -- The caller ran these lines so far, and has not ended.
   pub record HasComeTo (limit : ℕ) (p : Progress) (v n : Known S Event) : Type 0 where
@@ -89,4 +90,5 @@ module _ {S : Type 0} (w : World) (c : CallerId) (lines : List ScriptLine) where
     pub comes : ComesTo p n
     pub looks : List (List (List Event))
     pub looked : AreLooks w c v n (flat_map (λ (ks : List (List Event)). ks) looks)
+    pub by_call : AreByCall c n.seen looks
     pub room : LookedSoFar limit p looks n
