@@ -35,17 +35,18 @@ fn transfers_are_listed(rt: HostRuntime) -> Result<(), Fail> {
     Ok(())
 }
 
-/// What a look at a call answers, where its caller has a section.
-fn answer(
+/// Whether a look at a call answers value 0, where its caller has a section.
+fn answers_nothing(
     alloc: Global,
     machine: &Machine,
     caller: CallerId,
     call: &Call,
-) -> Result<Ready, NoMemory> {
+) -> Result<bool, NoMemory> {
     if !machine.is_declared(caller) {
-        return Ok(Ready::NotReady);
+        return Ok(false);
     }
-    machine.answer(alloc, caller, call)
+    let ready = machine.answer(alloc, caller, call)?;
+    Ok(matches!(ready, Ready::Reply(Reply::Value(0))))
 }
 
 /// Whether a look finds that a call may join its group, where its caller has a section.
@@ -66,8 +67,7 @@ fn calls_are_answered(rt: HostRuntime) -> Result<(), Fail> {
     let alloc = rt.alloc();
     let machine = start(alloc)?;
     let reset = Call::Reset(Reset { seg: 0, note: 3 });
-    let answered = answer(alloc, &machine, caller(), &reset)?;
-    assert!(rt; matches!(answered, Ready::Reply(Reply::Value(0))));
+    assert!(rt; answers_nothing(alloc, &machine, caller(), &reset)?);
     assert!(rt; !joins(alloc, &machine, caller(), &reset)?);
     let barrier = Call::Barrier(Barrier { group: 0 });
     assert!(rt; joins(alloc, &machine, caller(), &barrier)?);

@@ -36,14 +36,17 @@ fn replies_are_read_in_any_spelling(rt: HostRuntime) -> Result<(), Fail> {
     Ok(())
 }
 
-/// Whether a text is the end of thread 2 of rank 1, with value 5.
-fn is_end(alloc: Global, text: &[u8]) -> Result<bool, NoMemory> {
+/// The reply with which a text says that a caller ended, where it says so.
+fn end_reply(alloc: Global, text: &[u8]) -> Result<Option<Reply>, NoMemory> {
     match read_event(alloc, text)? {
-        Some(Event::Called(caller, Call::End, Reply::Value(5))) => {
-            Ok(caller.rank.number() == 1 && caller.thread.number() == 2)
-        }
-        _ => Ok(false),
+        Some(Event::Called(_, Call::End, reply)) => Ok(Some(reply)),
+        _ => Ok(None),
     }
+}
+
+/// Whether a text is an end with value 5.
+fn is_end(alloc: Global, text: &[u8]) -> Result<bool, NoMemory> {
+    Ok(matches!(end_reply(alloc, text)?, Some(Reply::Value(5))))
 }
 
 #[test]

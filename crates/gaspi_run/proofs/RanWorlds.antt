@@ -32,7 +32,8 @@ use Rattle.rank_script.specs.WorldText.{AreScriptsOf, is_script_of}
 use Rattle.rank_script.specs.declared.scripts.RunOutcome.{RunOutcome}
 use Rattle.rank_script.specs.declared.scripts.Script.{Script}
 use Rattle.rank_script.specs.declared.scripts.ScriptLine.{ScriptLine}
-use Rattle.script_bodies.specs.Looks.{looks_along}
+use Rattle.script_bodies.specs.Looks.{looks_along, AreWithin}
+use Rattle.commit_table.proofs.Lists.{prefix_trans}
 use Rattle.script_bodies.specs.Runs.{HasRun}
 use Rattle.script_bodies.specs.declared.bodies.ScriptBody.{ScriptBody}
 use Rattle.gaspi_run.proofs.CallsOfEvents.{own-events}
@@ -353,6 +354,7 @@ module _ (world : TableValue Start) (scripts : List Script) (limit : ℕ) (passe
               let found : find (is_script_of script.caller) scripts ≡ Some body.script.now = subst (λ (c : CallerId). find (is_script_of c) scripts ≡ Some body.script.now) here.5 ran.is_script in
               let both : ◌≡◌ {A = Option Script} (Some body.script.now) (Some script) = sym found ∙ script-found place script at in
               let same : body.script.now ≡ script = cc in
+              let run_is = subst (λ (s : Script). HasRun w s.caller s.lines limit ran.told (made_pass world number).known t.pass.known) same ran.run in
               record {
                 place = number;
                 pass = t.pass.known;
@@ -360,7 +362,14 @@ module _ (world : TableValue Start) (scripts : List Script) (limit : ℕ) (passe
                 caller = caller;
                 did = did;
                 saw = saw;
-                waited = waited-on last script t.pass.known saw did (subst (λ (s : Script). HasRun w s.caller s.lines limit ran.told (made_pass world number).known t.pass.known) same ran.run);
+                waited = waited-on last script t.pass.known saw did run_is;
+                looks = run_is.looks;
+                last = run_is.last;
+                looked = run_is.looked.looks;
+                by_call = λ i j ks h group look.
+                    let told = run_is.by_call i j ks h group look in
+                    (prefix_trans h t.pass.known.seen journal told.0 saw, told.1);
+                within = subst (λ (ps : _). AreWithin run_is.looks (looks_along limit (going_on script.lines) ps)) (ap (own_calls script.caller.rank script.caller.thread) (sym did) ∙ own-events script.caller journal) run_is.within;
               }
             where
               waited-on : ((w : World) (c : CallerId) (history later : List Event) (looks ns : List ℕ) → Waited w c history looks ns → own_calls c.rank c.thread (history ++ later) ≡ own_calls c.rank c.thread history → Waited w c (history ++ later) looks ns)

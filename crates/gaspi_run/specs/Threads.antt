@@ -1,6 +1,6 @@
 -- What is known of a world whose scripts ran on threads, and was closed. (own choice)
-use Rattle.std.specs.Prelude.{◌≡◌, ◌<◌, ℕ, true, false, List, ◌∷◌, ◌++◌, Option, Some, slice_get}
-use Rattle.std.specs.List.{list_any}
+use Rattle.std.specs.Prelude.{◌≡◌, ◌<◌, ℕ, true, false, List, [], ◌∷◌, ◌++◌, map, length, Option, Some, slice_get}
+use Rattle.std.specs.List.{list_any, flat_map}
 use mathlib.Core.List.{IsPrefix}
 use Rattle.gaspi_types.specs.World.{World}
 use Rattle.gaspi_types.specs.declared.events.Event.{Event}
@@ -15,14 +15,15 @@ use Rattle.rank_script.specs.declared.scripts.Script.{Script}
 use Rattle.gaspi_world.specs.Callers.{events_of, IsPassOf}
 use Rattle.gaspi_world.specs.Waits.{Waited}
 use Rattle.gaspi_world.specs.declared.starts.Start.{Start}
-use Rattle.script_bodies.specs.Looks.{looks_along}
+use Rattle.script_bodies.specs.Looks.{looks_along, AreWithin, AreByCall}
 use Rattle.journal_texts.specs.JournalText.{AreInRange}
 use Rattle.gaspi_run.specs.Endings.{HasSettled, HaveEnded}
 use Rattle.gaspi_run.specs.declared.turns.Finished.{Finished}
 
 -- The caller of a script had a pass of the world. What it did is in the journal, each call once, in order, with the reply that it got,
 -- and so are its joins; what it had seen is a beginning of the journal. None of its timeouts came before the looks of its line were
--- spent: so many for a call that blocks. (GASPI: timeouts)
+-- spent: so many for a call that blocks; and no call made more looks than that, which its pass tells call by call, the last one being
+-- that of its end. (GASPI: timeouts)
 pub record HadPass (w : World) (limit : ℕ) (journal : List Event) (passes : List (Known Start Event)) (script : Script) : Type 0 where
   pub place : ℕ
   pub pass : Known Start Event
@@ -31,6 +32,11 @@ pub record HadPass (w : World) (limit : ℕ) (journal : List Event) (passes : Li
   pub did : events_of script.caller journal ≡ pass.mine
   pub saw : IsPrefix pass.seen journal
   pub waited : Waited w script.caller journal pass.looks (looks_along limit (going_on script.lines) (own_calls script.caller.rank script.caller.thread journal))
+  pub looks : List (List (List Event))
+  pub last : List Event
+  pub looked : pass.looks ≡ map length (flat_map (λ (ks : List (List Event)). ks) looks ++ last ∷ [])
+  pub by_call : AreByCall script.caller journal looks
+  pub within : AreWithin looks (looks_along limit (going_on script.lines) (own_calls script.caller.rank script.caller.thread journal))
 
 -- A closed world began as this one and has this journal, and the callers of these scripts had its passes.
 pub record IsTallied (w : World) (scripts : List Script) (limit : ℕ) (journal : List Event) (tally : TallyValue Start Event) : Type 0 where
