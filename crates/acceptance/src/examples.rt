@@ -95,7 +95,7 @@ fn worlds_are_run(rt: HostRuntime) -> Result<(), Fail> {
     Ok(())
 }
 
-// A world from a number: its four numbers, and that the input is not read.
+// A world from a number: its four numbers, whatever the input.
 #[test]
 fn numbers_of_bench_are_told(rt: HostRuntime) -> Result<(), Fail> {
     let alloc = rt.alloc();

@@ -28,7 +28,7 @@ fn journal_of(alloc: Global, first: Event, second: Event) -> Result<Journal, NoM
     Ok(reserved.into_rows())
 }
 
-/// The text of a journal. It has none where an event has not its own values, as no event of a run has.
+/// The text of a journal, or nothing where some event has not its own values; each event of a run has them.
 fn text_of(alloc: Global, journal: &Journal) -> Result<Bytes, NoMemory> {
     let mut text = Bytes::new(alloc);
     if have_own_values(journal) {

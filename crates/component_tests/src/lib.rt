@@ -1,4 +1,4 @@
-//! Tests alone, of calls of the large crates that no command makes, and of the texts of faults. What the commands call is
+//! Tests alone, mostly of calls of the large crates that no command makes, and of the texts of faults. What the commands call is
 //! tested by the tables of whole runs in `tests/`, with ample memory and every byte compared.
 //!
 //! Values that a test is not about are made in functions without clauses, so that its proof does not carry them.
