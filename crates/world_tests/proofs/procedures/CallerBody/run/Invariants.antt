@@ -1,4 +1,3 @@
-use Rattle.std.proofs.Common.{◌≡◌}
 use Rattle.gaspi_world.specs.Calling.{MayCall}
 use Rattle.world_tests.proofs.procedures.CallerBody.run.Given as goal
 
