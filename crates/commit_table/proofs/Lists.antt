@@ -1,5 +1,5 @@
 -- Beginnings of one history, the events of a party, what is held of a shard, and lists read by `get_elem?`.
-use Rattle.std.proofs.Common.{◌≡◌, ◌≢◌, ℕ, zero, suc, ◌+◌, ◌<◌, ◌≤◌, ◌⊎◌, inl, inr, ⊎_elim, Bool, true, false, cond, eq-eqb, ne_eqb, List, [], ◌∷◌, ◌++◌, length, set, Option, Some, refl, ap, sym, subst, ◌∙◌, arith, append_assoc, length-append, map, get_or, slice_get}
+use Rattle.std.proofs.Common.{◌≡◌, ◌≢◌, ℕ, zero, suc, ◌+◌, ◌<◌, ◌≤◌, ◌⊎◌, inl, inr, ⊎_elim, Bool, true, false, cond, eq-eqb, ne_eqb, List, [], ◌∷◌, ◌++◌, length, set, Option, Some, refl, ap, sym, subst, ◌∙◌, arith, append_assoc, append-nil, length-append, map, get_or, slice_get}
 use Rattle.std.proofs.lemmas.List.{map-append, get_or-set_other}
 use mathlib.Core.Logic.{dite}
 use mathlib.Core.Option.{some, some-injective, some-ne-none}
@@ -25,6 +25,14 @@ module _ {A : Type 0} where
 
   pub prefix_length : (xs ys : List A) → IsPrefix xs ys → length xs ≤ length ys
   prefix_length xs ys p = omega (arith, sym (ap length p.1) ∙ length-append xs p.0)
+
+  -- two lists each of which is a beginning of the other
+  pub prefix_both : (xs ys : List A) → IsPrefix xs ys → IsPrefix ys xs → xs ≡ ys
+  prefix_both xs ys p q = go p.0 p.1
+    where
+      go : (rest : List A) → xs ++ rest ≡ ys → xs ≡ ys
+      go [] is = sym (append-nil xs) ∙ is
+      go (x ∷ rest) is = absurd (let m = ap length is in let l = length-append xs (x ∷ rest) in let o = ap length q.1 in let r = length-append ys q.0 in omega arith)
 
   -- where something stands, it can be replaced
   pub at_here : (l : List A) (i : ℕ) (a b : A) → get_elem? l i ≡ some b → get_elem? (set l i a) i ≡ some a

@@ -22,3 +22,4 @@ pub mod Listed
 pub mod Ended
 pub mod Settled
 pub mod Local
+pub mod OwnCalls

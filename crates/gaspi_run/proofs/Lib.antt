@@ -1,6 +1,5 @@
 pub mod Declared
 pub mod OwnValues
-pub mod StaysPending
 pub mod Work
 pub mod Good
 pub mod JoinsFollowed

@@ -13,6 +13,7 @@ use Rattle.gaspi_types.specs.declared.events.Event.{Event}
 use Rattle.gaspi_types.specs.declared.events.Event.TheVariants.{Called, Joined, Take, Put}
 use Rattle.gaspi_model.specs.Step.{reached, room_taken, own_calls, is_active, is_pending}
 use Rattle.gaspi_model.specs.declared.states.State.{State}
+use Rattle.gaspi_model.proofs.OwnCalls.{own_calls-append}
 use Rattle.gaspi_types.proofs.Items.{slice_get-set_same, slice_get-set_other}
 use Rattle.rank_script.specs.Runs.{Progress, Going, Over, going_on, advanced, stopped, is_stuck, is_retried, is_failed, Follows, IsRun}
 use Rattle.rank_script.specs.WorldText.{is_script_of}
@@ -25,7 +26,7 @@ use Rattle.script_bodies.specs.Joins.{AreJoinsFollowed}
 use Rattle.gaspi_run.specs.Endings.{present_need, is_own, own_events, HasLimitCause, HasEnded}
 use Rattle.gaspi_run.specs.declared.turns.Waiting.{Waiting}
 use Rattle.gaspi_run.specs.declared.turns.Turns.{Turns}
-use Rattle.transcripts.proofs.OwnCalls.{own_of, own_calls-append, own-same, own-other}
+use Rattle.transcripts.proofs.OwnCalls.{own_of, own-same, own-other}
 use Rattle.gaspi_run.proofs.JoinsFollowed.{AreFollowedSoFar, ends_joined}
 
 -- What a caller's own events are.

@@ -14,6 +14,7 @@ use Rattle.gaspi_types.specs.declared.events.Event.TheVariants.{Called}
 use Rattle.gaspi_model.specs.Sound.{IsSound}
 use Rattle.gaspi_model.specs.Step.{step, own_calls, is_active, is_pending, ends_caller}
 use Rattle.gaspi_model.specs.declared.states.State.{State}
+use Rattle.gaspi_world.proofs.StaysPending.{pending-stays}
 use Rattle.gaspi_types.proofs.Items.{append-parts}
 use Rattle.rank_script.specs.Runs.{Progress, Going, Over, going_on, advanced, is_stuck, is_retried, is_failed, Follows, IsRun, IsStopped, end_pair}
 use Rattle.rank_script.specs.declared.scripts.Script.{Script}
@@ -26,7 +27,6 @@ use Rattle.gaspi_run.specs.Endings.{own_events, HasLimitCause, HasEnded}
 use Rattle.gaspi_run.specs.declared.turns.Waiting.{Waiting}
 use Rattle.gaspi_run.specs.declared.turns.Turns.{Turns}
 use Rattle.gaspi_run.proofs.JoinsFollowed.{AreFollowedSoFar, ends_joined, followed-at-end}
-use Rattle.gaspi_run.proofs.StaysPending.{pending-stays}
 use Rattle.gaspi_run.proofs.Running.{IsRunning, Goes, HasCome, waiting_count, finished_count, present, line-there, come-more, ended-more, own_events-append, events-same, events-more, called-other}
 use Rattle.gaspi_run.proofs.RunningTurns.{ActiveStays, apart-waiting, apart-finished, own-more}
 

@@ -16,6 +16,8 @@ use Rattle.gaspi_model.specs.Sound.{IsSound}
 use Rattle.gaspi_model.specs.Step.{step, own_calls, is_active, is_pending, ends_caller}
 use Rattle.gaspi_types.specs.CallRows.{is_end}
 use Rattle.gaspi_model.specs.declared.states.State.{State}
+use Rattle.gaspi_model.proofs.OwnCalls.{own_calls-append}
+use Rattle.gaspi_world.proofs.StaysPending.{pending-stays}
 use Rattle.gaspi_types.proofs.Items.{slice_get-set}
 use Rattle.rank_script.specs.Runs.{Progress, Going, going_on, advanced, Follows}
 use Rattle.rank_script.specs.declared.scripts.Script.{Script}
@@ -26,8 +28,7 @@ use Rattle.gaspi_run.specs.Schedule.{with_waiting}
 use Rattle.gaspi_run.specs.declared.turns.Waiting.{Waiting}
 use Rattle.gaspi_run.specs.declared.turns.Turns.{Turns}
 use Rattle.gaspi_run.proofs.JoinsFollowed.{AreFollowedSoFar, ends_joined, called-ends, called-so-far, joined-so-far}
-use Rattle.gaspi_run.proofs.StaysPending.{pending-stays}
-use Rattle.transcripts.proofs.OwnCalls.{own_calls-append, own-same}
+use Rattle.transcripts.proofs.OwnCalls.{own-same}
 use Rattle.gaspi_run.proofs.Running.{IsRunning, Goes, present, come-going, own_events-append, events-same, events-more, called-other, waiting_count, finished_count, count-at, count-two, come-more, ended-more, set-cases}
 
 -- what the machine's and the runs' laws say

@@ -1,5 +1,5 @@
 -- The looks of the timeouts of a caller are kept as its history goes on.
-use Rattle.std.proofs.Common.{◌≡◌, ◌⊎◌, ℕ, zero, suc, ◌+◌, ◌-◌, ◌<◌, ◌≤◌, Bool, true, false, List, [], ◌∷◌, ◌++◌, map, take, length, length-append, Some, inl, inr, refl, sym, ap, ◌∙◌, subst, arith, if◌then◌else◌}
+use Rattle.std.proofs.Common.{◌≡◌, ◌⊎◌, ℕ, zero, suc, ◌+◌, ◌-◌, ◌<◌, ◌≤◌, Bool, true, false, List, [], ◌∷◌, ◌++◌, map, take, length, length-append, Some, inl, inr, refl, sym, ap, ◌∙◌, subst, arith}
 use Rattle.std.specs.List.{slice_get}
 use Rattle.std.proofs.lemmas.Bool.{cases_lt}
 use Rattle.std.proofs.lemmas.List.{append_assoc, append-nil, append_cancel_left, append_cancel_right, length-map, take-append-le}
@@ -16,9 +16,10 @@ use Rattle.gaspi_types.specs.declared.replies.Reply.TheVariants.{Timeout}
 use Rattle.gaspi_types.specs.declared.shapes.CallerId.{CallerId}
 use Rattle.gaspi_types.proofs.Items.{front-of-joined, behind-of-joined, map-at}
 use Rattle.gaspi_model.specs.Step.{own_calls}
+use Rattle.gaspi_model.proofs.OwnCalls.{own_calls-append}
 use Rattle.timeout_state.specs.Looks.{looks_of}
 use Rattle.commit_table.specs.declared.views.Known.{Known}
-use Rattle.commit_table.proofs.Lists.{prefix_self, prefix_trans, prefix_more, prefix_length}
+use Rattle.commit_table.proofs.Lists.{prefix_self, prefix_trans, prefix_more, prefix_length, prefix_both}
 use Rattle.gaspi_world.specs.Attempts.{is_waiting, found_after, MayHaveJoined}
 use Rattle.gaspi_world.specs.Callers.{events_of}
 use Rattle.gaspi_world.specs.Calling.{JoinedFirst, IsCalled, IsStopped}
@@ -40,17 +41,6 @@ taken xs ys more = ap (take (length xs)) (sym more.1) ∙ take-append_seam xs mo
 
 module _ (c : CallerId) where
   -- The calls of a caller in a history.
-
-  pub own-append : (a b : List Event) → own_calls c.rank c.thread (a ++ b) ≡ own_calls c.rank c.thread a ++ own_calls c.rank c.thread b
-  own-append [] b = refl
-  own-append (Called d call reply ∷ a) b = go (is_caller c.rank c.thread d) (own-append a b)
-    where
-      go : (x : Bool) → own_calls c.rank c.thread (a ++ b) ≡ own_calls c.rank c.thread a ++ own_calls c.rank c.thread b
-          → (if x then (call, reply) ∷ own_calls c.rank c.thread (a ++ b) else own_calls c.rank c.thread (a ++ b))
-          ≡ (if x then (call, reply) ∷ own_calls c.rank c.thread a else own_calls c.rank c.thread a) ++ own_calls c.rank c.thread b
-      go true rest = ap (λ (ps : List (Call × Reply)). (call, reply) ∷ ps) rest
-      go false rest = rest
-  own-append (transfer ∷ a) b = own-append a b
 
   own-called : (call : Call) (reply : Reply) (history : List Event) → own_calls c.rank c.thread (Called c call reply ∷ history) ≡ (call, reply) ∷ own_calls c.rank c.thread history
   own-called call reply history = rw (is-itself c) refl
@@ -82,7 +72,7 @@ module _ (c : CallerId) where
       let no : ⊥ = cc in
       no
   own-nowhere (e ∷ history) (suc k) call reply at none =
-      own-nowhere history k call reply at (none-behind (own_calls c.rank c.thread (e ∷ [])) (own_calls c.rank c.thread history) (sym (own-append (e ∷ []) history) ∙ none))
+      own-nowhere history k call reply at (none-behind (own_calls c.rank c.thread (e ∷ [])) (own_calls c.rank c.thread history) (sym (own_calls-append c.rank c.thread (e ∷ []) history) ∙ none))
 
   -- where a history goes on without one, each stands in the history
   own-within : (history later : List Event) (k : ℕ) (call : Call) (reply : Reply) → own_calls c.rank c.thread (history ++ later) ≡ own_calls c.rank c.thread history → slice_get (history ++ later) k ≡ Some (Called c call reply)
@@ -90,7 +80,7 @@ module _ (c : CallerId) where
   own-within history later k call reply same at = go (cases_lt k (length history))
     where
       none : own_calls c.rank c.thread later ≡ []
-      none = append_cancel_left (own_calls c.rank c.thread history) (own_calls c.rank c.thread later) [] (sym (own-append history later) ∙ (same ∙ sym (append-nil (own_calls c.rank c.thread history))))
+      none = append_cancel_left (own_calls c.rank c.thread history) (own_calls c.rank c.thread later) [] (sym (own_calls-append c.rank c.thread history later) ∙ (same ∙ sym (append-nil (own_calls c.rank c.thread history))))
 
       go : (k < length history) ⊎ (length history ≤ k) → k < length history
       go (inl less) = less
@@ -106,8 +96,8 @@ module _ (c : CallerId) where
       omega arith
   own-fewer (e ∷ history) (suc k) call reply at =
       let rest = own-fewer history k call reply at in
-      let front = ap length (own-append (e ∷ []) (take k history)) ∙ length-append (own_calls c.rank c.thread (e ∷ [])) (own_calls c.rank c.thread (take k history)) in
-      let all = ap length (own-append (e ∷ []) history) ∙ length-append (own_calls c.rank c.thread (e ∷ [])) (own_calls c.rank c.thread history) in
+      let front = ap length (own_calls-append c.rank c.thread (e ∷ []) (take k history)) ∙ length-append (own_calls c.rank c.thread (e ∷ [])) (own_calls c.rank c.thread (take k history)) in
+      let all = ap length (own_calls-append c.rank c.thread (e ∷ []) history) ∙ length-append (own_calls c.rank c.thread (e ∷ [])) (own_calls c.rank c.thread history) in
       omega arith
 
 module _ (w : World) (c : CallerId) where
@@ -239,16 +229,8 @@ module _ (w : World) (c : CallerId) where
 
 -- Beginnings.
 
-prefix-own : (c : CallerId) (a b : List Event) → IsPrefix a b → IsPrefix (own_calls c.rank c.thread a) (own_calls c.rank c.thread b)
-prefix-own c a b more = (own_calls c.rank c.thread more.0, sym (own-append c a more.0) ∙ ap (λ (h : List Event). own_calls c.rank c.thread h) more.1)
-
--- of two lists each of which is a beginning of the other
-prefix-both : {A : Type 0} (a b : List A) → IsPrefix a b → IsPrefix b a → a ≡ b
-prefix-both {A} a b ab ba = go ab.0 ab.1
-  where
-    go : (rest : List A) → a ++ rest ≡ b → a ≡ b
-    go [] is = sym (append-nil a) ∙ is
-    go (x ∷ rest) is = absurd (let m = ap length is in let l = length-append a (x ∷ rest) in let p = ap length ba.1 in let q = length-append b ba.0 in omega arith)
+pub prefix-own : (c : CallerId) (a b : List Event) → IsPrefix a b → IsPrefix (own_calls c.rank c.thread a) (own_calls c.rank c.thread b)
+prefix-own c a b more = (own_calls c.rank c.thread more.0, sym (own_calls-append c.rank c.thread a more.0) ∙ ap (λ (h : List Event). own_calls c.rank c.thread h) more.1)
 
 module _ {S : Type 0} (w : World) (c : CallerId) where
   -- a pass that did nothing yet
@@ -268,7 +250,7 @@ module _ {S : Type 0} (w : World) (c : CallerId) where
       → own_calls c.rank c.thread before ≡ own_calls c.rank c.thread v.seen
   own-before v before seen more same =
       let up : IsPrefix (own_calls c.rank c.thread before) (own_calls c.rank c.thread v.seen) = subst (λ (ps : List (Call × Reply)). IsPrefix ps (own_calls c.rank c.thread v.seen)) (sym same) seen in
-      prefix-both (own_calls c.rank c.thread before) (own_calls c.rank c.thread v.seen) up (prefix-own c v.seen before more)
+      prefix_both (own_calls c.rank c.thread before) (own_calls c.rank c.thread v.seen) up (prefix-own c v.seen before more)
 
   -- a call that is recorded: a timeout has so many looks
   pub waited-called : (call : Call) (timeout : timeouts.Timeout) (reply : Reply) (v n : Known S Event) (ns : List ℕ) (k : ℕ) → HaveWaited w c ns v → IsCalled w c call timeout reply v n → (reply ≡ Timeout → looks_of timeout ≡ Some k) → HaveWaited w c (ns ++ k ∷ []) n
@@ -285,14 +267,14 @@ module _ {S : Type 0} (w : World) (c : CallerId) where
       made : own_calls c.rank c.thread n.mine ≡ own_calls c.rank c.thread v.mine ++ (call, reply) ∷ []
       made =
           ap (λ (h : List Event). own_calls c.rank c.thread h) (called.mine ∙ append_assoc v.mine called.joins (Called c call reply ∷ []))
-          ∙ (own-append c v.mine (called.joins ++ Called c call reply ∷ [])
-          ∙ ap (λ (ps : List (Call × Reply)). own_calls c.rank c.thread v.mine ++ ps) (own-append c called.joins (Called c call reply ∷ [])
+          ∙ (own_calls-append c.rank c.thread v.mine (called.joins ++ Called c call reply ∷ [])
+          ∙ ap (λ (ps : List (Call × Reply)). own_calls c.rank c.thread v.mine ++ ps) (own_calls-append c.rank c.thread called.joins (Called c call reply ∷ [])
           ∙ (ap (λ (ps : List (Call × Reply)). ps ++ own_calls c.rank c.thread (Called c call reply ∷ [])) (first-join w c call called.earlier called.last called.joins called.joined) ∙ own-called c call reply [])))
 
       made_before : own_calls c.rank c.thread called.before ≡ own_calls c.rank c.thread v.mine
       made_before = append_cancel_right (own_calls c.rank c.thread called.before) (own_calls c.rank c.thread v.mine) ((call, reply) ∷ [])
           (ap (λ (ps : List (Call × Reply)). own_calls c.rank c.thread called.before ++ ps) (sym (own-called c call reply []))
-          ∙ (sym (own-append c called.before (Called c call reply ∷ [])) ∙ (ap (λ (h : List Event). own_calls c.rank c.thread h) (sym called.ends) ∙ (own-seen n called.goes_on.own ∙ made))))
+          ∙ (sym (own_calls-append c.rank c.thread called.before (Called c call reply ∷ [])) ∙ (ap (λ (h : List Event). own_calls c.rank c.thread h) (sym called.ends) ∙ (own-seen n called.goes_on.own ∙ made))))
 
       more : IsPrefix v.seen called.before
       more = prefix_trans v.seen called.last called.before (called.looks.between (length called.earlier) called.last (at-end called.earlier called.last)).0 (called.after_looks (length called.earlier) called.last (at-end called.earlier called.last))
@@ -316,7 +298,7 @@ module _ {S : Type 0} (w : World) (c : CallerId) where
   waited-stopped call timeout full v n ns so_far stopped =
       let none = first-join w c call stopped.earlier stopped.last stopped.joins stopped.joined in
       let mine : own_calls c.rank c.thread n.mine ≡ own_calls c.rank c.thread v.mine = ap (λ (h : List Event). own_calls c.rank c.thread h) stopped.mine
-      ∙ (own-append c v.mine stopped.joins ∙ (ap (λ (ps : List (Call × Reply)). own_calls c.rank c.thread v.mine ++ ps) none ∙ append-nil (own_calls c.rank c.thread v.mine))) in
+      ∙ (own_calls-append c.rank c.thread v.mine stopped.joins ∙ (ap (λ (ps : List (Call × Reply)). own_calls c.rank c.thread v.mine ++ ps) none ∙ append-nil (own_calls c.rank c.thread v.mine))) in
       let more = stopped.goes_on.seen in
       let same : own_calls c.rank c.thread n.seen ≡ own_calls c.rank c.thread v.seen = own-before v n.seen so_far.seen more (own-seen n stopped.goes_on.own ∙ mine) in
       let on = waits-last w c v.seen more.0 v.looks ns so_far.waited (ap (λ (h : List Event). own_calls c.rank c.thread h) more.1 ∙ same) in

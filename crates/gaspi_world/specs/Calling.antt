@@ -44,8 +44,8 @@ module _ {S : Type 0} (w : World) (c : CallerId) where
     pub between : (k : ℕ) (h : List Event) → slice_get histories k ≡ Some h → IsPrefix v.seen h × IsPrefix h n.seen
 
   -- The call was recorded with its reply, once, after all its looks, and what is seen ends with it. It took no more looks than its
-  -- timeout has. At the earlier ones it was neither refused nor ready, and its rank had room for it at each. A timeout comes when all
-  -- looks are spent, and the call is neither refused nor ready at the last one.
+  -- timeout has. At the earlier ones it was neither refused nor ready. At each look, the last one too, its rank had room for it. A
+  -- timeout comes when all looks are spent, and the call is neither refused nor ready at the last one.
   pub record IsCalled (call : Call) (timeout : timeouts.Timeout) (reply : Reply) (v n : Known S Event) : Type 0 where
     pub goes_on : GoesOn w c v n
     pub earlier : List (List Event)
@@ -65,8 +65,9 @@ module _ {S : Type 0} (w : World) (c : CallerId) where
     pub spent : reply ≡ Timeout → looks_of timeout ≡ Some (length earlier + 1)
     pub timely : reply ≡ Timeout → is_waiting (found_after w c call last) ≡ true
 
-  -- The call was not recorded, after a last look at which its rank had no room for what it needs, or had. It had room at the earlier
-  -- ones, and there were no more looks than the timeout has. Where it had none at the last, nothing was seen since that look.
+  -- The call was not recorded, after a last look at which its rank had no room for what it needs, or had. At the earlier looks the call
+  -- was neither refused nor ready, and its rank had room for it. There were no more looks than the timeout has. Where there was no room
+  -- at the last, nothing was seen since that look.
   pub record IsStopped (call : Call) (timeout : timeouts.Timeout) (full : Bool) (v n : Known S Event) : Type 0 where
     pub goes_on : GoesOn w c v n
     pub earlier : List (List Event)

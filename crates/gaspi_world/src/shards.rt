@@ -7,13 +7,14 @@ use plain_machine::Machine;
 /// An event at its place in the journal.
 #[derive(Drop)]
 pub struct Placed {
-    pub place: u64,
-    pub event: Event,
+    pub(crate) place: u64,
+    pub(crate) event: Event,
 }
 
-/// What lies in the shard: the machine, and the events that were recorded, with room for all that the ranks may record.
+/// What lies in the shard: the machine, and the events that were recorded, with room for all that the ranks may record. It is
+/// made by `World::start` alone, so that no other table of this machine can be.
 #[derive(Drop)]
 pub struct WorldShard {
-    pub machine: Machine,
-    pub journal: Buffer<Placed>,
+    pub(crate) machine: Machine,
+    pub(crate) journal: Buffer<Placed>,
 }

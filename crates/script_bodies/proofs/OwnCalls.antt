@@ -1,5 +1,5 @@
 -- The calls of a caller in a history, and in its own events.
-use Rattle.std.proofs.Common.{◌≡◌, ℕ, zero, suc, Bool, true, false, List, [], ◌∷◌, ◌++◌, length, length-append, Some, refl, sym, ap, ◌∙◌, subst, arith, inl, inr, if◌then◌else◌, append-nil}
+use Rattle.std.proofs.Common.{◌≡◌, ℕ, zero, suc, Bool, true, false, List, [], ◌∷◌, ◌++◌, length, length-append, Some, refl, sym, ap, ◌∙◌, subst, arith, inl, inr, append-nil}
 use Rattle.std.specs.List.{slice_get}
 use Rattle.std.proofs.lemmas.Bool.{eq-eqb}
 use Rattle.gaspi_types.specs.World.{World, is_caller}
@@ -10,6 +10,7 @@ use Rattle.gaspi_types.specs.declared.events.Event.TheVariants.{Called, Joined, 
 use Rattle.gaspi_types.specs.declared.replies.Reply.{Reply}
 use Rattle.gaspi_types.specs.declared.shapes.CallerId.{CallerId}
 use Rattle.gaspi_model.specs.Step.{own_calls}
+use Rattle.gaspi_model.proofs.OwnCalls.{own_calls-append}
 use Rattle.gaspi_world.specs.Attempts.{MayHaveJoined}
 use Rattle.gaspi_world.specs.Callers.{events_of}
 use Rattle.gaspi_world.specs.Calling.{JoinedFirst}
@@ -17,17 +18,6 @@ use Rattle.script_bodies.specs.SoFar.{HasNoEnd}
 
 abbrev Pairs : Type 0
 Pairs = List (Call × Reply)
-
-pub own_calls-append : (rank thread : ℕ) (a b : List Event) → own_calls rank thread (a ++ b) ≡ own_calls rank thread a ++ own_calls rank thread b
-own_calls-append rank thread [] b = refl
-own_calls-append rank thread (Called c call reply ∷ a) b = go (is_caller rank thread c) (own_calls-append rank thread a b)
-  where
-    go : (x : Bool) → own_calls rank thread (a ++ b) ≡ own_calls rank thread a ++ own_calls rank thread b
-        → (if x then (call, reply) ∷ own_calls rank thread (a ++ b) else own_calls rank thread (a ++ b))
-        ≡ (if x then (call, reply) ∷ own_calls rank thread a else own_calls rank thread a) ++ own_calls rank thread b
-    go true rest = ap (λ (ps : Pairs). (call, reply) ∷ ps) rest
-    go false rest = rest
-own_calls-append rank thread (transfer ∷ a) b = own_calls-append rank thread a b
 
 pub own-one : (c : CallerId) (call : Call) (reply : Reply) → own_calls c.rank c.thread (Called c call reply ∷ []) ≡ (call, reply) ∷ []
 own-one c call reply = rw (eq-eqb c.rank c.rank refl, eq-eqb c.thread c.thread refl) refl

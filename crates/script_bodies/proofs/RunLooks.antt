@@ -12,14 +12,14 @@ use Rattle.gaspi_types.specs.declared.shapes.CallerId.{CallerId}
 use Rattle.gaspi_model.specs.Step.{own_calls}
 use Rattle.timeout_state.specs.Looks.{looks_of}
 use Rattle.commit_table.specs.declared.views.Known.{Known}
-use Rattle.commit_table.proofs.Lists.{prefix_trans}
+use Rattle.commit_table.proofs.Lists.{prefix_trans, prefix_both}
 use Rattle.rank_script.specs.Runs.{Progress, Going, Over, going_on, advanced, Follows}
 use Rattle.rank_script.specs.declared.scripts.ScriptLine.{ScriptLine}
 use Rattle.gaspi_world.specs.Attempts.{is_full_after}
 use Rattle.gaspi_world.specs.Calling.{HadRoom, AreLooks}
+use Rattle.gaspi_world.proofs.SpentLooks.{prefix-own}
 use Rattle.script_bodies.specs.Looks.{looks_in, bounded, AreWithin, AreByCall}
 use Rattle.script_bodies.specs.Runs.{WasFull}
-use Rattle.script_bodies.proofs.OwnCalls.{own_calls-append}
 
 abbrev Histories : Type 0
 Histories = List (List Event)
@@ -70,22 +70,11 @@ follows-one p [] q r a b = a ∙ sym b
 follows-one (Over outcome) (pair ∷ pairs) q r a b = absurd a
 follows-one (Going line made lines) (pair ∷ pairs) q r a b = follows-one (advanced (Going line made lines) pair.1) pairs q r a.1 b.1
 
--- Of two lists each of which is a beginning of the other.
-prefix-both : {A : Type 0} (a b : List A) → IsPrefix a b → IsPrefix b a → a ≡ b
-prefix-both {A} a b ab ba = go ab.0 ab.1
-  where
-    go : (rest : List A) → a ++ rest ≡ b → a ≡ b
-    go [] is = sym (append-nil a) ∙ is
-    go (x ∷ rest) is = absurd (let m = ap length is in let l = length-append a (x ∷ rest) in let p = ap length ba.1 in let q = length-append b ba.0 in omega arith)
-
-prefix-own : (c : CallerId) (a b : List Event) → IsPrefix a b → IsPrefix (own_calls c.rank c.thread a) (own_calls c.rank c.thread b)
-prefix-own c a b more = (own_calls c.rank c.thread more.0, sym (own_calls-append c.rank c.thread a more.0) ∙ ap (own_calls c.rank c.thread) more.1)
-
 -- Between what was seen, with all calls of a caller, and a history that has no more of them, there are no more.
 pub same-between : (c : CallerId) (mine seen between upper : List Event) → IsPrefix (own_calls c.rank c.thread mine) (own_calls c.rank c.thread seen) → IsPrefix seen between → IsPrefix between upper
     → own_calls c.rank c.thread upper ≡ own_calls c.rank c.thread mine → own_calls c.rank c.thread between ≡ own_calls c.rank c.thread mine
 same-between c mine seen between upper first more rest same =
-    prefix-both (own_calls c.rank c.thread between) (own_calls c.rank c.thread mine)
+    prefix_both (own_calls c.rank c.thread between) (own_calls c.rank c.thread mine)
     (subst (IsPrefix (own_calls c.rank c.thread between)) same (prefix-own c between upper rest))
     (prefix_trans (own_calls c.rank c.thread mine) (own_calls c.rank c.thread seen) (own_calls c.rank c.thread between) first (prefix-own c seen between more))
 

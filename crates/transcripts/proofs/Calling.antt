@@ -12,9 +12,10 @@ use Rattle.gaspi_types.specs.declared.events.Event.TheVariants.{Called}
 use Rattle.gaspi_types.proofs.Items.{changed_at-found}
 use Rattle.gaspi_types.specs.Tables.{changed_at}
 use Rattle.gaspi_model.specs.Step.{own_calls}
+use Rattle.gaspi_model.proofs.OwnCalls.{own_calls-append}
 use Rattle.transcripts.specs.OwnCalls.{pairs_of, HasCallers, IsCallTable}
 use Rattle.transcripts.specs.declared.own_calls.OwnCall.{OwnCall}
-use Rattle.transcripts.proofs.OwnCalls.{own_calls-append, own-same, own-other}
+use Rattle.transcripts.proofs.OwnCalls.{own-same, own-other}
 
 -- what stands in a table of which one item was changed: the changed item, or elsewhere what stood there
 get-set : {X : Type 0} (xs : List X) (i j : ℕ) (y z : X) → slice_get (slice_set xs i y) j ≡ Some z → ((j ≡ i) × (z ≡ y)) ⊎ ((j ≡ i → ⊥) × (slice_get xs j ≡ Some z))

@@ -1,5 +1,5 @@
 -- The calls of a caller in a history, one event after another.
-use Rattle.std.proofs.Common.{◌≡◌, ℕ, Bool, true, false, List, [], ◌∷◌, ◌++◌, refl, ap, if◌then◌else◌}
+use Rattle.std.proofs.Common.{◌≡◌, ℕ, false, List, [], ◌∷◌, refl}
 use Rattle.std.proofs.lemmas.Bool.{eq-eqb}
 use Rattle.gaspi_types.specs.World.{is_caller}
 use Rattle.gaspi_types.specs.declared.shapes.CallerId.{CallerId}
@@ -12,17 +12,6 @@ use Rattle.gaspi_model.specs.Step.{own_calls}
 -- the calls of a caller in one event
 abbrev pub own_of : ℕ → ℕ → Event → List (Call × Reply)
 own_of rank thread e = own_calls rank thread (e ∷ [])
-
-pub own_calls-append : (rank thread : ℕ) (a b : List Event) → own_calls rank thread (a ++ b) ≡ own_calls rank thread a ++ own_calls rank thread b
-own_calls-append rank thread [] b = refl
-own_calls-append rank thread (Called c call reply ∷ a) b = go (is_caller rank thread c) (own_calls-append rank thread a b)
-  where
-    go : (x : Bool) → own_calls rank thread (a ++ b) ≡ own_calls rank thread a ++ own_calls rank thread b
-        → (if x then (call, reply) ∷ own_calls rank thread (a ++ b) else own_calls rank thread (a ++ b))
-        ≡ (if x then (call, reply) ∷ own_calls rank thread a else own_calls rank thread a) ++ own_calls rank thread b
-    go true rest = ap (λ (ps : List (Call × Reply)). (call, reply) ∷ ps) rest
-    go false rest = rest
-own_calls-append rank thread (transfer ∷ a) b = own_calls-append rank thread a b
 
 pub own-same : (c : CallerId) (call : Call) (reply : Reply) → own_of c.rank c.thread (Called c call reply) ≡ (call, reply) ∷ []
 own-same c call reply = rw (eq-eqb c.rank c.rank refl, eq-eqb c.thread c.thread refl) refl
