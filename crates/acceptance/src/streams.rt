@@ -4,111 +4,138 @@ ghost use Rattle.std.specs.Prelude.{◌<◌};
 
 use crate::examples::{TOLD, TWO_RANKS};
 use crate::running::{STEP, answer_to};
-use gaspi_io::{MemSink, MemSource, SureSink, SureSource};
+use gaspi_io::{MemSink, MemSource};
 use gaspi_types::{Bytes, NoMemory, Rows};
 use std::alloc::Global;
-use std::process::Abort;
 use std::sync::Wait;
 use std::test::Fail;
 use std::thread::Threads;
 
-/// A source of the first world, which gives at most so many bytes a read.
-fn source_in_pieces(alloc: Global, piece: usize) -> Result<MemSource, NoMemory>
+/// A source of the first world, which gives at most so many bytes a read, and fails at these reads.
+fn source_in_pieces(alloc: Global, piece: usize, failing: &[u64]) -> Result<MemSource, NoMemory>
     requires { 0 < piece }
 {
+    let failing = Rows::copied_from(alloc, failing)?;
     let mut source = MemSource::new(Bytes::copied_from(alloc, TWO_RANKS.as_bytes())?);
     source.set_piece(piece);
+    source.set_failing(failing);
     Ok(source)
 }
 
-/// Asserts what is written where the text is read and written in pieces of a size.
-fn is_told_in_pieces<R: Threads + Wait + Sync + Abort>(
+/// A sink that takes at most so many bytes a write, and fails at these writes.
+fn sink_in_pieces(alloc: Global, piece: usize, failing: &[u64]) -> Result<MemSink, NoMemory>
+    requires { 0 < piece }
+{
+    let failing = Rows::copied_from(alloc, failing)?;
+    let mut sink = MemSink::with_room(alloc, 4096)?;
+    sink.set_piece(piece);
+    sink.set_failing(failing);
+    Ok(sink)
+}
+
+/// Whether a schedule of what the source gives has this status and writes this, and whether its answer has a journal.
+fn told<R: Threads + Wait + Sync>(
+    rt: &R,
+    alloc: Global,
+    source: &mut MemSource,
+    sink: &mut MemSink,
+    status: u8,
+    text: &[u8],
+) -> (bool, bool) {
+    let answer = answer_to(rt, alloc, &STEP, source, sink);
+    let is_told = answer.status == status && sink.bytes() == text;
+    (is_told, !answer.journal.is_empty())
+}
+
+/// Whether all of it is written where it is read and written in pieces of a size.
+fn is_told_in_pieces<R: Threads + Wait + Sync>(
     rt: &R,
     alloc: Global,
     piece: usize,
-) -> Result<(), NoMemory>
+) -> Result<bool, NoMemory>
     requires { 0 < piece }
 {
-    let mut source = source_in_pieces(alloc, piece)?;
-    let mut sink = MemSink::with_room(alloc, 4096)?;
-    sink.set_piece(piece);
-    let answer = answer_to(rt, alloc, &STEP, &mut source, &mut sink);
-    assert!(rt; answer.status == 0, "pieces of {piece}");
-    assert!(rt; sink.bytes() == TOLD.as_bytes(), "pieces of {piece}");
-    Ok(())
+    let mut source = source_in_pieces(alloc, piece, &[])?;
+    let mut sink = sink_in_pieces(alloc, piece, &[])?;
+    Ok(told(rt, alloc, &mut source, &mut sink, 0, TOLD.as_bytes()).0)
 }
 
 #[test]
 fn pieces_of_each_size_are_one_text(rt: HostRuntime) -> Result<(), Fail> {
-    let alloc = rt.alloc();
     for piece in [1, 2, 7, 184, 185] {
-        is_told_in_pieces(&rt, alloc, piece)?;
+        assert!(rt;
+            is_told_in_pieces(&rt, rt.alloc(), piece)?,
+            "pieces of {piece}"
+        );
     }
     Ok(())
 }
 
-/// Asserts that nothing is written where one read fails.
-fn fails_at_read<R: Threads + Wait + Sync + Abort>(
+/// Whether nothing is written, and there is no journal, where one read fails.
+fn fails_at_read<R: Threads + Wait + Sync>(
     rt: &R,
     alloc: Global,
     piece: usize,
     call: u64,
-) -> Result<(), NoMemory>
+) -> Result<bool, NoMemory>
     requires { 0 < piece }
 {
-    let mut source = source_in_pieces(alloc, piece)?;
-    source.set_failing(Rows::copied_from(alloc, &[call])?);
-    let mut sink = SureSink::with_room(alloc, 4096)?;
-    let answer = answer_to(rt, alloc, &STEP, &mut source, &mut sink);
-    assert_eq!(rt; answer.status, 5, "read {call} of {piece}");
-    assert!(rt; sink.bytes().is_empty(), "read {call} of {piece}");
-    assert!(rt; answer.journal.is_empty(), "read {call} of {piece}");
-    Ok(())
+    let mut source = source_in_pieces(alloc, piece, &[call])?;
+    let mut sink = sink_in_pieces(alloc, 4096, &[])?;
+    let told = told(rt, alloc, &mut source, &mut sink, 5, b"");
+    Ok(matches!(told, (true, false)))
 }
 
 // The text has 184 bytes: with 50 a read, four reads give bytes, and the fifth finds the end. With one, 184 reads do.
 #[test]
 fn each_read_fails_in_turn(rt: HostRuntime) -> Result<(), Fail> {
-    let alloc = rt.alloc();
     for call in 0..5 {
-        fails_at_read(&rt, alloc, 50, call)?;
+        assert!(rt;
+            fails_at_read(&rt, rt.alloc(), 50, call)?,
+            "read {call} of 50"
+        );
     }
     for call in 0..185 {
-        fails_at_read(&rt, alloc, 1, call)?;
+        assert!(rt;
+            fails_at_read(&rt, rt.alloc(), 1, call)?,
+            "read {call} of 1"
+        );
     }
     Ok(())
 }
 
-/// Asserts what was written where one write fails: all that the writes before it took.
-fn fails_at_write<R: Threads + Wait + Sync + Abort>(
+/// Whether, where one write fails, all is written that the writes before it took.
+fn fails_at_write<R: Threads + Wait + Sync>(
     rt: &R,
     alloc: Global,
     piece: usize,
-    call: usize,
-) -> Result<(), NoMemory>
+    call: u64,
+    before: usize,
+) -> Result<bool, NoMemory>
     requires { 0 < piece }
 {
-    let mut source = SureSource::new(Bytes::copied_from(alloc, TWO_RANKS.as_bytes())?);
-    let mut sink = MemSink::with_room(alloc, 4096)?;
-    sink.set_piece(piece);
-    sink.set_failing(Rows::copied_from(alloc, &[call as u64])?);
-    let answer = answer_to(rt, alloc, &STEP, &mut source, &mut sink);
-    let before = piece.saturating_mul(call);
-    let written = TOLD.get(..before).expect(rt, "a front part");
-    assert_eq!(rt; answer.status, 6, "write {call} of {piece}");
-    assert_eq!(rt; sink.bytes(), written.as_bytes(), "write {call} of {piece}");
-    Ok(())
+    let mut source = source_in_pieces(alloc, 4096, &[])?;
+    let mut sink = sink_in_pieces(alloc, piece, &[call])?;
+    let front = TOLD.as_bytes().get(..before).unwrap_or(b"no front");
+    Ok(told(rt, alloc, &mut source, &mut sink, 6, front).0)
 }
 
 // The text has 97 bytes: with 25 a write, four writes take it, and with one, 97.
 #[test]
 fn each_write_fails_in_turn(rt: HostRuntime) -> Result<(), Fail> {
-    let alloc = rt.alloc();
     for call in 0..4 {
-        fails_at_write(&rt, alloc, 25, call)?;
+        let before = 25 * call as usize;
+        assert!(rt;
+            fails_at_write(&rt, rt.alloc(), 25, call, before)?,
+            "write {call} of 25"
+        );
     }
     for call in 0..97 {
-        fails_at_write(&rt, alloc, 1, call)?;
+        let before = call as usize;
+        assert!(rt;
+            fails_at_write(&rt, rt.alloc(), 1, call, before)?,
+            "write {call} of 1"
+        );
     }
     Ok(())
 }

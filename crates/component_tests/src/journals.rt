@@ -7,24 +7,26 @@ use journal_texts::{Journal, ReservedJournal, have_own_values, read, write};
 use std::alloc::Global;
 use std::test::Fail;
 
-/// Whether the copy of an event is equal to it.
-fn is_copied(alloc: Global, event: &Event) -> Result<bool, NoMemory> {
-    let copy = event.copy(alloc)?;
-    Ok(copy == *event)
+/// Whether an event has a copy, which is equal to it.
+fn is_copied(alloc: Global, event: &Event) -> bool {
+    match event.copy(alloc) {
+        Ok(copy) => copy == *event,
+        Err(_) => false,
+    }
 }
 
 #[test]
 fn events_are_copied(rt: HostRuntime) -> Result<(), Fail> {
-    assert!(rt; is_copied(rt.alloc(), &notified(caller()))?);
-    assert!(rt; is_copied(rt.alloc(), &taken(RankId::of(0)))?);
+    assert!(rt; is_copied(rt.alloc(), &notified(caller())));
+    assert!(rt; is_copied(rt.alloc(), &taken(RankId::of(0))));
     Ok(())
 }
 
-/// The journal of two events, whose room is taken first.
-fn journal_of(alloc: Global, first: Event, second: Event) -> Result<Journal, NoMemory> {
+/// The journal of a notification and its take, whose room is taken first.
+fn two_events(alloc: Global) -> Result<Journal, NoMemory> {
     let mut reserved = ReservedJournal::with_room(alloc, 2)?;
-    reserved.push(first);
-    reserved.push(second);
+    reserved.push(notified(caller()));
+    reserved.push(taken(RankId::of(0)));
     Ok(reserved.into_rows())
 }
 
@@ -37,27 +39,46 @@ fn text_of(alloc: Global, journal: &Journal) -> Result<Bytes, NoMemory> {
     Ok(text)
 }
 
+/// Whether a journal is written as a text.
+fn is_written_as(alloc: Global, journal: &Journal, text: &[u8]) -> bool {
+    match text_of(alloc, journal) {
+        Ok(written) => written.as_slice() == text,
+        Err(_) => false,
+    }
+}
+
 /// Whether a text is that journal.
-fn reads_as(alloc: Global, text: &[u8], journal: &Journal) -> Result<bool, Fail> {
-    let again = read(alloc, text)?;
-    Ok(again == *journal)
+fn is_read_from(alloc: Global, journal: &Journal, text: &[u8]) -> bool {
+    match read(alloc, text) {
+        Ok(again) => again == *journal,
+        Err(_) => false,
+    }
 }
 
 /// Whether a journal is legal from a start.
-fn is_legal(alloc: Global, shape: &Shape, journal: &Journal) -> Result<bool, NoMemory> {
-    let verdict = check(alloc, shape, journal)?;
-    Ok(verdict == Verdict::Legal)
+fn is_legal(alloc: Global, shape: &Shape, journal: &Journal) -> bool {
+    match check(alloc, shape, journal) {
+        Ok(verdict) => verdict == Verdict::Legal,
+        Err(_) => false,
+    }
 }
 
 const TEXT: &[u8] = b"journal 1\n0 called 0.0 notify 0 0 3 7 0 -> done\n1 take 0 0 0 0 ok\nend 2\n";
 
+/// Whether that journal has its text both ways, and is legal.
+fn is_told(alloc: Global) -> Result<bool, Fail> {
+    let shape = shape(alloc)?;
+    let journal = two_events(alloc)?;
+    Ok(
+        is_written_as(alloc, &journal, TEXT)
+            && is_read_from(alloc, &journal, TEXT)
+            && is_legal(alloc, &shape, &journal),
+    )
+}
+
 // Texts that are no journals, and journals that are not legal, are in the tables of `tests/`.
 #[test]
 fn a_journal_has_its_text_and_is_legal(rt: HostRuntime) -> Result<(), Fail> {
-    let alloc = rt.alloc();
-    let journal = journal_of(alloc, notified(caller()), taken(RankId::of(0)))?;
-    assert!(rt; text_of(alloc, &journal)?.as_slice() == TEXT);
-    assert!(rt; reads_as(alloc, TEXT, &journal)?);
-    assert!(rt; is_legal(alloc, &shape(alloc)?, &journal)?);
+    assert!(rt; is_told(rt.alloc())?);
     Ok(())
 }

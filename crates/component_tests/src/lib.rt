@@ -1,7 +1,8 @@
-//! Tests alone, mostly of calls of the large crates that no command makes, and of the texts of faults. What the commands call is
-//! tested by the tables of whole runs in `tests/`, with ample memory and every byte compared.
+//! Tests alone of the crates below the commands: mostly of public calls that no command makes, each with ample memory, and of the
+//! texts of faults. What the commands call is tested by the tables of whole runs in `tests/`, with every byte compared.
 //!
-//! Values that a test is not about are made in functions without clauses, so that its proof does not carry them.
+//! A crate with a test is proved twice, so these crates have theirs here. Calls and values stand in small functions without clauses,
+//! so that the proof of a test does not carry them; one that owns much has few ways out, since each drops it all.
 #![tactic(auto)]
 
 #[cfg(test)]
@@ -14,5 +15,9 @@ mod machine;
 mod one_rank;
 #[cfg(test)]
 mod scripts;
+#[cfg(test)]
+mod stores;
+#[cfg(test)]
+mod streams;
 #[cfg(test)]
 mod texts;

@@ -24,14 +24,28 @@ fn lists_a_take(alloc: Global, machine: &Machine) -> Result<bool, NoMemory> {
     Ok(takes && transfers.len() == 1)
 }
 
+/// Whether a notification makes a take come next, where none does before.
+fn brings_a_take(alloc: Global, machine: &mut Machine) -> bool {
+    let before = lists_a_take(alloc, machine);
+    let stepped = steps(alloc, machine, &notified(caller()));
+    let after = lists_a_take(alloc, machine);
+    stepped && matches!((before, after), (Ok(false), Ok(true)))
+}
+
+/// Whether there is one rank.
+fn has_one_rank(machine: &Machine) -> bool {
+    machine.has_rank(RankId::of(0)) && !machine.has_rank(RankId::of(1))
+}
+
+/// Whether both hold of the machine at its start.
+fn lists_transfers(alloc: Global) -> Result<bool, Fail> {
+    let mut machine = start(alloc)?;
+    Ok(brings_a_take(alloc, &mut machine) && has_one_rank(&machine))
+}
+
 #[test]
 fn transfers_are_listed(rt: HostRuntime) -> Result<(), Fail> {
-    let alloc = rt.alloc();
-    let mut machine = start(alloc)?;
-    assert!(rt; !lists_a_take(alloc, &machine)?);
-    assert!(rt; steps(alloc, &mut machine, &notified(caller())));
-    assert!(rt; lists_a_take(alloc, &machine)?);
-    assert!(rt; machine.has_rank(RankId::of(0)) && !machine.has_rank(RankId::of(1)));
+    assert!(rt; lists_transfers(rt.alloc())?);
     Ok(())
 }
 
@@ -62,14 +76,28 @@ fn joins(
     Ok(machine.look(alloc, caller, call)?.is_join())
 }
 
+/// Whether a reset is answered, and joins nothing.
+fn answers_a_reset(alloc: Global, machine: &Machine) -> bool {
+    let reset = Call::Reset(Reset { seg: 0, note: 3 });
+    let answered = answers_nothing(alloc, machine, caller(), &reset);
+    let joined = joins(alloc, machine, caller(), &reset);
+    matches!((answered, joined), (Ok(true), Ok(false)))
+}
+
+/// Whether a barrier may join.
+fn joins_a_barrier(alloc: Global, machine: &Machine) -> bool {
+    let barrier = Call::Barrier(Barrier { group: 0 });
+    matches!(joins(alloc, machine, caller(), &barrier), Ok(true))
+}
+
+/// Whether both hold of the machine at its start.
+fn answers_calls(alloc: Global) -> Result<bool, Fail> {
+    let machine = start(alloc)?;
+    Ok(answers_a_reset(alloc, &machine) && joins_a_barrier(alloc, &machine))
+}
+
 #[test]
 fn calls_are_answered(rt: HostRuntime) -> Result<(), Fail> {
-    let alloc = rt.alloc();
-    let machine = start(alloc)?;
-    let reset = Call::Reset(Reset { seg: 0, note: 3 });
-    assert!(rt; answers_nothing(alloc, &machine, caller(), &reset)?);
-    assert!(rt; !joins(alloc, &machine, caller(), &reset)?);
-    let barrier = Call::Barrier(Barrier { group: 0 });
-    assert!(rt; joins(alloc, &machine, caller(), &barrier)?);
+    assert!(rt; answers_calls(rt.alloc())?);
     Ok(())
 }

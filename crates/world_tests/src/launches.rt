@@ -4,7 +4,8 @@ ghost use Rattle.std.specs.Prelude.{◌≡◌, ℕ, true, map, IfOk, Some, slice
 ghost use Rattle.std.specs.List.{All};
 ghost use Rattle.commit_table.specs.Calls.{IsOf, HoldsNone};
 
-use gaspi_types::{NoMemory, Shape};
+use crate::worlds::{closed, with_worker};
+use gaspi_types::Shape;
 use gaspi_world::{Body, Note, Pass, Passes, Rank, Started, Task, World, launch};
 use std::alloc::{AllocError, Global};
 use std::sync::Wait;
@@ -19,14 +20,25 @@ fn two_ranks(alloc: Global) -> Result<Shape, Fail> {
     Ok(shape)
 }
 
+/// Whether a world has all its passes, one for each caller and its worker, and its shape.
+fn is_whole(started: &Started) -> bool {
+    started.world.whole(&started.passes)
+        && started.passes.len() == 3
+        && started.world.shape().ranks() == 2
+}
+
+/// Whether such a world starts.
+fn starts(alloc: Global, shape: &Shape) -> bool {
+    match with_worker(alloc, shape) {
+        Ok(started) => is_whole(&started),
+        Err(_) => false,
+    }
+}
+
 #[test]
 fn a_world_starts_with_its_passes(rt: HostRuntime) -> Result<(), Fail> {
-    let alloc = rt.alloc();
-    let shape = two_ranks(alloc)?;
-    let started = World::start(alloc, &shape, 1)?;
-    assert!(rt; started.world.whole(&started.passes));
-    assert_eq!(rt; started.passes.len(), 3);
-    assert_eq!(rt; started.world.shape().ranks(), 2);
+    let shape = two_ranks(rt.alloc())?;
+    assert!(rt; starts(rt.alloc(), &shape));
     Ok(())
 }
 
@@ -129,18 +141,24 @@ fn each_learns<R: Threads + Wait + Sync>(
     Ok(passes)
 }
 
+/// How many events there are where each pass of a world learns its own note.
+fn events<R: Threads + Wait + Sync>(
+    rt: &R,
+    alloc: Global,
+    world: World,
+    passes: Passes,
+) -> Result<Option<(usize, u64)>, AllocError>
+    requires { (k : ℕ) (p : _) → slice_get passes.items k ≡ Some p → IsOf world p × HoldsNone p.known }
+{
+    let passes = each_learns(rt, alloc, &world, passes)?;
+    Ok(closed(alloc, world, passes))
+}
+
 #[test]
 fn a_world_is_launched_and_closed(rt: HostRuntime) -> Result<(), Fail> {
     let alloc = rt.alloc();
     let shape = two_ranks(alloc)?;
-    let started = World::start(alloc, &shape, 1)?;
-    let Started { world, passes } = started;
-    let passes = each_learns(&rt, alloc, &world, passes)?;
-    assert!(rt; world.whole(&passes));
-    let Ok((journal, tally)) = world.close(alloc, passes) else {
-        panic!(rt; "no memory")
-    };
-    assert_eq!(rt; journal.len(), 0);
-    assert_eq!(rt; tally.events(), 0);
+    let Started { world, passes } = with_worker(alloc, &shape)?;
+    assert!(rt; matches!(events(&rt, alloc, world, passes)?, Some((0, 0))));
     Ok(())
 }

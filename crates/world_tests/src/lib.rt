@@ -8,3 +8,5 @@ mod launches;
 mod procedures;
 #[cfg(test)]
 mod two_senders;
+#[cfg(test)]
+mod worlds;

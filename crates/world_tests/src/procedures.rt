@@ -4,6 +4,7 @@ ghost use Rattle.std.specs.Prelude.{◌≡◌, ℕ, Some, length, slice_get};
 ghost use Rattle.std.specs.List.{All};
 ghost use Rattle.gaspi_world.specs.Calling.{MayCall};
 
+use crate::worlds::of_callers;
 use call_texts::read_call;
 use gaspi_texts::read_reply;
 use gaspi_types::{Call, NoMemory, Reply, Shape, Timeout};
@@ -195,17 +196,17 @@ fn run_one<R: Threads + Wait + Sync>(
     }
 }
 
-/// The same of the last of the world's callers.
+/// The same of the last of a world's callers.
 fn answered<R: Threads + Wait + Sync>(
     rt: &R,
     alloc: Global,
-    world: &World,
+    world: World,
     mut passes: Passes,
 ) -> Result<u32, Fail>
-    requires { (k : ℕ) (p : _) → slice_get passes.items k ≡ Some p → MayCall world.now p }
+    requires { (k : ℕ) (p : _) → slice_get passes.items k ≡ Some p → MayCall world p }
 {
     match passes.pop() {
-        Some(pass) => run_one(rt, alloc, world, pass),
+        Some(pass) => run_one(rt, alloc, &world, pass),
         None => Ok(0),
     }
 }
@@ -214,9 +215,7 @@ fn answered<R: Threads + Wait + Sync>(
 fn each_procedure_is_answered(rt: HostRuntime) -> Result<(), Fail> {
     let alloc = rt.alloc();
     let shape = one_rank(alloc)?;
-    let started = World::start(alloc, &shape, 0)?;
-    let Started { world, passes } = started;
-    let count = answered(&rt, alloc, &world, passes)?;
-    assert!(rt; count == 34);
+    let Started { world, passes } = of_callers(alloc, &shape)?;
+    assert!(rt; answered(&rt, alloc, world, passes)? == 34);
     Ok(())
 }

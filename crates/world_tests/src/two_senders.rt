@@ -5,6 +5,7 @@ ghost use Rattle.std.specs.List.{All};
 ghost use Rattle.commit_table.specs.Calls.{IsOf, HoldsNone};
 ghost use Rattle.gaspi_world.specs.Calling.{MayCall};
 
+use crate::worlds::{closed, of_callers};
 use gaspi_types::{PassiveReceive, PassiveSend, Reply, Shape, Timeout};
 use gaspi_world::{Body, Pass, Passes, Rank, Started, Task, World, launch};
 use std::alloc::{AllocError, Global};
@@ -148,18 +149,25 @@ fn two_ranks(alloc: Global) -> Result<Shape, Fail> {
     Ok(shape)
 }
 
+/// Whether each sent and received, and how many events there were.
+fn meetings<R: Threads + Wait + Sync>(
+    rt: &R,
+    alloc: Global,
+    world: World,
+    passes: Passes,
+) -> Result<(bool, Option<(usize, u64)>), AllocError>
+    requires { (k : ℕ) (p : _) → slice_get passes.items k ≡ Some p → MayCall world p }
+{
+    let (met, passes) = each_sends(rt, alloc, &world, passes)?;
+    Ok((met, closed(alloc, world, passes)))
+}
+
 #[test]
 fn two_ranks_send_each_other_a_message(rt: HostRuntime) -> Result<(), Fail> {
     let alloc = rt.alloc();
     let shape = two_ranks(alloc)?;
-    let started = World::start(alloc, &shape, 0)?;
-    let Started { world, passes } = started;
-    let (met, passes) = each_sends(&rt, alloc, &world, passes)?;
-    assert!(rt; met);
-    assert!(rt; world.whole(&passes));
-    let Ok((journal, _tally)) = world.close(alloc, passes) else {
-        panic!(rt; "no memory")
-    };
-    assert_eq!(rt; journal.len(), 4);
+    let Started { world, passes } = of_callers(alloc, &shape)?;
+    let told = meetings(&rt, alloc, world, passes)?;
+    assert!(rt; matches!(told, (true, Some((4, 4)))));
     Ok(())
 }

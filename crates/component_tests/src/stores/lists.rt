@@ -263,33 +263,53 @@ fn calls_bring(alloc: Global, table: &SegmentTable, shape: &Shape) -> bool {
         )
 }
 
+/// The same of a call with a list, which memory was wanted for.
+fn list_brings(
+    alloc: Global,
+    table: &SegmentTable,
+    shape: &Shape,
+    call: Result<Call, NoMemory>,
+    kinds: &[Kind],
+) -> bool {
+    match call {
+        Ok(call) => brings(alloc, table, shape, call, kinds),
+        Err(_) => false,
+    }
+}
+
 /// Whether each call with a list of two items brings its entries.
-fn lists_bring(alloc: Global, table: &SegmentTable, shape: &Shape) -> Result<bool, NoMemory> {
-    let writes = brings(
+fn lists_bring(alloc: Global, table: &SegmentTable, shape: &Shape) -> bool {
+    list_brings(
         alloc,
         table,
         shape,
-        write_list_call(alloc)?,
+        write_list_call(alloc),
         &[write(), write()],
-    );
-    let reads = brings(
+    ) && list_brings(
         alloc,
         table,
         shape,
-        read_list_call(alloc)?,
+        read_list_call(alloc),
         &[read(), read()],
-    );
-    let call = write_list_notify_call(alloc)?;
-    let notifies = brings(alloc, table, shape, call, &[write(), write(), notify()]);
-    let call = read_list_notify_call(alloc)?;
-    let notes = brings(alloc, table, shape, call, &[read(), read(), read_note()]);
-    Ok(writes && reads && notifies && notes)
+    )
+}
+
+/// Whether each of those with a notification does.
+fn notifying_lists_bring(alloc: Global, table: &SegmentTable, shape: &Shape) -> bool {
+    let written = &[write(), write(), notify()];
+    let read = &[read(), read(), read_note()];
+    list_brings(alloc, table, shape, write_list_notify_call(alloc), written)
+        && list_brings(alloc, table, shape, read_list_notify_call(alloc), read)
 }
 
 /// Whether all calls bring their entries, in a world of two ranks.
 fn all_bring(alloc: Global, shape: &Shape) -> Result<bool, NoMemory> {
     let table = table(alloc)?;
-    Ok(calls_bring(alloc, &table, shape) && lists_bring(alloc, &table, shape)?)
+    Ok(
+        calls_bring(alloc, &table, shape)
+            && lists_bring(alloc, &table, shape)
+            && notifying_lists_bring(alloc, &table, shape),
+    )
 }
 
 #[test]

@@ -59,15 +59,21 @@ fn is_fresh(pending: &Pending, group: GroupId, thread: ThreadId, args: &Args) ->
     matches!(state(pending, group, thread, args), Ok(Resume::Fresh))
 }
 
+/// Whether a collective is made pending, another refused in its place, and the first taken out.
+fn is_resumed(alloc: Global, pending: &mut Pending, three: &Args, four: &Args) -> bool {
+    let (group, thread) = (GroupId::of(7), ThreadId::of(2));
+    matches!(is_put_in(alloc, pending, group, thread, three), Ok(true))
+        && is_refused(pending, group, thread, four)
+        && is_taken_out(pending, group, thread, three)
+        && is_fresh(pending, group, thread, four)
+}
+
 #[test]
 fn collective_is_resumed_and_ended(rt: HostRuntime) -> Result<(), Fail> {
     let alloc = rt.alloc();
-    let (three, four) = (sum_of(alloc, 3)?, sum_of(alloc, 4)?);
-    let (group, thread) = (GroupId::of(7), ThreadId::of(2));
+    let three = sum_of(alloc, 3)?;
+    let four = sum_of(alloc, 4)?;
     let mut pending = Pending::new(alloc)?;
-    assert!(rt; is_put_in(alloc, &mut pending, group, thread, &three)?);
-    assert!(rt; is_refused(&pending, group, thread, &four));
-    assert!(rt; is_taken_out(&mut pending, group, thread, &three));
-    assert!(rt; is_fresh(&pending, group, thread, &four));
+    assert!(rt; is_resumed(alloc, &mut pending, &three, &four));
     Ok(())
 }
