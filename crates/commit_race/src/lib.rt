@@ -5,8 +5,3 @@
 mod races;
 
 pub use races::{raise_often, raised_by_two};
-
-#[cfg(test)]
-mod one_table;
-#[cfg(test)]
-mod tests;

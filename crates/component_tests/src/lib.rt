@@ -21,3 +21,5 @@ mod stores;
 mod streams;
 #[cfg(test)]
 mod texts;
+#[cfg(test)]
+mod threads;

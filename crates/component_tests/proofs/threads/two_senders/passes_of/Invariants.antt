@@ -1,0 +1,5 @@
+use Rattle.std.proofs.Common.{◌≡◌, ◌++◌, map}
+use Rattle.component_tests.proofs.threads.two_senders.passes_of.Given as goal
+
+abbrev pub invariant-loop-task : goal.invariant-loop-task
+invariant-loop-task l = (l.passes.items ≡ map (λ t. t.pass) l.yielded) × (l.yielded ++ l.task-iterator.rest.items ≡ l.fn.tasks.items)

@@ -1,0 +1,10 @@
+//! Ranks as threads without scripts, and the table to which they commit: worlds with bodies of their own, each procedure once, and
+//! passes that raise counters. `two_senders` is also the example of how a program embeds ranks. Workers and scripts are run by the
+//! tables of whole runs in `tests/`.
+
+mod counters;
+mod launches;
+mod procedures;
+mod races;
+mod two_senders;
+mod worlds;

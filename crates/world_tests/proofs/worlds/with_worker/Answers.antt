@@ -1,5 +1,0 @@
-use Rattle.world_tests.proofs.Made.{made-alone}
-use Rattle.world_tests.proofs.worlds.with_worker.Goals as goal
-
-pub returns : goal.returns
-returns c = made-alone c.in_ok-started.started.world _ c.in_ok-started.started.passes.items c.in_ok-started.ensures.count c.in_ok-started.ensures.passes
