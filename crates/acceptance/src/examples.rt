@@ -1,8 +1,6 @@
 //! The worked examples of the rules, over the public call.
 
-use crate::running::{
-    RUN, STEP, answer_to, calls_are_told, journals_are_judged, source_of, words_run_to,
-};
+use crate::running::{RUN, STEP, calls_are_told, journals_are_judged, status_of, words_run_to};
 use gaspi_io::SureSink;
 use gaspi_types::NoMemory;
 use std::alloc::Global;
@@ -54,17 +52,6 @@ const SECOND_FINDS: &str =
     "0.0 5 done\n0.0 ended\n1.0 7 id 3\n1.0 8 done\n1.0 9 value 0\n1.0 ended\n\
 1.1 11 id 4\n1.1 12 value 7\n1.1 ended\n";
 
-/// The status of a run of that world with these words.
-fn status_of<R: Threads + Wait + Sync>(
-    rt: &R,
-    alloc: Global,
-    words: &[&str],
-    sink: &mut SureSink,
-) -> Result<u8, NoMemory> {
-    let mut source = source_of(alloc, TWO_RESETS)?;
-    Ok(answer_to(rt, alloc, words, &mut source, sink).status)
-}
-
 /// Runs that world with these words: one thread finds the value, and the other nothing.
 fn one_finds_it<R: Threads + Wait + Sync + Abort>(
     rt: &R,
@@ -72,7 +59,7 @@ fn one_finds_it<R: Threads + Wait + Sync + Abort>(
     words: &[&str],
 ) -> Result<(), NoMemory> {
     let mut sink = SureSink::with_room(alloc, 4096)?;
-    let status = status_of(rt, alloc, words, &mut sink)?;
+    let (status, _is_empty) = status_of(rt, alloc, words, TWO_RESETS, &mut sink)?;
     let first = sink.bytes() == FIRST_FINDS.as_bytes();
     let second = sink.bytes() == SECOND_FINDS.as_bytes();
     assert!(rt; status == 0 && (first || second));

@@ -35,6 +35,19 @@ pub fn source_of(alloc: Global, text: &str) -> Result<SureSource, NoMemory> {
     Ok(SureSource::new(Bytes::copied_from(alloc, text.as_bytes())?))
 }
 
+/// The status of what the command answers with these words over a text, and whether its journal is empty.
+pub fn status_of<R: Threads + Wait + Sync>(
+    rt: &R,
+    alloc: Global,
+    words: &[&str],
+    text: &str,
+    sink: &mut SureSink,
+) -> Result<(u8, bool), NoMemory> {
+    let mut source = source_of(alloc, text)?;
+    let answer = answer_to(rt, alloc, words, &mut source, sink);
+    Ok((answer.status, answer.journal.is_empty()))
+}
+
 /// Runs the command with these words over a text, and asserts its status, and all that it writes. No run here is
 /// short of memory.
 pub fn words_run_to<R: Threads + Wait + Sync + Abort>(
@@ -45,14 +58,11 @@ pub fn words_run_to<R: Threads + Wait + Sync + Abort>(
     status: u8,
     output: &str,
 ) -> Result<(), NoMemory> {
-    let mut source = source_of(alloc, text)?;
     let mut sink = SureSink::with_room(alloc, ROOM)?;
-    let answer = answer_to(rt, alloc, words, &mut source, &mut sink);
-    assert_eq!(rt; answer.status, status, "{text}");
+    let (told, is_empty) = status_of(rt, alloc, words, text, &mut sink)?;
+    assert_eq!(rt; told, status, "{text}");
     assert_eq!(rt; sink.bytes(), output.as_bytes(), "{text}");
-    if status == 1 || status == 2 {
-        assert!(rt; answer.journal.is_empty(), "{text}");
-    }
+    assert!(rt; is_empty || !matches!(status, 1 | 2), "{text}");
     Ok(())
 }
 
