@@ -13,14 +13,15 @@ use Rattle.commit_table.specs.declared.views.Known.{Known}
 use Rattle.commit_table.specs.declared.views.View.{View}
 use Rattle.commit_table.specs.Machine.{Machine, Laws, events_by, IsOwn}
 use Rattle.commit_table.specs.declared.views.Turn.{Turn}
+use Rattle.commit_table.specs.declared.views.LockOp.TheVariants as lock_op
 use Rattle.commit_table.specs.Turns.{IsTaken}
 use Rattle.commit_table.specs.Views.{held_at, took, missed, gave_back, at_rest, reaching}
 use Rattle.commit_table.specs.Rule.{Free, Held, IsShard, Fits, Rule}
 use Rattle.commit_table.specs.Calls.{IsSound, Met}
 use Rattle.commit_table.specs.Steps.{Of, Takes, Reaches, takes, parks, reaches, frees}
 use Rattle.commit_table.proofs.Lists.{prefix_self, at_here, one_there, held_here, held_else}
-use Rattle.commit_table.proofs.Turning.{none_since, own_turns, turn_made, turned_kept}
-use Rattle.commit_table.proofs.Moves.{with_view, still, moved, updated, updated_here, updated_else}
+use Rattle.commit_table.proofs.Turning.{own_turns, turn_made, turn_missed, turned_kept}
+use Rattle.commit_table.proofs.Moves.{with_view, still_with, moved, updated, updated_here, updated_else}
 
 module _ {S X E : Type 0} (of : S → Machine X E) (laws : (s : S) → Laws (of s)) (start : S) (n : ℕ) where
   abbrev pub m : Machine X E
@@ -116,12 +117,15 @@ module _ {S X E : Type 0} (of : S → Machine X E) (laws : (s : S) → Laws (of 
   taker_of s turns h i (Some k) f t z = (k, refl, t)
 
   -- another pass holds a shard that was missed
-  met_other : (s : St) (r : R s) (id i p : ℕ) (v : K) → get_elem? s.views id ≡ some (at_rest v) → i < m.shards → v.party ≡ Some p → held_at v.held i ≡ None → get_or s.words (suc i) 0 ≢ 0 → Met v i r.turns
+  met_other : (s : St) (r : R s) (id i p : ℕ) (v : K) → get_elem? s.views id ≡ some (at_rest v) → i < m.shards → v.party ≡ Some p → held_at v.held i ≡ None → get_or s.words (suc i) 0 ≢ 0 → Met v i (record { shard = i; party = p; op = lock_op.Missed } ∷ r.turns)
   met_other s r id i p v at lt party free miss =
       let f = r.views id (at_rest v) at in
       let t = taker_of s r.turns r.history i (r.holder i) (r.shards i lt) (r.turned.takers i lt) miss in
       let other = t.2 in
       record {
+        has_party = (p, party);
+        before = r.turns;
+        first = λ q its. let same : p ≡ q = cc in ap (λ (z : ℕ). let t : Turn = record { shard = i; party = z; op = lock_op.Missed } in t ∷ r.turns) same;
         goes_on = r.turned.met id (at_rest v) at;
         own = λ q its. own_turns s.views r.turns q id (at_rest v) at refl refl (r.seat q) (f.party q its).1 (r.turned.parties q);
         other = other.1;
@@ -174,17 +178,19 @@ module _ {S X E : Type 0} (of : S → Machine X E) (laws : (s : S) → Laws (of 
         is.1.slot,
         moved m start n s r id (at_rest v) w at i 1 (set s.homes i none) (Some id) (inl is.0)
             (λ j ne. set_else s.homes i j none ne) (λ j ne. held_else v.held i j (Some h) ne) (λ j ne e. absurd cc) (λ q a. a) here fits
-            (record { shard = i; party = p; taken = true } ∷ r.turns) (turn_made m.shards s.views r.turns r.holder r.seat i p id (at_rest v) w true at party party refl refl refl refl (f.party p party).1 r.turned),
-        λ j e. same_takes i j x v (w, (i, Some is.1.value) ∷ []) (known, inl (hit, (is.1.value, h, refl, f.seen, told s r id (at_rest v) at (λ z. z.Stands i is.1.value h) is.1.stands))) e,
+            (record { shard = i; party = p; op = lock_op.Took } ∷ r.turns) (turn_made m.shards s.views r.turns r.holder r.seat i p id (at_rest v) w true at party party refl refl refl refl (f.party p party).1 r.turned),
+        λ j e. same_takes i j x v (w, (i, Some is.1.value) ∷ []) (known, inl (hit, (is.1.value, h, refl, f.seen, told s r id (at_rest v) at (λ z. z.Legal h × z.Stands i is.1.value h) (r.legal, is.1.stands)))) e,
       ))
       (λ miss.
-      let w = at_rest (missed v i r.turns) in
-      let fits = rest_fits h r.holder r.seat id (missed v i r.turns) None [] f.begun f.seen f.heard f.looks f.own_seen f.party f.held f.none in (
+      let turns : List Turn = record { shard = i; party = p; op = lock_op.Missed } ∷ r.turns in
+      let w = at_rest (missed v i turns) in
+      let fits = rest_fits h r.holder r.seat id (missed v i turns) None [] f.begun f.seen f.heard f.looks f.own_seen f.party f.held f.none in (
         w,
         keeps,
         tt,
-        still m start n s r id (at_rest v) w at (suc i) refl refl (λ q a. a) fits (λ q its. its) (λ q a. a) (none_since r.turns),
-        λ j e. same_takes i j x v (w, []) (known, inr (held_word s h i (r.holder i) (r.shards i lt) miss, (r.turns, refl, met_other s r id i p v at lt party free miss))) e,
+        still_with m start n s r id (at_rest v) w at (suc i) refl refl (λ q a. a) fits turns
+            (turn_missed m.shards s.views r.turns r.holder r.seat i p id (at_rest v) w at party party refl refl refl refl (f.party p party).1 r.turned),
+        λ j e. same_takes i j x v (w, []) (known, inr (held_word s h i (r.holder i) (r.shards i lt) miss, (turns, refl, met_other s r id i p v at lt party free miss))) e,
       ))
 
   park_rest : (slots id i : ℕ) (v : K) (y : Option X) (g : List E) → slots ≡ m.shards → held_at v.held i ≡ Some g
@@ -280,7 +286,7 @@ module _ {S X E : Type 0} (of : S → Machine X E) (laws : (s : S) → Laws (of 
         tt,
         moved m start n s r id (reaching v i) w at i 0 (set s.homes i (some (Some x))) None (inr own.1)
             (λ j ne. set_else s.homes i j (some (Some x)) ne) (λ j ne. held_else v.held i j None ne) (λ j ne e. absurd (ne (cc))) (λ q a. a) here fits
-            (record { shard = i; party = taker.0; taken = false } ∷ r.turns) (turn_made m.shards s.views r.turns r.holder r.seat i taker.0 id (reaching v i) w false at taker.1 taker.1 refl refl refl refl (f.party taker.0 taker.1).1 r.turned),
+            (record { shard = i; party = taker.0; op = lock_op.GaveBack } ∷ r.turns) (turn_made m.shards s.views r.turns r.holder r.seat i taker.0 id (reaching v i) w false at taker.1 taker.1 refl refl refl refl (f.party taker.0 taker.1).1 r.turned),
         λ j e. let P : ℕ → Type 0 = λ z. ◌≡◌ {A = Mine} (w, []) (at_rest (gave_back v z), []) in subst P (let q : i ≡ j = omega arith in q) refl,
       )
 

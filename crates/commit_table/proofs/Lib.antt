@@ -1,6 +1,7 @@
 pub mod Lists
 pub mod Turning
 pub mod Moves
+pub mod Missing
 pub mod Holding
 pub mod History
 pub mod Joining

@@ -100,17 +100,26 @@ module _ {S X E : Type 0} (m : Machine X E) (start : S) (n : ℕ) where
     turned = turned;
   }
 
-  -- nothing moved: the seat has another view, which holds and answers for the same
+  -- nothing moved but the turns: the seat has another view, which holds and answers for the same
+  pub still_with : (s : St) (r : R s) (id : ℕ) (v w : V) → get_elem? s.views id ≡ some v
+      → (k : ℕ) → w.known.held ≡ v.known.held → w.out ≡ v.out → ((p : ℕ) → Answers m start n v p → Answers m start n w p)
+      → Fits m start n r.history r.holder r.seat id w
+      → (turns : List Turn) → Turned m.shards (set s.views id w) turns r.holder r.seat
+      → R (with_view s (set s.words k (get_or s.words k 0)) s.homes id w)
+  still_with s r id v w at k held out answers fits turns turned =
+      subst (λ (ws : List ℕ). R (with_view s ws s.homes id w)) (sym (set-get_or s.words k 0))
+      (rebuild s r id v w at s.words s.homes r.holder refl refl
+      (λ j lt. shard_kept s r.history s.words s.homes id v w j at refl refl (λ g e. ap (λ z. held_at z j) held ∙ e) (λ e. out ∙ e) (r.holder j) (r.shards j lt))
+      answers (λ k u ne f. f) fits turns turned)
+
+  -- nothing moved
   pub still : (s : St) (r : R s) (id : ℕ) (v w : V) → get_elem? s.views id ≡ some v
       → (k : ℕ) → w.known.held ≡ v.known.held → w.out ≡ v.out → ((p : ℕ) → Answers m start n v p → Answers m start n w p)
       → Fits m start n r.history r.holder r.seat id w
       → ((p : ℕ) → v.known.party ≡ Some p → w.known.party ≡ Some p) → ((p : ℕ) → Recalls r.turns v p → Recalls r.turns w p) → GoOn w.known.met r.turns
       → R (with_view s (set s.words k (get_or s.words k 0)) s.homes id w)
   still s r id v w at k held out answers fits party recalls met =
-      subst (λ (ws : List ℕ). R (with_view s ws s.homes id w)) (sym (set-get_or s.words k 0))
-      (rebuild s r id v w at s.words s.homes r.holder refl refl
-      (λ j lt. shard_kept s r.history s.words s.homes id v w j at refl refl (λ g e. ap (λ z. held_at z j) held ∙ e) (λ e. out ∙ e) (r.holder j) (r.shards j lt))
-      answers (λ k u ne f. f) fits r.turns (turned_kept m.shards s.views r.turns r.holder r.holder r.seat id v w at (λ i lt. refl) (λ i lt e. party) recalls met r.turned))
+      still_with s r id v w at k held out answers fits r.turns (turned_kept m.shards s.views r.turns r.holder r.holder r.seat id v w at (λ i lt. refl) (λ i lt e. party) recalls met r.turned)
 
   abbrev pub updated : (ℕ → Option ℕ) → ℕ → Option ℕ → ℕ → Option ℕ
   updated f i o j = cond (eqb j i) o (f j)

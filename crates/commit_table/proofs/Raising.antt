@@ -5,6 +5,7 @@ use mathlib.Core.List.{IsPrefix}
 use native.Mathlib.Decide.{ℕ_discrete}
 use Rattle.std.proofs.lemmas.Bool.{lt-ltb, ltb-true}
 use Rattle.commit_table.specs.declared.views.Known.{Known}
+use Rattle.commit_table.specs.declared.views.LockOp.{LockOp}
 use Rattle.commit_table.specs.declared.counters.Counters.{Counters}
 use Rattle.commit_table.specs.declared.counters.Deal.{Deal}
 use Rattle.commit_table.specs.declared.counters.Deal.TheVariants.{Raise, Carry}
@@ -198,7 +199,7 @@ no_carry a b h here there full legal =
     full (subst (λ z. 0 < z) is room.0, room.1)
 
 -- nothing was done but a look
-looked_only : (v z : K) (h : List Deal) (held : List (ℕ × Option (List Deal))) (turns : List (ℕ × Bool)) → z ≡ record v { seen = h; looks = v.looks ++ length h ∷ []; held = held; turns = turns }
+looked_only : (v z : K) (h : List Deal) (held : List (ℕ × Option (List Deal))) (turns : List (ℕ × LockOp)) → z ≡ record v { seen = h; looks = v.looks ++ length h ∷ []; held = held; turns = turns }
     → counters.Legal h → IsPrefix v.seen h → IsOwn counters v.party h v.mine → LookedOnly counters v z
 looked_only v z h held turns is legal longer own = subst (λ y. LookedOnly counters v y) (sym is) (record {
   goes_on = longer;

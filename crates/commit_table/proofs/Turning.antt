@@ -6,8 +6,10 @@ use native.Mathlib.Decide.{ℕ_discrete}
 use lib.ListN.{get_elem?}
 use Rattle.atomic_table.proofs.Lists.{at_set, set_else, at_longer}
 use Rattle.commit_table.specs.declared.views.Turn.{Turn}
+use Rattle.commit_table.specs.declared.views.LockOp.{LockOp}
+use Rattle.commit_table.specs.declared.views.LockOp.TheVariants.{Took, GaveBack, Missed}
 use Rattle.commit_table.specs.declared.views.View.{View}
-use Rattle.commit_table.specs.Turns.{holder_in, turns_by, GoOn, IsTaken, Recalls, AreTurns, Turned}
+use Rattle.commit_table.specs.Turns.{holder_by, holder_in, turns_by, GoOn, IsTaken, Recalls, AreTurns, Turned}
 use Rattle.commit_table.proofs.Lists.{at_here, one_there, at_end}
 
 pub none_before : (turns : List Turn) → GoOn [] turns
@@ -18,6 +20,19 @@ none_since turns = ([], refl)
 
 pub one_since : (before turns : List Turn) (t : Turn) → GoOn before turns → GoOn before (t ∷ turns)
 one_since before turns t g = (t ∷ g.0, ap (λ z. t ∷ z) g.1)
+
+-- what a pass did that took a shard, or gave it back
+abbrev pub op_of : Bool → LockOp
+op_of true = Took
+op_of false = GaveBack
+
+-- a turn on another shard leaves who holds this one
+holder_else : (turns : List Turn) (i j p : ℕ) (op : LockOp) → (j ≡ i → ⊥) → holder_in (record { shard = i; party = p; op = op } ∷ turns) j ≡ holder_in turns j
+holder_else turns i j p op ne = subst (λ b. holder_by b op p (holder_in turns j) ≡ holder_in turns j) (sym (ne_eqb j i ne)) refl
+
+holder_missed : (b : Bool) (p : ℕ) (o : Option ℕ) → holder_by b Missed p o ≡ o
+holder_missed true p o = refl
+holder_missed false p o = refl
 
 module _ {S E : Type 0} where
   pub taken_kept : (views : List (View S E)) (turns : List Turn) (i id : ℕ) (v w : View S E) → get_elem? views id ≡ some v → (o : Option ℕ)
@@ -88,34 +103,59 @@ module _ {S E : Type 0} where
       ⊎_elim (λ x. absurd (let its = x.0 in cc)) (λ x. ⊎_elim (λ y. y.2) (λ y. absurd (let on = y.0 in cc)) x) (subst (λ (z : View S E). Recalls turns z p) (sym be) there.2)
 
   taken_new : (views : List (View S E)) (turns : List Turn) (i p id : ℕ) (v w : View S E) → get_elem? views id ≡ some v → w.known.party ≡ Some p → (taken : Bool)
-      → IsTaken (set views id w) (record { shard = i; party = p; taken = taken } ∷ turns) i (cond taken (Some id) None)
-  taken_new views turns i p id v w at party true = (w, p, at_here views id w v at, party, subst (λ b. cond {A = Option ℕ} b (Some p) (holder_in turns i) ≡ Some p) (sym (eq-eqb i i refl)) refl)
-  taken_new views turns i p id v w at party false = subst (λ b. cond {A = Option ℕ} b None (holder_in turns i) ≡ None) (sym (eq-eqb i i refl)) refl
+      → IsTaken (set views id w) (record { shard = i; party = p; op = op_of taken } ∷ turns) i (cond taken (Some id) None)
+  taken_new views turns i p id v w at party true = (w, p, at_here views id w v at, party, subst (λ b. holder_by b Took p (holder_in turns i) ≡ Some p) (sym (eq-eqb i i refl)) refl)
+  taken_new views turns i p id v w at party false = subst (λ b. holder_by b GaveBack p (holder_in turns i) ≡ None) (sym (eq-eqb i i refl)) refl
+
+  -- the turns of all parties, with one more of a pass
+  parties_turned : (views : List (View S E)) (turns : List Turn) (seat : ℕ → Option ℕ) (i p id : ℕ) (v w : View S E) (op : LockOp) → get_elem? views id ≡ some v
+      → v.known.party ≡ Some p → w.known.party ≡ Some p → w.known.turns ≡ (i, op) ∷ v.known.turns → v.ends ≡ 0 → v.gathers ≡ false → seat p ≡ Some id
+      → ((q : ℕ) → AreTurns views turns q (seat q)) → (q : ℕ) → AreTurns (set views id w) (record { shard = i; party = p; op = op } ∷ turns) q (seat q)
+  parties_turned views turns seat i p id v w op at party its made rests alone sits parties q =
+      let t : Turn = record { shard = i; party = p; op = op } in
+      let views' = set views id w in
+      let own : turns_by p turns ≡ v.known.turns = own_turns views turns p id v at rests alone (seat p) sits (parties p) in
+      dite (ℕ_discrete q p)
+      (λ same. subst (λ (z : ℕ). AreTurns views' (t ∷ turns) z (seat z)) (sym same) (subst (λ z. AreTurns views' (t ∷ turns) p z) (sym sits)
+      (w, at_here views id w v at, inl (its, subst (λ b. cond {A = List (ℕ × LockOp)} b ((i, op) ∷ turns_by p turns) (turns_by p turns) ≡ (i, op) ∷ turns_by p turns) (sym (eq-eqb p p refl)) refl ∙ (ap (λ z. (i, op) ∷ z) own ∙ sym made)))))
+      (λ ne. turns_kept views turns (t ∷ turns) q id v w at (seat q)
+      (λ e a. ⊎_elim (λ x. absurd (ne (let has = x.0 in cc))) (λ x. ⊎_elim (λ y. absurd (let lt = y.1 in omega (arith, lt, rests))) (λ y. absurd (let on = y.0 in cc)) x) a)
+      (subst (λ b. cond {A = List (ℕ × LockOp)} b ((i, op) ∷ turns_by q turns) (turns_by q turns) ≡ turns_by q turns) (sym (ne_eqb q p ne)) refl) (parties q))
 
   -- a pass takes a shard, or gives it back
   pub turn_made : (n : ℕ) (views : List (View S E)) (turns : List Turn) (holder seat : ℕ → Option ℕ) (i p id : ℕ) (v w : View S E) (taken : Bool) → get_elem? views id ≡ some v
-      → v.known.party ≡ Some p → w.known.party ≡ Some p → w.known.turns ≡ (i, taken) ∷ v.known.turns → w.known.met ≡ v.known.met → v.ends ≡ 0 → v.gathers ≡ false → seat p ≡ Some id
-      → Turned n views turns holder seat → Turned n (set views id w) (record { shard = i; party = p; taken = taken } ∷ turns) (λ j. cond (eqb j i) (cond taken (Some id) None) (holder j)) seat
+      → v.known.party ≡ Some p → w.known.party ≡ Some p → w.known.turns ≡ (i, op_of taken) ∷ v.known.turns → w.known.met ≡ v.known.met → v.ends ≡ 0 → v.gathers ≡ false → seat p ≡ Some id
+      → Turned n views turns holder seat → Turned n (set views id w) (record { shard = i; party = p; op = op_of taken } ∷ turns) (λ j. cond (eqb j i) (cond taken (Some id) None) (holder j)) seat
   turn_made n views turns holder seat i p id v w taken at party its made met rests alone sits r =
-      let t : Turn = record { shard = i; party = p; taken = taken } in
+      let t : Turn = record { shard = i; party = p; op = op_of taken } in
       let o : Option ℕ = cond taken (Some id) None in
       let views' = set views id w in
-      let own : turns_by p turns ≡ v.known.turns = own_turns views turns p id v at rests alone (seat p) sits (r.parties p) in
       record {
         takers = λ j lt. dite (ℕ_discrete j i)
             (λ same. subst (λ (z : ℕ). IsTaken views' (t ∷ turns) z (cond (eqb z i) o (holder z))) (sym same)
             (subst (λ b. IsTaken views' (t ∷ turns) i (cond b o (holder i))) (sym (eq-eqb i i refl)) (taken_new views turns i p id v w at its taken)))
             (λ ne. subst (λ b. IsTaken views' (t ∷ turns) j (cond b o (holder j))) (sym (ne_eqb j i ne))
-            (taken_same views' turns (t ∷ turns) j (subst (λ b. cond {A = Option ℕ} b (cond taken (Some p) None) (holder_in turns j) ≡ holder_in turns j) (sym (ne_eqb j i ne)) refl) (holder j)
+            (taken_same views' turns (t ∷ turns) j (holder_else turns i j p (op_of taken) ne) (holder j)
             (taken_kept views turns j id v w at (holder j) (λ e q has. its ∙ (sym party ∙ has)) (r.takers j lt))));
-        parties = λ q. dite (ℕ_discrete q p)
-            (λ same. subst (λ (z : ℕ). AreTurns views' (t ∷ turns) z (seat z)) (sym same) (subst (λ z. AreTurns views' (t ∷ turns) p z) (sym sits)
-            (w, at_here views id w v at, inl (its, subst (λ b. cond {A = List (ℕ × Bool)} b ((i, taken) ∷ turns_by p turns) (turns_by p turns) ≡ (i, taken) ∷ turns_by p turns) (sym (eq-eqb p p refl)) refl ∙ (ap (λ z. (i, taken) ∷ z) own ∙ sym made)))))
-            (λ ne. turns_kept views turns (t ∷ turns) q id v w at (seat q)
-            (λ e a. ⊎_elim (λ x. absurd (ne (let has = x.0 in cc))) (λ x. ⊎_elim (λ y. absurd (let lt = y.1 in omega (arith, lt, rests))) (λ y. absurd (let on = y.0 in cc)) x) a)
-            (subst (λ b. cond {A = List (ℕ × Bool)} b ((i, taken) ∷ turns_by q turns) (turns_by q turns) ≡ turns_by q turns) (sym (ne_eqb q p ne)) refl) (r.parties q));
+        parties = parties_turned views turns seat i p id v w (op_of taken) at party its made rests alone sits r.parties;
         met = λ k u there. ⊎_elim
             (λ x. subst (λ (z : View S E). GoOn z.known.met (t ∷ turns)) x.1 (one_since w.known.met turns t (subst (λ z. GoOn z turns) (sym met) (r.met id v at))))
+            (λ x. one_since u.known.met turns t (r.met k u x.1))
+            (at_set views id k w u there);
+      }
+
+  -- a pass misses a shard, and no shard changes hands
+  pub turn_missed : (n : ℕ) (views : List (View S E)) (turns : List Turn) (holder seat : ℕ → Option ℕ) (i p id : ℕ) (v w : View S E) → get_elem? views id ≡ some v
+      → v.known.party ≡ Some p → w.known.party ≡ Some p → w.known.turns ≡ (i, Missed) ∷ v.known.turns → w.known.met ≡ record { shard = i; party = p; op = Missed } ∷ turns → v.ends ≡ 0 → v.gathers ≡ false → seat p ≡ Some id
+      → Turned n views turns holder seat → Turned n (set views id w) (record { shard = i; party = p; op = Missed } ∷ turns) holder seat
+  turn_missed n views turns holder seat i p id v w at party its made met rests alone sits r =
+      let t : Turn = record { shard = i; party = p; op = Missed } in
+      record {
+        takers = λ j lt. taken_same (set views id w) turns (t ∷ turns) j (holder_missed (eqb j i) p (holder_in turns j)) (holder j)
+            (taken_kept views turns j id v w at (holder j) (λ e q has. its ∙ (sym party ∙ has)) (r.takers j lt));
+        parties = parties_turned views turns seat i p id v w Missed at party its made rests alone sits r.parties;
+        met = λ k u there. ⊎_elim
+            (λ x. subst (λ (z : View S E). GoOn z.known.met (t ∷ turns)) x.1 (subst (λ z. GoOn z (t ∷ turns)) (sym met) (none_since (t ∷ turns))))
             (λ x. one_since u.known.met turns t (r.met k u x.1))
             (at_set views id k w u there);
       }

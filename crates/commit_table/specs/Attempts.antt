@@ -2,8 +2,11 @@
 use Rattle.std.specs.Prelude.{◌≡◌, ℕ, ◌≤◌, Some, List, [], ◌∷◌, ◌++◌, length}
 use mathlib.Core.List.{IsPrefix}
 use Rattle.commit_table.specs.declared.views.Known.{Known}
+use Rattle.commit_table.specs.declared.views.LockOp.{LockOp}
+use Rattle.commit_table.specs.declared.views.LockOp.TheVariants as lock_op
+use Rattle.commit_table.specs.declared.views.Turn.{Turn}
 use Rattle.commit_table.specs.Machine.{Machine, IsOwn}
-use Rattle.commit_table.specs.Turns.{holder_in, GoOn}
+use Rattle.commit_table.specs.Turns.{holder_in, turns_by, GoOn}
 use Rattle.commit_table.specs.Views.{mine_after}
 
 module _ {S X E : Type 0} (m : Machine X E) where
@@ -29,10 +32,16 @@ module _ {S X E : Type 0} (m : Machine X E) where
     pub shard : ℕ
     pub may : May shard
     pub missed : w.missed ≡ v.missed ++ shard ∷ []
-    -- as the turns stood then, another pass held it
-    pub met : GoOn v.met w.met
+    -- of the turns of all passes that were told, this miss is the newest. Those before it go on from what the pass's last miss told,
+    -- have of its party just its own turns, `earlier` of this attempt among them, and in them another party holds the shard. The
+    -- attempt's own turns after the miss are `later`
+    pub has_party : (p : ℕ) × (v.party ≡ Some p)
+    pub before : List Turn
+    pub first : (p : ℕ) → v.party ≡ Some p → w.met ≡ record { shard = shard; party = p; op = lock_op.Missed } ∷ before
+    pub met : GoOn v.met before
+    pub added : (p : ℕ) → v.party ≡ Some p → (earlier : List (ℕ × LockOp)) × (later : List (ℕ × LockOp)) × (turns_by p before ≡ earlier ++ v.turns) × (w.turns ≡ later ++ ((shard, lock_op.Missed) ∷ (earlier ++ v.turns)))
     pub other : ℕ
-    pub holds : holder_in w.met shard ≡ Some other
+    pub holds : holder_in before shard ≡ Some other
     pub apart : ¬ (v.party ≡ Some other)
     pub mine : w.mine ≡ v.mine
     pub commits : w.commits ≡ v.commits

@@ -4,6 +4,7 @@ use mathlib.Core.List.{IsPrefix}
 use Rattle.atomic_table.specs.Seated.{TableId}
 use Rattle.commit_table.specs.declared.views.Known.{Known}
 use Rattle.commit_table.specs.declared.views.Turn.{Turn}
+use Rattle.commit_table.specs.declared.views.LockOp.TheVariants as lock_op
 use Rattle.commit_table.specs.Turns.{holder_in, turns_by, GoOn}
 use Rattle.commit_table.specs.Machine.{Machine, is_among, events_by, IsOwn}
 use Rattle.commit_table.specs.Views.{held_at, looked, committed}
@@ -45,13 +46,16 @@ module _ {S E : Type 0} where
   abbrev pub HoldsNone : Known S E → Type 0
   HoldsNone v = (i : ℕ) → held_at v.held i ≡ None
 
-  -- a shard was missed: as the turns stood then, which go on from those that an earlier miss told and have all of the pass's
-  -- own, another pass holds it
+  -- a shard was missed: of the turns of all passes, this miss is the newest. Those before it go on from what the pass's last miss told,
+  -- have of its party just its own turns, and in them another party holds the shard
   pub record Met (v : Known S E) (i : ℕ) (turns : List Turn) : Type 0 where
-    pub goes_on : GoOn v.met turns
-    pub own : (p : ℕ) → v.party ≡ Some p → turns_by p turns ≡ v.turns
+    pub has_party : (p : ℕ) × (v.party ≡ Some p)
+    pub before : List Turn
+    pub first : (p : ℕ) → v.party ≡ Some p → turns ≡ record { shard = i; party = p; op = lock_op.Missed } ∷ before
+    pub goes_on : GoOn v.met before
+    pub own : (p : ℕ) → v.party ≡ Some p → turns_by p before ≡ v.turns
     pub other : ℕ
-    pub holds : holder_in turns i ≡ Some other
+    pub holds : holder_in before i ≡ Some other
     pub apart : ¬ (v.party ≡ Some other)
 
   -- these are all the passes of a table, and none holds a shard
@@ -65,9 +69,10 @@ module _ {S X E : Type 0} (m : Machine X E) where
     pub legal : m.Legal v.seen
     pub own : IsOwn m v.party v.seen v.mine
 
-  -- a shard was taken, and its value stands for the history g, which goes on from what was seen
+  -- a shard was taken, and its value stands for the history g, which is legal and goes on from what was seen
   pub record Taken (v : Known S E) (i : ℕ) (x : X) (g : List E) : Type 0 where
     pub seen : IsPrefix v.seen g
+    pub legal : m.Legal g
     pub stands : m.Stands i x g
 
   -- the history so far was seen, and its length told. It is legal and goes on from what was seen before, its events of the

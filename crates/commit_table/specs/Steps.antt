@@ -17,11 +17,10 @@ module _ {S X E : Type 0} (of : S → Machine X E) where
   abbrev pub Of : Known S E → (Machine X E → Type 0) → Type 0
   Of v P = (s : S) → v.start ≡ Some s → P (of s)
 
-  -- A compare-exchange of a shard's word: it was free, and is now held with its value; or another pass
-  -- held it, and it was missed. Either
-  -- way what was seen before is legal, and has of the pass's party just the pass's own events
+  -- A compare-exchange of a shard's word: it was free, and is now held with its value, which stands for a legal history; or another
+  -- pass held it, and it was missed. Either way what was seen before is legal, and has of the pass's party just the pass's own events
   abbrev pub Takes : ℕ → Known S E → ℕ → Me (Option X) (View S E) → Type 0
-  Takes i v found after = Of v (λ m. IsSound m v) × (((found ≡ 0) × ((x : X) × (g : List E) × (after ≡ (reaching (took v i g) i, (i, Some x) ∷ [])) × IsPrefix v.seen g × Of v (λ m. m.Stands i x g)))
+  Takes i v found after = Of v (λ m. IsSound m v) × (((found ≡ 0) × ((x : X) × (g : List E) × (after ≡ (reaching (took v i g) i, (i, Some x) ∷ [])) × IsPrefix v.seen g × Of v (λ m. m.Legal g × m.Stands i x g)))
       ⊎ ((found ≡ 1) × ((turns : List Turn) × (after ≡ (at_rest (missed v i turns), [])) × Met v i turns)))
 
   -- the slot of a held shard goes out with the seat

@@ -1,20 +1,30 @@
--- Who holds a shard: the takes and returns of shards by all passes, the newest first. They exist in proofs alone.
-use Rattle.std.specs.Prelude.{◌≡◌, ℕ, ◌<◌, ◌≤◌, ◌⊎◌, Bool, true, cond, eqb, List, [], ◌∷◌, ◌++◌, Option, None, Some}
+-- Who holds a shard: the takes, give-backs and misses of shards by all passes, the newest first. They exist in proofs alone.
+use Rattle.std.specs.Prelude.{◌≡◌, ℕ, ◌<◌, ◌≤◌, ◌⊎◌, Bool, true, false, cond, eqb, List, [], ◌∷◌, ◌++◌, Option, None, Some}
 use mathlib.Core.Option.{some}
 use lib.ListN.{get_elem?}
+use Rattle.commit_table.specs.declared.views.LockOp.{LockOp}
+use Rattle.commit_table.specs.declared.views.LockOp.TheVariants.{Took, GaveBack, Missed}
 use Rattle.commit_table.specs.declared.views.Turn.{Turn}
 use Rattle.commit_table.specs.declared.views.Known.{Known}
 use Rattle.commit_table.specs.declared.views.View.{View}
 
+-- who holds a shard after a turn: where it is a turn on that shard, the party that took it, none where it was given back, and as
+-- before where it was missed; else as before
+abbrev pub holder_by : Bool → LockOp → ℕ → Option ℕ → Option ℕ
+holder_by false op p before = before
+holder_by true Took p before = Some p
+holder_by true GaveBack p before = None
+holder_by true Missed p before = before
+
 -- the party that took a shard last, where it has not given it back since
 abbrev pub holder_in : List Turn → ℕ → Option ℕ
 holder_in [] i = None
-holder_in (t ∷ ts) i = cond (eqb i t.shard) (cond t.taken (Some t.party) None) (holder_in ts i)
+holder_in (t ∷ ts) i = holder_by (eqb i t.shard) t.op t.party (holder_in ts i)
 
 -- the turns of a party
-abbrev pub turns_by : ℕ → List Turn → List (ℕ × Bool)
+abbrev pub turns_by : ℕ → List Turn → List (ℕ × LockOp)
 turns_by p [] = []
-turns_by p (t ∷ ts) = cond (eqb p t.party) ((t.shard, t.taken) ∷ turns_by p ts) (turns_by p ts)
+turns_by p (t ∷ ts) = cond (eqb p t.party) ((t.shard, t.op) ∷ turns_by p ts) (turns_by p ts)
 
 -- these turns go on from those before
 abbrev pub GoOn : List Turn → List Turn → Type 0

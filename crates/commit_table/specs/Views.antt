@@ -3,6 +3,7 @@ use Rattle.std.specs.Prelude.{ℕ, false, true, cond, eqb, List, [], ◌∷◌, 
 use Rattle.commit_table.specs.declared.views.Known.{Known}
 use Rattle.commit_table.specs.declared.views.View.{View}
 use Rattle.commit_table.specs.declared.views.Turn.{Turn}
+use Rattle.commit_table.specs.declared.views.LockOp.TheVariants as lock_op
 
 module _ {E : Type 0} where
   -- what is held of a shard: the history that its value stands for, or none where the shard is not held
@@ -31,13 +32,13 @@ module _ {S E : Type 0} where
 
   -- a shard was taken, whose value stands for g; it was missed, as these turns tell; it was given back
   abbrev pub took : Known S E → ℕ → List E → Known S E
-  took v i g = record v { held = (i, Some g) ∷ v.held; turns = (i, true) ∷ v.turns }
+  took v i g = record v { held = (i, Some g) ∷ v.held; turns = (i, lock_op.Took) ∷ v.turns }
 
   abbrev pub missed : Known S E → ℕ → List Turn → Known S E
-  missed v i met = record v { missed = v.missed ++ i ∷ []; met = met }
+  missed v i met = record v { missed = v.missed ++ i ∷ []; turns = (i, lock_op.Missed) ∷ v.turns; met = met }
 
   abbrev pub gave_back : Known S E → ℕ → Known S E
-  gave_back v i = record v { held = (i, None) ∷ v.held; turns = (i, false) ∷ v.turns }
+  gave_back v i = record v { held = (i, None) ∷ v.held; turns = (i, lock_op.GaveBack) ∷ v.turns }
 
   -- the history h was seen
   abbrev pub looked : Known S E → List E → Known S E

@@ -39,7 +39,7 @@ pub fn take<M: Sharded>(board: &Board<M>, seat: &mut Place<M>, shard: u32) -> Op
     requires free { held_at seat.old.me.0.known.held shard ≡ None }
     ensures seat { (seat.new.table_id ≡ seat.old.table_id) × (seat.new.id ≡ seat.old.id) }
     ensures sound { Of M.machine seat.old.me.0.known (λ m. IsSound m seat.old.me.0.known) }
-    ensures some { IfSome result (λ x. (g : List M.Event) × (seat.new.me ≡ (at_rest (took seat.old.me.0.known shard g), [])) × IsPrefix seat.old.me.0.known.seen g × Of M.machine seat.old.me.0.known (λ m. m.Stands shard x g)) }
+    ensures some { IfSome result (λ x. (g : List M.Event) × (seat.new.me ≡ (at_rest (took seat.old.me.0.known shard g), [])) × IsPrefix seat.old.me.0.known.seen g × Of M.machine seat.old.me.0.known (λ m. m.Legal g × m.Stands shard x g)) }
     ensures none { IfNone result ((turns : List Turn) × (seat.new.me ≡ (at_rest (missed seat.old.me.0.known shard turns), [])) × Met seat.old.me.0.known shard turns) }
 {
     if take_word(board, seat, shard) != 0 {

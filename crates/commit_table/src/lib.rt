@@ -30,4 +30,4 @@ pub use pass::{Note, Pass};
 pub use ranks::{Act, Noted, RankPart, TwoRanks, parts_are_the_history};
 pub use sharded::Sharded;
 pub use table::CommitTable;
-pub use views::{Known, Turn, View};
+pub use views::{Known, LockOp, Turn, View};

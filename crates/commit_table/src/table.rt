@@ -101,9 +101,10 @@ impl<M: Sharded> CommitTable<M> {
         &self.begin.start
     }
 
-    /// Takes a shard with its value, in one compare-exchange and, where it has it, one exchange and one load. Where
-    /// it finds that another pass holds the shard, that is a miss, which counts. A miss tells the takes and returns of all
-    /// passes so far, in which that pass has taken the shard and not given it back.
+    /// Takes a shard with its value, in one compare-exchange and, where it has it, one exchange and one load. The value
+    /// stands for a legal history. Where it finds that another pass holds the shard, that is a miss, which counts. A miss
+    /// tells the turns of all passes so far: their takes, give-backs and misses. It is the newest of them itself, and before it
+    /// that other pass has taken the shard and not given it back.
     pub fn try_take(&self, pass: &mut Pass<M>, shard: u32) -> Option<M::Shard>
         requires pass { IsOf self.now pass.old }
         requires shard { shard < (M.machine self.now.start).shards }

@@ -21,19 +21,29 @@ pub struct Known<S, E> {
     pub held: LinkedList<(u32, Option<LinkedList<E>>)>,
     /// The shards that were missed.
     pub missed: LinkedList<u32>,
-    /// The shards that this pass took and gave back, the newest first, each with whether it was taken.
-    pub turns: LinkedList<(u32, bool)>,
-    /// The turns of all passes, as far as the last miss told them, the newest first.
+    /// The shards that this pass took, gave back and missed, the newest first, each with what it did.
+    pub turns: LinkedList<(u32, LockOp)>,
+    /// The turns of all passes, as far as the last miss told them, the newest first. That miss is the first of them.
     pub met: LinkedList<Turn>,
 }
 
-/// A shard was taken by a pass, or given back.
+/// What a pass did at the word of a shard, which is its lock.
+pub enum LockOp {
+    /// It found the shard free, and took it.
+    Took,
+    /// It gave back the shard, which it held.
+    GaveBack,
+    /// It found that another pass held the shard.
+    Missed,
+}
+
+/// A pass took a shard, gave it back or missed it.
 pub struct Turn {
     pub shard: u32,
     /// The party of the pass.
     pub party: u32,
-    /// Whether it was taken.
-    pub taken: bool,
+    /// What it did.
+    pub op: LockOp,
 }
 
 /// What a seat at the table knows: what contracts see, and what is between the steps of a call.

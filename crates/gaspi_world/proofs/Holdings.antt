@@ -24,10 +24,13 @@ use Rattle.commit_table.specs.Parts.{parts_of, part_of, peers_of}
 use Rattle.commit_table.specs.Views.{held_at, holds_all, looked, took, missed}
 use Rattle.commit_table.specs.declared.views.Known.{Known}
 use Rattle.commit_table.specs.declared.views.Turn.{Turn}
+use Rattle.commit_table.proofs.Missing.{first_missed}
 use Rattle.gaspi_world.specs.Holds.{Holds, HoldsBefore, Added}
 use Rattle.gaspi_world.specs.Shards.{shard_part}
-use Rattle.gaspi_world.specs.WorldLaws.{placed, part_after, ran, came, left-after}
-use Rattle.gaspi_world.specs.WorldMachine.{WorldPart, party_of, world_parts, world_machine}
+use Rattle.gaspi_world.specs.WorldLaws.{placed, part_after, ran, came}
+use Rattle.gaspi_model.proofs.HistoryLengths.{left-after}
+use Rattle.gaspi_world.specs.WorldMachine.{WorldPart, world_parts, world_machine}
+use Rattle.gaspi_model.specs.Parties.{party_of}
 use Rattle.gaspi_world.specs.declared.shards.WorldShard.{WorldShard}
 
 -- the events of a history are told by their places
@@ -106,23 +109,7 @@ module _ (w : World) where
 module _ {S : Type 0} (w : World) where
   -- a miss of the shard
   pub missed-is : (v n : Known S Event) (turns : List Turn) → n ≡ missed v 0 turns → IsSound (world_machine shard_part w) v → Met v 0 turns → Missed (world_machine shard_part w) v (λ i. i ≡ 0) n
-  missed-is v n turns is sound met = subst (Missed (world_machine shard_part w) v (λ i. i ≡ 0)) (sym is) (record {
-    shard = 0;
-    may = refl;
-    missed = refl;
-    met = met.goes_on;
-    other = met.other;
-    holds = met.holds;
-    apart = met.apart;
-    mine = refl;
-    commits = refl;
-    looks = refl;
-    seen = refl;
-    legal = sound.legal;
-    own = sound.own;
-    party = refl;
-    start = refl;
-  })
+  missed-is v n turns is sound met = first_missed (world_machine shard_part w) (λ i. i ≡ 0) v n 0 turns refl sound is met
 
   pub missed-free : (v n : Known S Event) (turns : List Turn) → n ≡ missed v 0 turns → HoldsNone v → HoldsNone n
   missed-free v n turns is free = subst HoldsNone (sym is) free
