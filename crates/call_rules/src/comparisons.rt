@@ -109,8 +109,8 @@ fn same_refusal(a: &Refusal, b: &Refusal) -> bool
     a.number() == b.number() && same_fields(refusal_fields(a), refusal_fields(b))
 }
 
-/// Whether lists of numbers are the same: their types and their numbers are.
-fn same_numbers(a: &Numbers, b: &Numbers) -> bool
+/// Whether lists of numbers are the same: their types and their numbers are. (GASPI: allreduce)
+pub fn same_numbers(a: &Numbers, b: &Numbers) -> bool
     ensures { result ≡ same_numbers a.now b.now }
 {
     type_number(a.num_type()) == type_number(b.num_type()) && a.items() == b.items()

@@ -12,7 +12,7 @@ mod numbers;
 mod pendings;
 
 pub use checks::{check_count, check_fits, check_type};
-pub use comparisons::{same_args, same_coll, same_reply};
+pub use comparisons::{same_args, same_coll, same_numbers, same_reply};
 pub use members::{Members, members_of};
 pub use numbers::reduce;
 pub use pendings::resume;

@@ -1,9 +1,9 @@
 -- The contribution that a slot keeps. (GASPI: collectives)
 use Rattle.std.specs.Prelude.{◌≡◌, ℕ, ◌≤◌, length, take, Option, None, Some}
 use Rattle.gaspi_types.specs.Collectives.{AreWhole}
-use Rattle.gaspi_types.specs.NumberTypes.{AreInType, TypedNumbers}
+use Rattle.gaspi_types.specs.NumberTypes.{AreInType}
 use Rattle.gaspi_types.specs.declared.collectives.Coll.{Coll}
-use Rattle.gaspi_types.specs.declared.collectives.Coll.TheVariants.{Barrier, Allreduce, Create, Commit}
+use Rattle.gaspi_types.specs.declared.collectives.Coll.TheVariants.{Allreduce}
 use Rattle.gaspi_types.specs.declared.collectives.NumType.{NumType}
 use Rattle.gaspi_types.specs.declared.groups.Args.{Args}
 use Rattle.gaspi_types.specs.declared.groups.Contribution.{Contribution}

@@ -56,7 +56,8 @@ pub(crate) fn fold(
 ) -> Numbers
     requires room { count ≤ length room }
     requires given { AllByRecursion (λ m. GivesNumbers num_type count (given_by buffers.now turn m)) members.now }
-    ensures { result ≡ fold_of (given_by buffers.now turn) op num_type members.now }
+    ensures fits { length result.items ≤ length room }
+    ensures numbers { result ≡ fold_of (given_by buffers.now turn) op num_type members.now }
 {
     match members {
         [] => {

@@ -147,12 +147,13 @@ impl Rounds {
 
     /// What the turn of a rank comes to, which is a member: the numbers of all members, reduced in the order of their ranks. Every
     /// member has joined the turn, which is an allreduce, and the result is put into a room that is large enough, as `elements`
-    /// tells. It takes no memory. (GASPI: allreduce)
+    /// tells: it has no more numbers than that room. It takes no memory. (GASPI: allreduce)
     pub fn result(&self, rank: RankId, room: Rows<i128>) -> Numbers
         requires member { is_in self.now.members rank ≡ true }
         requires full { is_full_for self.now rank ≡ true }
         requires room { TakesFold (elements_of (coll_in (own_given self.now rank))) (length room) }
-        ensures { (g : Group) (op : Op) (t : NumType) (n : ℕ) → StandsFor g self.now
+        ensures fits { length result.items ≤ length room }
+        ensures numbers { (g : Group) (op : Op) (t : NumType) (n : ℕ) → StandsFor g self.now
             → coll_in (given_in g (turn_of g rank) rank) ≡ Some (Allreduce op t n) → result ≡ turn_fold g rank op t }
     {
         let turn = self.buffers.completed[rank.index()];

@@ -46,6 +46,14 @@ impl Groups {
         })
     }
 
+    /// The handles of the groups, lent: the table that the checks of a rank's calls read.
+    pub fn handles(&self) -> &Handles
+        ensures value { result.now ≡ self.now.groups }
+        ensures registry { IsRegistry self.now.groups }
+    {
+        &self.handles
+    }
+
     /// The number that `create` would give to a group; `GroupsFull` where it would make none.
     pub fn next(&self) -> Result<GroupId, Refusal>
         ensures answer { result ≡ next_group self.now.groups }

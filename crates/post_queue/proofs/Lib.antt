@@ -1,4 +1,7 @@
 pub mod Counts
+pub mod Heads
+pub mod Nonempty
 pub mod Queues
 pub mod Rings
 pub mod Rising
+pub mod TargetSets

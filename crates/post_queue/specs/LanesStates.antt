@@ -11,6 +11,7 @@ use Rattle.gaspi_types.specs.declared.entries.Kind.{Kind}
 use Rattle.gaspi_types.specs.declared.entries.Queue.{Queue}
 use Rattle.gaspi_types.specs.declared.replies.Refusal.{Refusal}
 use Rattle.gaspi_types.specs.declared.replies.Refusal.TheVariants.{BadQueue}
+use Rattle.post_queue.specs.Nonempty.{nonempty_in}
 use Rattle.post_queue.specs.QueueStates.{QueueState}
 use Rattle.post_queue.specs.Steps.{take_in, put_in, head_in, room_checks, wait_in}
 
@@ -41,6 +42,10 @@ next_put s queue target = option_and_then (put_in target) (slice_get s.queues qu
 -- the first entry of a lane, whatever its phase
 abbrev pub head_of : LanesState → ℕ → ℕ → Option Entry
 head_of s queue target = option_and_then (head_in target) (slice_get s.queues queue)
+
+-- the least target to which a queue has a lane with an entry
+abbrev pub nonempty_of : LanesState → ℕ → Option ℕ
+nonempty_of s queue = option_and_then nonempty_in (slice_get s.queues queue)
 
 -- What a call is refused for.
 

@@ -1,6 +1,7 @@
 pub mod Kinds
 pub mod LaneStates
 pub mod LanesStates
+pub mod Nonempty
 pub mod Places
 pub mod QueueStates
 pub mod Rising

@@ -5,6 +5,7 @@ use Rattle.gaspi_types.specs.Lanes.{is_posted, is_failed}
 use Rattle.gaspi_types.specs.declared.entries.Entry.{Entry}
 use Rattle.gaspi_types.specs.declared.entries.Queue.{Queue}
 use Rattle.post_queue.specs.LaneStates.{LaneState}
+use Rattle.post_queue.specs.Nonempty.{IsNonempty}
 use Rattle.post_queue.specs.Tallies.{IsTally, counted, total}
 use Rattle.post_queue.specs.declared.tallies.Tally.{Tally}
 
@@ -36,6 +37,11 @@ pub record IsCounted (depth : ℕ) (q : Queue) (t : Tally) : Type 0 where
 pub record IsQueue (depth open_count : ℕ) (broken : Option ℕ) (lanes : List LaneState) (t : Tally) : Type 0 where
   pub rooms : All (λ (lane : LaneState). lane.depth ≡ depth) lanes
   pub counts : IsCounted depth (queue_of open_count broken lanes) t
+
+-- and a set of targets is that of its nonempty lanes
+pub record IsMarked (depth open_count : ℕ) (broken : Option ℕ) (lanes : List LaneState) (t : Tally) (targets : ℕ) : Type 0 where
+  pub queue : IsQueue depth open_count broken lanes t
+  pub nonempty : IsNonempty targets lanes
 
 -- a lane whose entries are gone, and so many of a list
 abbrev pub cleared : LaneState → LaneState

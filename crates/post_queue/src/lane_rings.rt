@@ -6,6 +6,7 @@ ghost use Rattle.gaspi_types.specs.declared.entries.Entry.{Entry};
 ghost use Rattle.gaspi_types.specs.declared.entries.Phase.TheVariants.{Posted, Carried, Failed};
 ghost use Rattle.circular_buffer.specs.Buffer.{buffer};
 ghost use Rattle.post_drafts.specs.Payloads.{payload_size};
+ghost use Rattle.post_queue.specs.Nonempty.{is_nonempty};
 ghost use Rattle.post_queue.specs.Places.{first_posted, first_carried, posted_place, with_phase};
 
 use crate::entries::{PostedEntry, fail};
@@ -53,6 +54,13 @@ impl LaneRings {
             carried: HeapCircularBuffer::with_capacity(alloc, depth)?,
             posted: HeapCircularBuffer::with_capacity(alloc, depth)?,
         })
+    }
+
+    /// Whether it has an entry.
+    pub fn is_nonempty(&self) -> bool
+        ensures { result ≡ is_nonempty self.now.entries }
+    {
+        !self.carried.is_empty() || !self.posted.is_empty()
     }
 
     /// Posts an entry.

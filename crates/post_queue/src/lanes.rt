@@ -8,7 +8,7 @@ ghost use Rattle.gaspi_types.specs.declared.entries.Entry.{Entry};
 ghost use Rattle.post_drafts.specs.Payloads.{payload_size};
 ghost use Rattle.post_queue.specs.QueueStates.{QueueState, state_of};
 ghost use Rattle.post_queue.specs.Steps.{taken_in, removed_in, posted_failed_in, head_failed_in, closed_queue, purged_queue};
-ghost use Rattle.post_queue.specs.LanesStates.{empty_queue, empty_queues, next_take, next_put, head_of, post_checks, wait_checks, purge_checks, open_count_of, with_queue, with_posted};
+ghost use Rattle.post_queue.specs.LanesStates.{empty_queue, empty_queues, next_take, next_put, head_of, nonempty_of, post_checks, wait_checks, purge_checks, open_count_of, with_queue, with_posted};
 
 use crate::entries::PostedEntry;
 use crate::queue_rings::QueueRings;
@@ -99,6 +99,15 @@ impl Lanes {
         self.next
     }
 
+    /// What `post` would answer for so many entries, changing nothing: `BadQueue` where there is no such queue, `QueueBroken`
+    /// where it is broken, `QueueFull` where its open count and the entries are over its depth. (GASPI: write, read, notify)
+    pub fn check_post(&self, queue: u64, need: u32) -> Result<(), Refusal>
+        ensures { result ≡ post_checks self.now queue need }
+    {
+        let rings = self.queues.get(queue as usize).ok_or(Refusal::BadQueue)?;
+        rings.check_room(need)
+    }
+
     /// Posts entries to the end of a lane, numbered on from the next number. `BadQueue` where there is no such queue,
     /// `QueueBroken` where it is broken, `QueueFull` where its open count and the entries are over its depth. It takes no
     /// memory. (GASPI: write, read, notify)
@@ -110,10 +119,9 @@ impl Lanes {
         ensures err { OnErr result (self.new ≡ self.old) }
     {
         let need = entries.len() as u32;
-        let place = queue as usize;
-        let rings = self.queues.get(place).ok_or(Refusal::BadQueue)?;
-        rings.check_room(need)?;
-        self.queues.at_mut(place).post(target, self.next, entries);
+        self.check_post(queue, need)?;
+        let rings = self.queues.at_mut(queue as usize);
+        rings.post(target, self.next, entries);
         self.next += need;
         Ok(())
     }
@@ -136,6 +144,15 @@ impl Lanes {
     {
         let rings = self.queues.get(queue as usize)?;
         rings.front_carried(target)
+    }
+
+    /// The least target to which a queue has a lane with an entry. None exactly where there is no such queue, or no lane of
+    /// it has an entry. No lane is walked over. (GASPI: one-sided communication)
+    pub fn nonempty_lane(&self, queue: u64) -> Option<RankId>
+        ensures { result ≡ nonempty_of self.now queue }
+    {
+        let rings = self.queues.get(queue as usize)?;
+        rings.nonempty_lane()
     }
 
     /// The entry of `front_posted` takes its bytes, and stays in its place. It takes no memory.

@@ -1,9 +1,10 @@
-//! First in first out is one of the machine's choices: what comes next here is permitted there, and is found by its number.
-//! (GASPI: one-sided communication, notification order)
+//! First in first out is one of the machine's choices: what comes next here is permitted there, and is found by its number; and
+//! which lanes have an entry. (GASPI: one-sided communication, notification order)
 
-ghost use Rattle.std.specs.Prelude.{◌≡◌, ℕ, ◌<◌, true, Some, List, slice_get, drop, remove};
+ghost use Rattle.std.specs.Prelude.{◌≡◌, ℕ, ◌<◌, true, None, Some, IsSome, List, slice_get, drop, remove};
 ghost use Rattle.gaspi_types.specs.Lanes.{carried_count, is_carried, may_take, may_put, place_of};
 ghost use Rattle.gaspi_types.specs.declared.entries.Entry.{Entry};
+ghost use Rattle.post_queue.specs.LanesStates.{LanesState, head_of, nonempty_of};
 ghost use Rattle.post_queue.specs.Places.{posted_place, first_posted};
 ghost use Rattle.post_queue.specs.Rising.{IsRising};
 
@@ -20,4 +21,12 @@ pub fn puts()
     ensures permitted { (lane : List Entry) (e : Entry) → IsRising lane → slice_get lane 0 ≡ Some e → is_carried e ≡ true → may_put lane e ≡ true }
     ensures found { (lane : List Entry) (e : Entry) → IsRising lane → slice_get lane 0 ≡ Some e → place_of lane e.number ≡ Some 0 }
     ensures removed { (lane : List Entry) → drop 1 lane ≡ remove lane 0 }
+{}
+
+/// The lane to the target that `nonempty_lane` answers has a head, and no lane to a lesser target has one. Where it answers none,
+/// no lane of the queue has one.
+pub fn nonempty_lane_is_the_least()
+    ensures there { (s : LanesState) (queue target : ℕ) → nonempty_of s queue ≡ Some target → IsSome (head_of s queue target) }
+    ensures least { (s : LanesState) (queue target other : ℕ) → nonempty_of s queue ≡ Some target → other < target → head_of s queue other ≡ None }
+    ensures none { (s : LanesState) (queue target : ℕ) → nonempty_of s queue ≡ None → head_of s queue target ≡ None }
 {}

@@ -12,7 +12,8 @@ mod lanes;
 mod laws;
 mod queue_rings;
 mod tallies;
+mod target_sets;
 
 pub use entries::PostedEntry;
 pub use lanes::Lanes;
-pub use laws::{puts, takes};
+pub use laws::{nonempty_lane_is_the_least, puts, takes};

@@ -6,6 +6,7 @@ ghost use Rattle.gaspi_types.specs.Lanes.{has_user, posted_entries};
 ghost use Rattle.gaspi_types.specs.Queues.{queue_owed, with_entries};
 ghost use Rattle.gaspi_types.specs.declared.entries.Entry.{Entry};
 ghost use Rattle.post_drafts.specs.Payloads.{payload_size};
+ghost use Rattle.post_queue.specs.Nonempty.{nonempty_in};
 ghost use Rattle.post_queue.specs.QueueStates.{state_of, cleared_front};
 ghost use Rattle.post_queue.specs.Steps.{take_in, put_in, head_in, taken_in, removed_in, posted_failed_in, head_failed_in, closed_queue, purged_queue, room_checks, wait_in};
 
@@ -13,6 +14,7 @@ use crate::entries::PostedEntry;
 use crate::kinds::Progress;
 use crate::lane_rings::LaneRings;
 use crate::tallies::Tally;
+use crate::target_sets::{first_member, set_member};
 use gaspi_types::{Entry, NoMemory, RankId, Refusal, Rows};
 use post_drafts::{Draft, Entries};
 use std::alloc::Global;
@@ -46,16 +48,17 @@ pub struct QueueRings {
     broken: Option<RankId>,
     lanes: Rows<LaneRings>,
     tally: Tally,
+    nonempty: u32,
 }
 
 impl Model for QueueRings {
-    ghost use Rattle.post_queue.specs.QueueStates.{QueueState, queue_of, state_of, IsQueue};
+    ghost use Rattle.post_queue.specs.QueueStates.{QueueState, queue_of, state_of, IsMarked};
 
     ghost Value = { QueueState };
 
     ghost view = { λ q. state_of q.depth (queue_of q.open_count q.broken q.lanes) };
 
-    ghost invariant = { λ q. IsQueue q.depth q.open_count q.broken q.lanes q.tally };
+    ghost invariant = { λ q. IsMarked q.depth q.open_count q.broken q.lanes q.tally q.nonempty };
 }
 
 impl QueueRings {
@@ -71,6 +74,7 @@ impl QueueRings {
             broken: None,
             lanes: empty_lanes(alloc, ranks, depth)?,
             tally: Tally::new(),
+            nonempty: 0,
         })
     }
 
@@ -102,6 +106,7 @@ impl QueueRings {
         let kind = *draft.kind();
         self.tally.raise(&kind, Progress::Posted);
         self.lanes.at_mut(target.index()).post(number, draft);
+        self.nonempty = set_member(self.nonempty, target, true);
         self.open_count += 1;
     }
 
@@ -183,8 +188,19 @@ impl QueueRings {
         requires { IsSome (put_in target self.old.queue) }
         ensures { self.new ≡ state_of self.old.depth (removed_in target self.old.queue) }
     {
-        let kind = self.lanes.at_mut(target.index()).remove();
+        let place = target.index();
+        let kind = self.lanes.at_mut(place).remove();
+        let member = self.lanes.at(place).is_nonempty();
+        self.nonempty = set_member(self.nonempty, target, member);
         self.tally.lower(&kind, Progress::Carried);
+    }
+
+    /// The least target whose lane has an entry. No lane is walked over.
+    pub fn nonempty_lane(&self) -> Option<RankId>
+        ensures { result ≡ nonempty_in self.now.queue }
+    {
+        let _ = &self.lanes;
+        first_member(self.nonempty)
     }
 
     /// Whether an entry uses an own segment.
@@ -242,5 +258,6 @@ impl QueueRings {
         self.open_count = 0;
         self.broken = None;
         self.tally = Tally::new();
+        self.nonempty = 0;
     }
 }

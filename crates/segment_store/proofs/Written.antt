@@ -1,5 +1,5 @@
 -- What a store and an atomic change.
-use Rattle.std.proofs.Common.{◌≡◌, ◌≢◌, ℕ, zero, suc, [], ◌∷◌, ◌+◌, ◌%◌, ◌^◌, ◌≤◌, Bool, true, false, ◌==◌, List, length, refl, ap, ◌∙◌, sym, subst, Option, None, Some, Result, Ok, Err, arith}
+use Rattle.std.proofs.Common.{◌≡◌, ◌≢◌, ℕ, zero, suc, [], ◌∷◌, ◌+◌, ◌%◌, ◌^◌, ◌<◌, ◌≤◌, Bool, true, false, ◌==◌, List, length, refl, ap, ◌∙◌, sym, subst, Option, None, Some, Result, Ok, Err, arith}
 use Rattle.std.specs.List.{slice_get, slice_set}
 use Rattle.std.proofs.lemmas.Bool.{leb-true, eq-eqb, ne_eqb}
 use Rattle.byteorder.specs.Endian.{little_bytes}
@@ -19,7 +19,7 @@ use Rattle.segment_store.specs.Segments.{Stored, own_word_checks, word_in, with_
 use Rattle.segment_store.specs.Changes.{IsWritten}
 
 -- an own segment whose bytes are replaced in a range
-written : (s : Stored) (segment offset : ℕ) (mine : Segment) (bytes : List ℕ) → segment_in s.segments segment ≡ Some mine → offset + length bytes ≤ length mine.bytes
+pub written : (s : Stored) (segment offset : ℕ) (mine : Segment) (bytes : List ℕ) → segment_in s.segments segment ≡ Some mine → offset + length bytes ≤ length mine.bytes
     → IsWritten s (with_stored s segment offset bytes) segment offset bytes
 written s segment offset mine bytes there within = record { segments = segment-written s.segments segment offset bytes mine there within; table = refl }
 
@@ -79,6 +79,13 @@ with_bytes-same own segment = go (slice_get own segment) refl
     go (Some (Some mine)) at = rw at (set-there own segment (Some mine) at)
 
 -- the laws
+
+pub outside : (s : Stored) (segment offset : ℕ) (bytes : List ℕ) → length (bytes_of s.segments segment) < offset + length bytes → with_stored s segment offset bytes ≡ s
+outside s segment offset bytes past = go (is_within offset (length bytes) (length (bytes_of s.segments segment))) refl
+  where
+    go : (b : Bool) → is_within offset (length bytes) (length (bytes_of s.segments segment)) ≡ b → with_stored s segment offset bytes ≡ s
+    go true is = absurd (let within = leb-true (offset + length bytes) (length (bytes_of s.segments segment)) is in let no : ⊥ = omega arith in no)
+    go false is = rw is (ap (λ (own : List (Option Segment)). record s { segments = own }) (with_bytes-same s.segments segment))
 
 pub stored : (s : Stored) (segment offset : ℕ) (bytes : List ℕ) → own_range_checks (extents_of s.segments) segment offset (length bytes) ≡ Ok tt → IsWritten s (with_stored s segment offset bytes) segment offset bytes
 stored s segment offset bytes h =

@@ -1,10 +1,11 @@
 //! Laws of the segments of a rank: the contracts of functions that do nothing.
 
-ghost use Rattle.std.specs.Prelude.{◌≡◌, ◌≢◌, ℕ, ◌+◌, ◌%◌, ◌^◌, List, length, Ok};
+ghost use Rattle.std.specs.Prelude.{◌≡◌, ◌≢◌, ℕ, ◌+◌, ◌%◌, ◌^◌, ◌<◌, ◌≤◌, List, length, Some, Ok};
 ghost use Rattle.std.specs.Option.{option_map};
 ghost use Rattle.byteorder.specs.Endian.{little_bytes};
 ghost use Rattle.gaspi_types.specs.SegmentTables.{extent_in, own_range_checks};
-ghost use Rattle.gaspi_types.specs.Segments.{segment_in, extent_of, extents_of};
+ghost use Rattle.gaspi_types.specs.Segments.{segment_in, bytes_of, extent_of, extents_of};
+ghost use Rattle.gaspi_types.specs.declared.segments.Segment.{Segment};
 ghost use Rattle.segment_store.specs.Changes.{IsWritten};
 ghost use Rattle.segment_store.specs.Segments.{Stored, IsSound, word_in, with_stored, with_added, with_swapped};
 
@@ -14,13 +15,18 @@ pub fn extents()
     ensures all { (s : Stored) → IsSound s → s.table.own ≡ extents_of s.segments }
 {}
 
-/// What a call that writes changes, where it is not refused: a store exactly the bytes of its range, and an atomic exactly
-/// the eight bytes of its word, the lowest first. Every other byte, every other segment, all generations and all that is
+/// What a call that writes changes, where it is not refused: a store or a put exactly the bytes of its range, and an atomic
+/// exactly the eight bytes of its word, the lowest first. A put whose range goes past the end of the segment changes nothing.
+/// Every other byte, every other segment, all generations and all that is
 /// known stay. A word that is not the comparator stays too. Whether it is refused is told by the generations and sizes of the
 /// segments themselves, which is the table that calls are checked by. (GASPI: segments, atomics)
 pub fn writes()
     ensures store { (s : Stored) (segment offset : ℕ) (bytes : List ℕ) → own_range_checks (extents_of s.segments) segment offset (length bytes) ≡ Ok tt
         → IsWritten s (with_stored s segment offset bytes) segment offset bytes }
+    ensures put { (s : Stored) (segment offset : ℕ) (mine : Segment) (bytes : List ℕ) → segment_in s.segments segment ≡ Some mine
+        → offset + length bytes ≤ length mine.bytes → IsWritten s (with_stored s segment offset bytes) segment offset bytes }
+    ensures outside { (s : Stored) (segment offset : ℕ) (bytes : List ℕ) → length (bytes_of s.segments segment) < offset + length bytes
+        → with_stored s segment offset bytes ≡ s }
     ensures added { (s : Stored) (segment offset value old : ℕ) → word_in s.segments segment offset ≡ Ok old
         → IsWritten s (with_added s segment offset value) segment offset (little_bytes 8 ((old + value) % 2 ^ 64)) }
     ensures swapped { (s : Stored) (segment offset new old : ℕ) → word_in s.segments segment offset ≡ Ok old

@@ -1,6 +1,6 @@
 //! The segments of one rank, and what it knows of the segments of all ranks. (GASPI: segments, atomics)
 
-ghost use Rattle.std.specs.Prelude.{◌≡◌, ◌+◌, ◌<◌, ◌≤◌, ◌↔◌, IsTrue, IfOk, OnOk, OnErr, IsSomeAnd, length};
+ghost use Rattle.std.specs.Prelude.{◌≡◌, ◌+◌, ◌<◌, ◌≤◌, ◌^◌, ◌↔◌, IsTrue, IfOk, OnOk, OnErr, IsSomeAnd, length};
 ghost use Rattle.std.specs.Option.{option_map};
 ghost use Rattle.gaspi_types.specs.SegmentBytes.{range_of};
 ghost use Rattle.gaspi_types.specs.SegmentTables.{extent_in, own_range_checks, alloc_checks, next_generation};
@@ -11,8 +11,9 @@ use gaspi_types::{
     Bytes, Extent, NoMemory, OwnSegments, RankId, Refusal, Rows, Segment, SegmentTable,
 };
 use segment_tables::{
-    add_own, add_to_segment, bytes_of, check_alloc, check_own_range, extent_in, new_segment,
-    next_generation, range_of, remove_own, set_known, store_bytes, swap_in_segment, word_at,
+    add_own, add_to_segment, bytes_of, check_alloc, check_own_range, extent_in, is_generation,
+    new_segment, next_generation, range_of, remove_own, segment_in, set_known, store_bytes,
+    swap_in_segment, word_at,
 };
 use std::alloc::Global;
 use std::marker::Model;
@@ -40,7 +41,7 @@ impl Model for Segments {
 impl Segments {
     ghost use Rattle.gaspi_types.specs.World.{is_segment_size};
     ghost use Rattle.std.specs.Prelude.{true};
-    ghost use Rattle.gaspi_types.specs.Segments.{segment_in, new_segment, bytes_of};
+    ghost use Rattle.gaspi_types.specs.Segments.{segment_in, new_segment, bytes_of, is_generation};
     ghost use Rattle.segment_store.specs.Segments.{IsSound, nothing_stored, known_of, delete_checks, own_bytes, own_word, with_zeros, without, with_stored, with_added, with_swapped, with_registered, HasNextGeneration};
     ghost use Rattle.segment_store.specs.Stops.{Answers};
 
@@ -137,6 +138,15 @@ impl Segments {
         check_own_range(&self.table.own, seg, offset, size)
     }
 
+    /// Writes bytes into an own segment, from an offset on, of any size and unchecked: where the segment is not there, or their
+    /// range does not lie within it, none is written and nothing changes. (GASPI: write, read)
+    pub fn put(&mut self, seg: u64, offset: u64, bytes: &[u8])
+        ensures { self.new ≡ with_stored self.old seg offset bytes.now }
+    {
+        let _ = &self.table;
+        store_bytes(&mut self.own, seg, offset, bytes);
+    }
+
     /// Stores bytes into an own segment, from an offset on. Refused as `range` is. (own choice)
     pub fn store(&mut self, seg: u64, offset: u64, bytes: &[u8]) -> Result<(), Refusal>
         ensures answer { result ≡ own_range_checks self.old.table.own seg offset (length bytes.now) }
@@ -144,7 +154,7 @@ impl Segments {
         ensures refused { OnErr result (self.new ≡ self.old) }
     {
         check_own_range(&self.table.own, seg, offset, bytes.len() as u64)?;
-        store_bytes(&mut self.own, seg, offset, bytes);
+        self.put(seg, offset, bytes);
         Ok(())
     }
 
@@ -189,12 +199,20 @@ impl Segments {
         extent_in(&self.table.own, seg).map(|mine| mine.generation)
     }
 
-    /// Makes a segment of an owner known, in a generation and a size, in place of what was known of that number.
-    /// The size is that of a segment, 1 to 1,048,576 bytes. (GASPI: segment_register)
+    /// Whether an own segment is there in a generation.
+    pub fn has_generation(&self, seg: u64, generation: u32) -> bool
+        ensures { result ≡ is_generation generation (segment_in self.now.segments seg) }
+    {
+        let _ = &self.table;
+        is_generation(generation, segment_in(&self.own, seg))
+    }
+
+    /// Makes a segment of an owner known, in a generation and a size, in place of what was known of that number. The size is a
+    /// number of 32 bits; whether a segment may have it is not checked here. (GASPI: segment_register)
     pub fn register(&mut self, owner: RankId, seg: u64, generation: u32, size: u64)
         requires rank { owner < length self.old.table.known }
         requires segment { seg < 32 }
-        requires size { is_segment_size size ≡ true }
+        requires size { size < 2 ^ 32 }
         ensures { self.new ≡ with_registered self.old owner seg (record { generation = generation; size = size }) }
     {
         let size = size as u32;

@@ -1,6 +1,6 @@
 //! The collectives of a rank that are pending. (GASPI: timeouts)
 
-ghost use Rattle.std.specs.Prelude.{◌≡◌, None, Some, IfOk, replicate, slice_set};
+ghost use Rattle.std.specs.Prelude.{◌≡◌, None, Some, IfOk, option_copied, replicate, slice_set};
 ghost use Rattle.gaspi_types.specs.Collectives.{resume};
 ghost use Rattle.gaspi_types.specs.Tables.{entry_at};
 
@@ -40,13 +40,20 @@ impl Pending {
         Ok(Pending { table })
     }
 
+    /// What is pending on a group, lent: the thread that joined it, and its arguments. None exactly where none is. (GASPI: timeouts)
+    pub fn on(&self, group: GroupId) -> Option<&gaspi_types::Pending>
+        ensures { option_copied result ≡ entry_at self.now group }
+    {
+        self.table.at(group.index()).as_ref()
+    }
+
     /// What a collective of a thread meets on a group: `Fresh` where none is pending there, `Same` where it is the one that is. Else
     /// `ActiveCollective` where that is another thread's, or `ResumeOther` where it differs in kind, arguments or values.
     /// (GASPI: timeouts)
     pub fn state(&self, group: GroupId, thread: ThreadId, args: &Args) -> Result<Resume, Refusal>
         ensures { result ≡ resume (entry_at self.now group) thread (Some args.now) }
     {
-        let pending = self.table.at(group.index()).as_ref();
+        let pending = self.on(group);
         call_rules::resume(pending, thread, Some(args))
     }
 

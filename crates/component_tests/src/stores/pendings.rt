@@ -39,6 +39,19 @@ fn is_put_in(
     Ok(fresh)
 }
 
+/// Whether this collective of a thread is pending on a group.
+fn is_on(pending: &Pending, group: GroupId, thread: ThreadId, args: &Args) -> bool {
+    match pending.on(group) {
+        Some(kept) => kept.thread == thread && kept.args == *args,
+        None => false,
+    }
+}
+
+/// Whether nothing is pending on a group.
+fn is_idle(pending: &Pending, group: GroupId) -> bool {
+    pending.on(group).is_none()
+}
+
 /// Whether a collective is taken out, where it is the one that is pending.
 fn is_taken_out(pending: &mut Pending, group: GroupId, thread: ThreadId, args: &Args) -> bool {
     let same = matches!(pending.state(group, thread, args), Ok(Resume::Same));
@@ -62,9 +75,13 @@ fn is_fresh(pending: &Pending, group: GroupId, thread: ThreadId, args: &Args) ->
 /// Whether a collective is made pending, another refused in its place, and the first taken out.
 fn is_resumed(alloc: Global, pending: &mut Pending, three: &Args, four: &Args) -> bool {
     let (group, thread) = (GroupId::of(7), ThreadId::of(2));
-    matches!(is_put_in(alloc, pending, group, thread, three), Ok(true))
+    is_idle(pending, group)
+        && matches!(is_put_in(alloc, pending, group, thread, three), Ok(true))
+        && is_on(pending, group, thread, three)
+        && is_idle(pending, GroupId::of(6))
         && is_refused(pending, group, thread, four)
         && is_taken_out(pending, group, thread, three)
+        && is_idle(pending, group)
         && is_fresh(pending, group, thread, four)
 }
 

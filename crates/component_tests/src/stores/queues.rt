@@ -135,6 +135,16 @@ fn posted(lanes: &Lanes, queue: u64, target: RankId) -> Option<u32> {
         .map(|entry| entry.number())
 }
 
+/// Whether that is the least target to which a queue has a lane with an entry.
+fn is_nonempty(lanes: &Lanes, queue: u64, target: Option<RankId>) -> bool {
+    lanes.nonempty_lane(queue) == target
+}
+
+/// What a post of so many entries to a queue would answer.
+fn checked(lanes: &Lanes, queue: u64, entries: u32) -> Result<(), Refusal> {
+    lanes.check_post(queue, entries)
+}
+
 /// What a purge of a queue answers.
 fn purge(lanes: &mut Lanes, queue: u64) -> Result<(), Refusal> {
     lanes.purge(queue)
@@ -148,11 +158,15 @@ fn are_posted(lanes: &Lanes, target: RankId) -> bool {
         && is_used(lanes, 5, Some(1))
         && matches!(waiting(lanes, 1), Ok(false))
         && posted(lanes, 1, target) == Some(0)
+        && is_nonempty(lanes, 1, Some(target))
 }
 
 /// Whether no entry of the other lanes may take its bytes.
 fn are_alone(lanes: &Lanes, target: RankId) -> bool {
-    posted(lanes, 0, target).is_none() && posted(lanes, 1, RankId::of(0)).is_none()
+    posted(lanes, 0, target).is_none()
+        && posted(lanes, 1, RankId::of(0)).is_none()
+        && is_nonempty(lanes, 0, None)
+        && is_nonempty(lanes, 2, None)
 }
 
 /// Whether both take their bytes, and need not be waited for then.
@@ -169,7 +183,9 @@ fn are_carried(lanes: &mut Lanes, target: RankId) -> bool {
 fn are_put(lanes: &mut Lanes, target: RankId) -> bool {
     is_write(lanes, 1, target, 5, &[1, 2, 3])
         && put(lanes, 1, target)
+        && is_nonempty(lanes, 1, Some(target))
         && put(lanes, 1, target)
+        && is_nonempty(lanes, 1, None)
         && !put(lanes, 1, target)
         && counts(lanes, 2, 0)
 }
@@ -202,6 +218,17 @@ fn are_filled(
     Ok(first && second && other && is_full)
 }
 
+/// Whether a post of one entry finds queue 0 full, and queue 1 not; the least lane with an entry is known of each.
+fn are_checked(lanes: &Lanes, near: RankId, far: RankId) -> bool {
+    matches!(
+        checked(lanes, 0, 1),
+        Err(Refusal::QueueFull { count: 4, need: 1 })
+    ) && checked(lanes, 1, 2).is_ok()
+        && matches!(checked(lanes, 2, 1), Err(Refusal::BadQueue))
+        && is_nonempty(lanes, 0, Some(near))
+        && is_nonempty(lanes, 1, Some(far))
+}
+
 /// Whether a queue is broken with rank 1.
 fn is_broken(lanes: &Lanes, queue: u64) -> bool {
     matches!(waiting(lanes, queue), Err(Refusal::QueueBroken { rank: 1 }))
@@ -216,7 +243,8 @@ fn is_failed(
 ) -> Result<bool, NoMemory> {
     let failed = carry(lanes, 0, far, &[1, 2, 3]) && fail_put(lanes, 0, far);
     let late = post(alloc, lanes, 0, near, 3)?;
-    let refused = matches!(late, Some(Err(Refusal::QueueBroken { rank: 1 })));
+    let refused = matches!(late, Some(Err(Refusal::QueueBroken { rank: 1 })))
+        && matches!(checked(lanes, 0, 0), Err(Refusal::QueueBroken { rank: 1 }));
     Ok(failed && refused && is_broken(lanes, 0))
 }
 
@@ -232,6 +260,7 @@ fn is_purged(lanes: &mut Lanes) -> bool {
         && matches!(waiting(lanes, 0), Ok(true))
         && is_open(lanes, 0, 0)
         && is_used(lanes, 3, None)
+        && is_nonempty(lanes, 0, None)
 }
 
 #[test]
@@ -240,6 +269,7 @@ fn failures_break_their_queue_alone(rt: HostRuntime) -> Result<(), Fail> {
     let (near, far) = (RankId::of(0), RankId::of(1));
     let mut lanes = empty(alloc)?;
     assert!(rt; are_filled(alloc, &mut lanes, near, far)?);
+    assert!(rt; are_checked(&lanes, near, far));
     assert!(rt; is_failed(alloc, &mut lanes, near, far)?);
     assert!(rt; are_kept(&lanes));
     assert!(rt; is_purged(&mut lanes));

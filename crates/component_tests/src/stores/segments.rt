@@ -1,4 +1,4 @@
-use gaspi_types::{NoMemory, RankId, Rows, is_segment_size};
+use gaspi_types::{NoMemory, RankId, Rows};
 use segment_store::Segments;
 use std::alloc::Global;
 use std::test::Fail;
@@ -38,19 +38,32 @@ fn lends(segments: &Segments, seg: u64, offset: u64, bytes: &[u8]) -> bool {
     segments.range(seg, offset, size).is_ok() && segments.bytes(seg, offset, size) == bytes
 }
 
-/// Whether an own segment is there in that generation and size.
+/// Whether an own segment is there in that generation and size, and not in generation 7.
 fn has(segments: &Segments, seg: u64, generation: u32, size: u32) -> bool {
-    segments.generation(seg) == Some(generation) && segments.size_of(seg) == Some(size)
+    segments.generation(seg) == Some(generation)
+        && segments.size_of(seg) == Some(size)
+        && segments.has_generation(seg, generation)
+        && !segments.has_generation(seg, 7)
 }
 
 /// Whether an own segment is not there.
 fn lacks(segments: &Segments, seg: u64) -> bool {
-    segments.generation(seg).is_none() && segments.size_of(seg).is_none()
+    segments.generation(seg).is_none()
+        && segments.size_of(seg).is_none()
+        && !segments.has_generation(seg, 0)
 }
 
 /// Whether bytes are stored.
 fn stores(segments: &mut Segments, seg: u64, offset: u64, bytes: &[u8]) -> bool {
     segments.store(seg, offset, bytes).is_ok()
+}
+
+/// Whether bytes that lie within a segment of four are written, and none where one lies past its end or no segment is there.
+fn puts(segments: &mut Segments, seg: u64) -> bool {
+    segments.put(seg, 1, &[4, 5]);
+    segments.put(seg, 3, &[6, 7]);
+    segments.put(40, 0, &[8]);
+    lends(segments, seg, 0, &[0, 4, 5, 0])
 }
 
 /// Whether a value is added to a word that is `old`.
@@ -70,11 +83,10 @@ fn deletes(segments: &mut Segments, seg: u64) -> bool {
 
 /// Whether a segment of a rank is known in a generation and a size, once it is made known.
 fn registers(segments: &mut Segments, owner: RankId, seg: u64, generation: u32, size: u32) -> bool {
-    let bytes = u64::from(size);
-    if seg >= 32 || !segments.has_rank(owner) || !is_segment_size(bytes) {
+    if seg >= 32 || !segments.has_rank(owner) {
         return false;
     }
-    segments.register(owner, seg, generation, bytes);
+    segments.register(owner, seg, generation, u64::from(size));
     segments.known(owner, seg) == Some((generation, size))
 }
 
@@ -107,6 +119,7 @@ fn calls_answer(rt: HostRuntime) -> Result<(), Fail> {
     let mut segments = empty(alloc)?;
     assert!(rt; is_written(alloc, &mut segments));
     assert!(rt; is_made_again(alloc, &mut segments)?);
+    assert!(rt; puts(&mut segments, 31));
     assert!(rt; registers(&mut segments, RankId::of(1), 31, 2, 8));
     assert!(rt; ranks(&segments) == 2);
     Ok(())

@@ -137,7 +137,7 @@ join-cases {P} posts g me thread id args h may first other = go args.coll refl m
     go (colls.Create seg size) is staged args_is meets = plain (colls.Create seg size) is refl (committed-there posts.groups id h staged) (subst (λ (c : Coll). meeting_checks g me c ≡ Ok tt) is meets)
 
 -- what it brings fits the group
-join-brings : (s : State) (posts : Posts) (g : Group) (part : Part) (me thread id : ℕ) (args : Args) (h : Handle) → s.limits.ranks ≤ 16 → IsSound s → slice_get s.posts me ≡ Some posts → IsThere s me id g part
+pub join-brings : (s : State) (posts : Posts) (g : Group) (part : Part) (me thread id : ℕ) (args : Args) (h : Handle) → s.limits.ranks ≤ 16 → IsSound s → slice_get s.posts me ≡ Some posts → IsThere s me id g part
     → MayJoin posts g me thread id (joining_call id args) args h → IsSoundPart posts.events None part → Brings g me part (contribution_of posts args)
 join-brings s posts g part me thread id args h few sound hp there may mine = record {
   agrees = λ rank d given. agrees rank d given;

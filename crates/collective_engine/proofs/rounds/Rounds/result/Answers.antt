@@ -13,8 +13,8 @@ fold-requires-clause-given c =
     (gives c.self.inside c.args.self.now c.self.view_is c.self.invariant c.args.rank (omega (arith, c.index.ensures.bound)) c.ranks-members.result.now c.own_coll.result c.in-Some-Allreduce.op c.in-Some-Allreduce.num_type c.in-Some-Allreduce.count
     c.requires.member c.requires.full c.ranks-members.ensures.ranks c.own_coll.ensures (c.in-Some-Allreduce.is ∙ ap (λ (coll : Coll). Some coll) c.in-Some-Allreduce.field-0-is))
 
-pub returns : goal.returns
-returns c =
+pub returns-clause-numbers : goal.returns-clause-numbers
+returns-clause-numbers c =
     let place = c.index.ensures.value in
     folds c.self.inside c.args.self.now c.self.view_is c.self.invariant c.args.rank (omega (arith, c.index.ensures.bound)) c.fold.result c.ranks-members.result.now c.own_coll.result c.in-Some-Allreduce.op c.in-Some-Allreduce.num_type c.in-Some-Allreduce.count
-    c.requires.member c.ranks-members.ensures.ranks c.own_coll.ensures (c.in-Some-Allreduce.is ∙ ap (λ (coll : Coll). Some coll) c.in-Some-Allreduce.field-0-is) (rw place at c.fold.ensures)
+    c.requires.member c.ranks-members.ensures.ranks c.own_coll.ensures (c.in-Some-Allreduce.is ∙ ap (λ (coll : Coll). Some coll) c.in-Some-Allreduce.field-0-is) (rw place at c.fold.ensures.numbers)

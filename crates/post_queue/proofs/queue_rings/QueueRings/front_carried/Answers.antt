@@ -4,7 +4,7 @@ use Rattle.post_queue.proofs.Queues.{whole-at, put-reads, head-read, not-broken}
 use Rattle.post_queue.proofs.queue_rings.QueueRings.front_carried.Goals as goal
 
 pub front_carried-requires : goal.front_carried-requires
-front_carried-requires c = whole-at c.self.inside.lanes c.index.result c.in_ok-lane.lane.now c.self.invariant (not-broken c.self.inside.broken (sym c.is_some.ensures ∙ c.if-is_some.false)) (sym (c.in_ok-lane.ensures {u = tt}))
+front_carried-requires c = whole-at c.self.inside.lanes c.index.result c.in_ok-lane.lane.now c.self.invariant.queue (not-broken c.self.inside.broken (sym c.is_some.ensures ∙ c.if-is_some.false)) (sym (c.in_ok-lane.ensures {u = tt}))
 
 pub returns-clause-answer : goal.returns-clause-answer
 returns-clause-answer c =

@@ -3,7 +3,7 @@ use Rattle.post_queue.proofs.Queues.{whole-at, taken-read, taken-none, not-broke
 use Rattle.post_queue.proofs.queue_rings.QueueRings.front_posted.Goals as goal
 
 pub carried_count-requires : goal.carried_count-requires
-carried_count-requires c = whole-at c.self.inside.lanes c.index.result c.in_ok-lane.lane.now c.self.invariant (not-broken c.self.inside.broken (sym c.is_some.ensures ∙ c.if-is_some.false)) (sym (c.in_ok-lane.ensures {u = tt}))
+carried_count-requires c = whole-at c.self.inside.lanes c.index.result c.in_ok-lane.lane.now c.self.invariant.queue (not-broken c.self.inside.broken (sym c.is_some.ensures ∙ c.if-is_some.false)) (sym (c.in_ok-lane.ensures {u = tt}))
 
 pub returns-then-carried_count-self : goal.returns-then-carried_count-self
 returns-then-carried_count-self c =

@@ -9,18 +9,20 @@ use Rattle.post_queue.specs.Steps.{taken_in}
 use Rattle.post_queue.specs.declared.kinds.Progress.TheVariants as progress
 use Rattle.post_queue.proofs.Rings.{some-from}
 use Rattle.post_queue.proofs.Queues.{taking, some-of, at-if, posted-progress, state-changed, room-at, whole-at, small-tally, phase-step}
+use Rattle.post_queue.specs.Nonempty.{is_nonempty}
+use Rattle.post_queue.proofs.Nonempty.{nonempty-kept, nonempty-phase}
 use Rattle.post_queue.proofs.queue_rings.QueueRings.mark_carried.Goals as goal
 
 pub carry-kind-requires-clause-whole : goal.carry-kind-requires-clause-whole
 carry-kind-requires-clause-whole c =
     let at = taking _ _ _ c.self.inside.lanes c.index.result c.args.target c.at_mut.result.now c.args.self.now (λ (e : Entry). length c.args.bytes.now ≡ payload_size e.kind) c.index.ensures.value c.at_mut.ensures.value c.self.view_is c.requires in
-    whole-at c.self.inside.lanes c.index.result c.at_mut.result.now c.self.invariant at.unbroken c.at_mut.ensures.value
+    whole-at c.self.inside.lanes c.index.result c.at_mut.result.now c.self.invariant.queue at.unbroken c.at_mut.ensures.value
 
 pub carry-kind-requires-clause-room : goal.carry-kind-requires-clause-room
 carry-kind-requires-clause-room c =
     let at = taking _ _ _ c.self.inside.lanes c.index.result c.args.target c.at_mut.result.now c.args.self.now (λ (e : Entry). length c.args.bytes.now ≡ payload_size e.kind) c.index.ensures.value c.at_mut.ensures.value c.self.view_is c.requires in
     let room = at.room in
-    let deep = room-at c.self.inside.lanes c.index.result c.at_mut.result.now c.self.invariant c.at_mut.ensures.value in
+    let deep = room-at c.self.inside.lanes c.index.result c.at_mut.result.now c.self.invariant.queue c.at_mut.ensures.value in
     omega arith
 
 pub carry-kind-requires-clause-fits : goal.carry-kind-requires-clause-fits
@@ -29,16 +31,19 @@ carry-kind-requires-clause-fits c =
     at.there
 
 pub raise-requires : goal.raise-requires
-raise-requires c = small-tally c.self.invariant
+raise-requires c = small-tally c.self.invariant.queue
 
 pub invariant_of-self : goal.invariant_of-self
-invariant_of-self c =
-    let at = taking _ _ _ c.self.inside.lanes c.index.result c.args.target c.at_mut.result.now c.args.self.now (λ (e : Entry). length c.args.bytes.now ≡ payload_size e.kind) c.index.ensures.value c.at_mut.ensures.value c.self.view_is c.requires in
-    let first = some-of (first_posted c.at_mut.result.now.entries) (some-from (λ (e : Entry). length c.args.bytes.now ≡ payload_size e.kind) _ at.there) in
-    phase-step c.self.inside.lanes c.self.inside.broken c.index.result c.at_mut.result.now c.carry-kind.new.self (posted_place c.at_mut.result.now.entries) first.0 (Carried c.args.bytes.now) c.carry-kind.result progress.Posted c.raise.new.self c.lower.new.self
-    c.self.invariant c.at_mut.ensures.value first.1 (posted-progress c.at_mut.result.now.entries first.0 first.1)
-    (at-if (λ (e : Entry). c.carry-kind.result ≡ e.kind) _ first.0 first.1 c.carry-kind.ensures.kind)
-    c.carry-kind.ensures.lane c.carry-kind.ensures.bound c.raise.ensures c.lower.ensures refl (λ unbroken. (unbroken, refl))
+invariant_of-self c = record {
+  queue =
+      let at = taking _ _ _ c.self.inside.lanes c.index.result c.args.target c.at_mut.result.now c.args.self.now (λ (e : Entry). length c.args.bytes.now ≡ payload_size e.kind) c.index.ensures.value c.at_mut.ensures.value c.self.view_is c.requires in
+      let first = some-of (first_posted c.at_mut.result.now.entries) (some-from (λ (e : Entry). length c.args.bytes.now ≡ payload_size e.kind) _ at.there) in
+      phase-step c.self.inside.lanes c.self.inside.broken c.index.result c.at_mut.result.now c.carry-kind.new.self (posted_place c.at_mut.result.now.entries) first.0 (Carried c.args.bytes.now) c.carry-kind.result progress.Posted c.raise.new.self c.lower.new.self
+      c.self.invariant.queue c.at_mut.ensures.value first.1 (posted-progress c.at_mut.result.now.entries first.0 first.1)
+      (at-if (λ (e : Entry). c.carry-kind.result ≡ e.kind) _ first.0 first.1 c.carry-kind.ensures.kind)
+      c.carry-kind.ensures.lane c.carry-kind.ensures.bound c.raise.ensures c.lower.ensures refl (λ unbroken. (unbroken, refl));
+  nonempty = nonempty-kept c.self.inside.nonempty c.self.inside.lanes c.index.result c.args.target c.at_mut.result.now c.carry-kind.new.self c.index.ensures.value (let within = c.index.ensures.bound in let same = c.index.ensures.value in omega arith) c.self.invariant.nonempty c.at_mut.ensures.value (ap (λ (l : LaneState). is_nonempty l.entries) c.carry-kind.ensures.lane ∙ nonempty-phase c.at_mut.result.now.entries (posted_place c.at_mut.result.now.entries) (Carried c.args.bytes.now));
+}
 
 pub returns : goal.returns
 returns c =
