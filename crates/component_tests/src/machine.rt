@@ -1,7 +1,9 @@
 //! Calls of the machine that no command makes.
 
 use crate::one_rank::{caller, notified, shape};
-use gaspi_types::{Barrier, Call, CallerId, Event, NoMemory, RankId, Ready, Reply, Reset};
+use gaspi_types::{
+    Barrier, Call, CallerId, Event, Invocation, NoMemory, RankId, Ready, Reply, Reset,
+};
 use plain_machine::Machine;
 use std::alloc::Global;
 use std::test::Fail;
@@ -73,7 +75,8 @@ fn joins(
     if !machine.is_declared(caller) {
         return Ok(false);
     }
-    Ok(machine.look(alloc, caller, call)?.is_join())
+    let invocation = Invocation::new(caller, call);
+    Ok(machine.look(alloc, &invocation)?.is_join())
 }
 
 /// Whether a reset is answered, and joins nothing.

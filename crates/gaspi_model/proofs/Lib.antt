@@ -23,3 +23,4 @@ pub mod Ended
 pub mod Settled
 pub mod Local
 pub mod OwnCalls
+pub mod HistoryLengths

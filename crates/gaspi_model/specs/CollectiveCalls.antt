@@ -2,6 +2,8 @@
 -- call of a rank `me` on a group with the number `id` reads that rank's posts and that group. (GASPI: collectives, groups,
 -- segments, timeouts)
 use Rattle.std.specs.Prelude.{ℕ, ◌&&◌, Bool, true, false, not, nat_lt, List, [], ◌∷◌, length, Option, None, Some, Result, Ok, Err, if◌then◌else◌, slice_set}
+use Rattle.std.specs.Option.{unwrap_or}
+use Rattle.gaspi_types.specs.CallRows.{row_of}
 use Rattle.gaspi_types.specs.Checks.{◌>>=◌, check, found}
 use Rattle.gaspi_types.specs.Collectives.{no_values, count_checks, type_checks, same_args, resume, is_turn_full, turn_checks, turn_fold, turn_made}
 use Rattle.gaspi_types.specs.Groups.{is_building, handle_at, building_at, with_committed, fix_checks}
@@ -22,6 +24,9 @@ use Rattle.gaspi_types.specs.declared.groups.Made.{Made}
 use Rattle.gaspi_types.specs.declared.groups.Pending.{Pending}
 use Rattle.gaspi_types.specs.declared.groups.Resume.{Resume}
 use Rattle.gaspi_types.specs.declared.groups.Resume.TheVariants.{Fresh, Same}
+use Rattle.gaspi_types.specs.declared.events.Event.{Event}
+use Rattle.gaspi_types.specs.declared.events.Event.TheVariants.{Joined}
+use Rattle.gaspi_types.specs.declared.shapes.CallerId.{CallerId}
 use Rattle.gaspi_types.specs.declared.shapes.Limits.{Limits}
 use Rattle.gaspi_types.specs.declared.replies.Refusal.{Refusal}
 use Rattle.gaspi_types.specs.declared.replies.Refusal.TheVariants.{BadSize, NoGroup, GroupStage, NotMember, CallerEnded}
@@ -196,3 +201,11 @@ told_posts group me id call posts = posts
 -- and none is pending
 abbrev pub completed_posts : Posts → Group → ℕ → ℕ → Call → Posts
 completed_posts posts group me id call = with_pending id None (told_posts group me id call posts)
+
+-- the group of a collective
+abbrev pub group_of : Call → ℕ
+group_of call = unwrap_or (row_of call).group 0
+
+-- the join of a call with its arguments
+abbrev pub join_event : CallerId → Call → Args → Event
+join_event c call args = Joined c (group_of call) args

@@ -24,3 +24,4 @@ pub mod RankGroups
 pub mod Order
 pub mod Settled
 pub mod Turns
+pub mod Parties

@@ -1,7 +1,7 @@
 -- The step of the machine, and its legal histories.
-use Rattle.std.specs.Prelude.{◌&&◌, ◌≡◌, ◌==◌, ℕ, ◌+◌, Bool, true, false, nat_le, nat_lt, List, [], ◌∷◌, Option, None, Some, Result, Ok, Err, if◌then◌else◌, slice_get, is_ok}
+use Rattle.std.specs.Prelude.{◌&&◌, ◌≡◌, ◌==◌, ℕ, ◌+◌, Bool, true, false, not, nat_le, nat_lt, List, [], ◌∷◌, Option, None, Some, Result, Ok, Err, if◌then◌else◌, slice_get, is_ok}
 use Rattle.gaspi_types.specs.Checks.{◌>>=◌, check}
-use Rattle.gaspi_types.specs.CallRows.{row_of, is_end}
+use Rattle.gaspi_types.specs.CallRows.{row_of, is_end, need_of}
 use Rattle.gaspi_types.specs.Replies.{is_idle, same_reply}
 use Rattle.gaspi_types.specs.Touches.{reach_of, take_touch, put_touch}
 use Rattle.std.specs.Option.{option_map}
@@ -258,6 +258,10 @@ room_taken s rank = in_posts (slice_get s.posts rank)
     in_posts : Option Posts → ℕ
     in_posts None = 0
     in_posts (Some posts) = posts.events + owed posts
+
+-- own choice: whether the rank of a caller has no room for the events that its call needs
+abbrev pub is_full_in : State → CallerId → Call → Bool
+is_full_in s c call = nat_lt s.limits.events (room_taken s c.rank + need_of call (is_pending s c.rank c.thread call) (not (is_active s c.rank c.thread)))
 
 -- the machine's outcome of a transfer that may come next, which is told by the memory of its target; where that is no
 -- rank, by one with no segment

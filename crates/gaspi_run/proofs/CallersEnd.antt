@@ -10,7 +10,7 @@ use Rattle.gaspi_types.specs.declared.calls.Call.TheVariants.{End}
 use Rattle.gaspi_types.specs.declared.events.Event.{Event}
 use Rattle.gaspi_types.specs.declared.shapes.CallerId.{CallerId}
 use Rattle.gaspi_model.specs.State.{opening}
-use Rattle.gaspi_model.specs.Step.{own_calls, reached, is_legal, is_active, is_pending, room_taken}
+use Rattle.gaspi_model.specs.Step.{own_calls, reached, is_legal, is_active, is_pending, room_taken, is_full_in}
 use Rattle.gaspi_model.specs.declared.states.State.{State}
 use Rattle.gaspi_model.proofs.Histories.{leads, prefix, after-limits}
 use Rattle.commit_table.specs.declared.views.Known.{Known}
@@ -18,7 +18,6 @@ use Rattle.rank_script.specs.Runs.{IsStopped}
 use Rattle.rank_script.specs.declared.scripts.RunOutcome.{RunOutcome}
 use Rattle.rank_script.specs.declared.scripts.RunOutcome.TheVariants as outcomes
 use Rattle.rank_script.specs.declared.scripts.ScriptLine.{ScriptLine}
-use Rattle.gaspi_world.specs.Attempts.{is_full_in}
 use Rattle.gaspi_world.specs.Callers.{events_of}
 use Rattle.script_bodies.specs.Runs.{HadNoRoom as HadNone, HasCause, IsStoppedBefore as WasStoppedBefore}
 use Rattle.gaspi_run.proofs.CallsOfEvents.{own-events}

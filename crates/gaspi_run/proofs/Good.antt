@@ -20,7 +20,7 @@ use Rattle.gaspi_model.specs.Transfers.{transfers}
 use Rattle.gaspi_model.specs.declared.states.State.{State}
 use Rattle.gaspi_model.specs.declared.states.Why.{Why}
 use Rattle.gaspi_types.proofs.Items.{slice_get-set, remove-part}
-use Rattle.plain_machine.specs.Looking.{join_event}
+use Rattle.gaspi_model.specs.CollectiveCalls.{join_event}
 use Rattle.rank_script.specs.Runs.{Progress, Going, Over, advanced, stopped}
 use Rattle.rank_script.specs.declared.scripts.Halted.TheVariants as halts
 use Rattle.rank_script.specs.declared.scripts.ScriptLine.{ScriptLine}

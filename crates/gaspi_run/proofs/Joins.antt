@@ -12,13 +12,12 @@ use Rattle.gaspi_types.specs.declared.replies.Refusal.{Refusal}
 use Rattle.gaspi_types.specs.declared.replies.Reply.{Reply}
 use Rattle.gaspi_types.specs.declared.shapes.CallerId.{CallerId}
 use Rattle.gaspi_model.specs.Calls.{answer, call_finds, ready_of}
-use Rattle.gaspi_model.specs.CollectiveCalls.{is_joining, joining_call}
+use Rattle.gaspi_model.specs.CollectiveCalls.{is_joining, joining_call, group_of, join_event}
 use Rattle.gaspi_model.specs.Sound.{IsSound}
 use Rattle.gaspi_model.specs.State.{is_running, thread_at}
 use Rattle.gaspi_model.specs.Step.{step, answer_in, call_memory, is_active, is_pending, room_taken}
 use Rattle.gaspi_model.specs.declared.states.Posts.{Posts}
 use Rattle.gaspi_model.specs.declared.states.State.{State}
-use Rattle.plain_machine.specs.Looking.{group_of, join_event}
 use Rattle.rank_script.specs.declared.scripts.ScriptLine.{ScriptLine}
 use Rattle.gaspi_run.specs.Endings.{present_need}
 use Rattle.gaspi_run.proofs.Work.{JoinsAreSteps}

@@ -22,7 +22,7 @@ use Rattle.commit_table.specs.declared.views.Known.{Known}
 use Rattle.gaspi_world.specs.Callers.{events_of, IsPassOf}
 use Rattle.gaspi_world.specs.Closing.{HaveSeen, HaveDone}
 use Rattle.gaspi_world.specs.Waits.{Waited}
-use Rattle.gaspi_world.specs.WorldMachine.{number_of}
+use Rattle.gaspi_model.specs.Parties.{number_of}
 use Rattle.gaspi_world.specs.declared.launching.Task.{Task}
 use Rattle.gaspi_world.specs.declared.starts.Start.{Start}
 use Rattle.gaspi_world.proofs.Numbers.{number-below, same-number, there-any, declared-at}

@@ -18,7 +18,7 @@ use Rattle.gaspi_types.specs.declared.groups.Args.{Args}
 use Rattle.gaspi_types.specs.declared.shapes.CallerId.{CallerId}
 use Rattle.gaspi_model.specs.State.{thread_at, is_running}
 use Rattle.gaspi_model.specs.Calls.{recorded_reply}
-use Rattle.gaspi_model.specs.CollectiveCalls.{is_joining, joining_call}
+use Rattle.gaspi_model.specs.CollectiveCalls.{is_joining, joining_call, group_of, join_event}
 use Rattle.gaspi_model.specs.Sound.{IsSound}
 use Rattle.gaspi_model.specs.Step.{step, transfer_event, answer_in, room_taken, own_calls, is_active, is_pending, ends_caller}
 use Rattle.gaspi_model.specs.Transfers.{transfers}
@@ -26,7 +26,6 @@ use Rattle.gaspi_model.specs.declared.states.Posts.{Posts}
 use Rattle.gaspi_model.specs.declared.states.State.{State}
 use Rattle.gaspi_model.specs.declared.states.Why.{Why}
 use Rattle.gaspi_types.proofs.Items.{past-none}
-use Rattle.plain_machine.specs.Looking.{group_of, join_event}
 use Rattle.rank_script.specs.PlainScripts.{IsPlain, HasPlainLines, ArePlain}
 use Rattle.rank_script.specs.Runs.{Progress, Going, Over, stopped}
 use Rattle.rank_script.specs.declared.scripts.Halted.TheVariants as halts

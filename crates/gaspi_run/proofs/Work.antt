@@ -21,7 +21,7 @@ use Rattle.gaspi_model.specs.Transfers.{transfers}
 use Rattle.gaspi_model.specs.declared.states.State.{State}
 use Rattle.gaspi_model.specs.declared.states.Posts.{Posts}
 use Rattle.gaspi_model.specs.declared.states.Why.{Why}
-use Rattle.plain_machine.specs.Looking.{join_event}
+use Rattle.gaspi_model.specs.CollectiveCalls.{join_event}
 use Rattle.rank_script.specs.Runs.{Progress, Going, Over, going_on, advanced, stopped, is_timeout, is_stuck, is_retried, is_failed}
 use Rattle.rank_script.specs.declared.scripts.Halted.TheVariants as halts
 use Rattle.rank_script.specs.declared.scripts.ScriptLine.{ScriptLine}

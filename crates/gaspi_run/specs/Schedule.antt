@@ -1,5 +1,5 @@
 -- The schedule on one thread: turns of callers and of transfers, picked by the generator. (own choice)
-use Rattle.std.specs.Prelude.{◌≡◌, Bool, ℕ, zero, suc, ◌+◌, ◌-◌, true, ◌==◌, nat_lt, nat_le, List, [], ◌∷◌, ◌++◌, length, remove, Option, None, Some, Result, Ok, Err, if◌then◌else◌, slice_get, slice_set, find}
+use Rattle.std.specs.Prelude.{◌≡◌, Bool, ℕ, zero, suc, ◌+◌, ◌-◌, true, ◌==◌, nat_lt, nat_le, List, [], ◌∷◌, ◌++◌, length, remove, Option, None, Some, Result, Ok, Err, IsOk, false, if◌then◌else◌, slice_get, slice_set, find}
 use Rattle.std.specs.List.{flat_map, range_with_len}
 use Rattle.gaspi_types.specs.World.{World}
 use Rattle.gaspi_types.specs.declared.shapes.CallerId.{CallerId}
@@ -20,7 +20,8 @@ use Rattle.gaspi_model.specs.Step.{step, answer_in, room_taken, transfer_event, 
 use Rattle.gaspi_model.specs.Transfers.{transfers}
 use Rattle.gaspi_model.specs.declared.states.State.{State}
 use Rattle.gaspi_model.specs.declared.states.Why.{Why}
-use Rattle.plain_machine.specs.Looking.{join_event}
+use Rattle.gaspi_model.specs.CollectiveCalls.{join_event, is_joining}
+use Rattle.gaspi_model.specs.Calls.{recorded_reply}
 use Rattle.rank_script.specs.Runs.{Progress, Going, Over, going_on, advanced, stopped}
 use Rattle.rank_script.specs.WorldText.{is_script_of}
 use Rattle.rank_script.specs.declared.scripts.Halted.TheVariants as halts
@@ -175,3 +176,11 @@ pub record IsScheduled (w : World) (scripts : List Script) (seed limit : ℕ) (j
 -- the callers that wait have sections and have not ended
 abbrev pub AreActive : Turns → Type 0
 AreActive t = (place : ℕ) (x : Waiting) → slice_get t.waiting place ≡ Some x → is_active t.state x.caller.rank x.caller.thread ≡ true
+
+-- the caller that waits at a place
+abbrev pub IsCallerAt : Turns → ℕ → CallerId → Type 0
+IsCallerAt t place c = (w : Waiting) → slice_get t.waiting place ≡ Some w → w.caller ≡ c
+
+-- what a look at a call of a caller finds is no join, and the call with it is a step
+abbrev pub MayBeRecorded : State → CallerId → Call → Type 0
+MayBeRecorded s c call = (found : Ready) → answer_in s c.rank c.thread call ≡ Some found → (is_joining found ≡ false) × IsOk (step s (Called c call (recorded_reply found)))

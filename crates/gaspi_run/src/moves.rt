@@ -1,14 +1,15 @@
 //! What a turn does: the present call of a caller, its end, or a transfer.
 
-ghost use Rattle.std.specs.Prelude.{◌≡◌, ℕ, ◌+◌, ◌<◌, ◌≤◌, ◌++◌, ◌∷◌, [], OnOk, Ok, Some, true, false, length, slice_get};
+ghost use Rattle.std.specs.Prelude.{◌≡◌, ℕ, ◌+◌, ◌<◌, ◌≤◌, ◌++◌, ◌∷◌, [], OnOk, IsOk, Ok, Some, true, false, length, slice_get};
 ghost use Rattle.gaspi_types.specs.declared.replies.Ready.{Ready};
 ghost use Rattle.gaspi_types.specs.declared.replies.Ready.TheVariants.{Join, NotReady};
-ghost use Rattle.gaspi_model.specs.CollectiveCalls.{is_joining};
+ghost use Rattle.gaspi_types.specs.declared.events.Event.TheVariants.{Called};
+ghost use Rattle.gaspi_model.specs.CollectiveCalls.{is_joining, join_event};
 ghost use Rattle.gaspi_model.specs.Calls.{recorded_reply};
-ghost use Rattle.gaspi_model.specs.Step.{answer_in, transfer_event};
+ghost use Rattle.gaspi_model.specs.Step.{step, answer_in, is_active, is_full_in, transfer_event};
 ghost use Rattle.gaspi_model.specs.Transfers.{transfers};
 ghost use Rattle.gaspi_run.specs.Generator.{picked};
-ghost use Rattle.gaspi_run.specs.Schedule.{made, looks_of, recorded, looked, join_args, joined, joined_turn, is_full, going_turn, ending_turn, caller_turn, candidate_turn, candidates, turn, AreActive};
+ghost use Rattle.gaspi_run.specs.Schedule.{made, looks_of, recorded, looked, join_args, joined, joined_turn, is_full, going_turn, ending_turn, caller_turn, candidate_turn, candidates, turn, AreActive, IsCallerAt, MayBeRecorded};
 ghost use Rattle.plain_machine.specs.Looking.{IsFindingIn};
 ghost use Rattle.rank_script.specs.Runs.{advanced};
 ghost use Rattle.rank_script.specs.declared.scripts.ScriptLine.{ScriptLine};
@@ -16,7 +17,7 @@ ghost use Rattle.gaspi_run.specs.declared.turns.Waiting.{Waiting};
 
 use crate::turns::{Finished, Turns, Waiting};
 use gaspi_model::{StepFault, soundness};
-use gaspi_types::{Args, Call, Event, NoMemory, Ready, Reply, Timeout, Transfer, need};
+use gaspi_types::{Args, Call, Event, Invocation, NoMemory, Ready, Reply, Timeout, Transfer};
 use plain_calls::Finding;
 use rank_script::{Halted, RunOutcome, drawn};
 use std::alloc::Global;
@@ -69,32 +70,28 @@ fn bring_on(waiting: &mut Waiting<'_>, ready: &Ready)
     waiting.looks = 0;
 }
 
-/// Records a look at the present call of a waiting caller.
+/// Records a look at the present call of a waiting caller, which is a step.
 fn record_call(
     turns: &mut Turns,
     alloc: Global,
     place: usize,
-    call: &Call,
+    invocation: &Invocation<'_>,
     look: Finding,
 ) -> Result<(), NoMemory>
     requires place { place < length turns.old.waiting }
-    requires active { AreActive turns.old }
-    requires look { (w : Waiting) → slice_get turns.old.waiting place ≡ Some w → IsFindingIn look turns.old.state w.caller call.now }
+    requires caller { IsCallerAt turns.old place invocation.now.caller }
+    requires active { is_active turns.old.state invocation.now.caller.rank invocation.now.caller.thread ≡ true }
+    requires look { IsFindingIn look turns.old.state invocation.now.caller invocation.now.call.now }
     requires unjoined { is_joining look.ready ≡ false }
-    ensures { (w : Waiting) → slice_get turns.old.waiting place ≡ Some w → OnOk result (turns.new ≡ recorded turns.old place w call.now (recorded_reply look.ready)) }
+    requires steps { IsOk (step turns.old.state (Called invocation.now.caller invocation.now.call.now (recorded_reply look.ready))) }
+    ensures { (w : Waiting) → slice_get turns.old.waiting place ≡ Some w → OnOk result (turns.new ≡ recorded turns.old place w invocation.now.call.now (recorded_reply look.ready)) }
 {
-    let call = call.copy(alloc)?;
-    let caller = turns.waiting.at(place).caller;
+    let call = invocation.call.copy(alloc)?;
     bring_on(turns.waiting.at_mut(place), &look.ready);
-    match turns.state.record(alloc, caller, &call, look) {
-        Ok(reply) => {
-            let caller = turns.waiting.at(place).caller;
-            turns.journal.push(Event::Called(caller, call, reply))?;
-            Ok(())
-        }
-        Err(StepFault::Illegal(_)) => Ok(()),
-        Err(StepFault::NoMemory) => Err(NoMemory),
-    }
+    let reply = turns.state.record(alloc, invocation, look)?;
+    let event = Event::Called(invocation.caller, call, reply);
+    turns.journal.push(event)?;
+    Ok(())
 }
 
 /// The end of a waiting caller whose run is over.
@@ -114,27 +111,29 @@ fn end_caller(
     make(turns, alloc, end)
 }
 
-/// A look at the present call of a waiting caller that is not ready: at the last one a timeout is recorded.
+/// A look at the present call of a waiting caller that is not ready: at the last one a timeout is recorded, which is a step.
 fn look_again(
     turns: &mut Turns,
     alloc: Global,
     limit: u32,
     place: usize,
-    call: &Call,
+    invocation: &Invocation<'_>,
     timeout: Timeout,
     look: Finding,
 ) -> Result<(), NoMemory>
     requires place { place < length turns.old.waiting }
-    requires active { AreActive turns.old }
-    requires look { (w : Waiting) → slice_get turns.old.waiting place ≡ Some w → IsFindingIn look turns.old.state w.caller call.now }
+    requires caller { IsCallerAt turns.old place invocation.now.caller }
+    requires active { is_active turns.old.state invocation.now.caller.rank invocation.now.caller.thread ≡ true }
+    requires look { IsFindingIn look turns.old.state invocation.now.caller invocation.now.call.now }
     requires not_ready { look.ready ≡ NotReady }
-    ensures { (w : Waiting) (line : ScriptLine) → slice_get turns.old.waiting place ≡ Some w → line.call ≡ call.now → line.timeout ≡ timeout
+    requires steps { IsOk (step turns.old.state (Called invocation.now.caller invocation.now.call.now (recorded_reply look.ready))) }
+    ensures { (w : Waiting) (line : ScriptLine) → slice_get turns.old.waiting place ≡ Some w → line.call ≡ invocation.now.call.now → line.timeout ≡ timeout
         → OnOk result (turns.new ≡ looked limit turns.old place w line) }
 {
     let looks = turns.waiting.at(place).looks;
     let most = looks_of(limit, timeout);
     if u64::from(most) <= u64::from(looks) + 1 {
-        return record_call(turns, alloc, place, call, look);
+        return record_call(turns, alloc, place, invocation, look);
     }
     turns.waiting.at_mut(place).looks = looks + 1;
     Ok(())
@@ -155,66 +154,58 @@ fn join_args(look: Finding) -> Option<Args>
     }
 }
 
-/// The join of the present call of a waiting caller to its group, where a look found that it may. (GASPI: collectives)
+/// The join of the present call of a waiting caller to its group, where a look found that it may; it is a step. (GASPI: collectives)
 fn join_group(
     turns: &mut Turns,
     alloc: Global,
-    place: usize,
-    call: &Call,
+    invocation: &Invocation<'_>,
     args: Args,
 ) -> Result<(), NoMemory>
-    requires place { place < length turns.old.waiting }
-    requires active { AreActive turns.old }
-    requires joins { (w : Waiting) → slice_get turns.old.waiting place ≡ Some w → answer_in turns.old.state w.caller.rank w.caller.thread call.now ≡ Some (Join args) }
-    ensures joined { (w : Waiting) (line : ScriptLine) → slice_get turns.old.waiting place ≡ Some w → line.call ≡ call.now → OnOk result (turns.new ≡ joined turns.old w line args) }
-    ensures active { OnOk result (AreActive turns.new) }
+    requires active { is_active turns.old.state invocation.now.caller.rank invocation.now.caller.thread ≡ true }
+    requires joins { answer_in turns.old.state invocation.now.caller.rank invocation.now.caller.thread invocation.now.call.now ≡ Some (Join args) }
+    requires steps { IsOk (step turns.old.state (join_event invocation.now.caller invocation.now.call.now args)) }
+    ensures joined { (w : Waiting) (line : ScriptLine) → w.caller ≡ invocation.now.caller → line.call ≡ invocation.now.call.now → OnOk result (turns.new ≡ joined turns.old w line args) }
+    ensures stepped { OnOk result (step turns.old.state (join_event invocation.now.caller invocation.now.call.now args) ≡ Ok turns.new.state) }
+    ensures active { OnOk result (is_active turns.new.state invocation.now.caller.rank invocation.now.caller.thread ≡ true) }
     ensures waiting { turns.new.waiting ≡ turns.old.waiting }
 {
     soundness();
-    let caller = turns.waiting.at(place).caller;
-    match turns.state.join(alloc, caller, call, args) {
-        Ok(event) => {
-            turns.journal.push(event)?;
-            Ok(())
-        }
-        Err(StepFault::Illegal(_)) => Ok(()),
-        Err(StepFault::NoMemory) => Err(NoMemory),
-    }
+    let event = turns.state.join(alloc, invocation, args)?;
+    turns.journal.push(event)?;
+    Ok(())
 }
 
-/// The look at the present call of a waiting caller goes on, which has joined its group.
+/// The look at the present call of a waiting caller goes on, which has joined its group: what it finds is no join, and may be recorded.
 fn look_joined(
     turns: &mut Turns,
     alloc: Global,
     limit: u32,
     place: usize,
-    call: &Call,
+    invocation: &Invocation<'_>,
     timeout: Timeout,
 ) -> Result<(), NoMemory>
     requires place { place < length turns.old.waiting }
-    requires active { AreActive turns.old }
-    ensures { (w : Waiting) (line : ScriptLine) → slice_get turns.old.waiting place ≡ Some w → line.call ≡ call.now → line.timeout ≡ timeout
+    requires caller { IsCallerAt turns.old place invocation.now.caller }
+    requires active { is_active turns.old.state invocation.now.caller.rank invocation.now.caller.thread ≡ true }
+    requires recordable { MayBeRecorded turns.old.state invocation.now.caller invocation.now.call.now }
+    ensures { (w : Waiting) (line : ScriptLine) → slice_get turns.old.waiting place ≡ Some w → line.call ≡ invocation.now.call.now → line.timeout ≡ timeout
         → OnOk result (turns.new ≡ joined_turn limit turns.old place w line) }
 {
-    let caller = turns.waiting.at(place).caller;
-    let found = turns.state.look(alloc, caller, call)?;
+    let found = turns.state.look(alloc, invocation)?;
     match found.ready {
-        Ready::Reply(_) => record_call(turns, alloc, place, call, found),
+        Ready::Reply(_) => record_call(turns, alloc, place, invocation, found),
         Ready::Join(_) => Ok(()),
-        Ready::NotReady => look_again(turns, alloc, limit, place, call, timeout, found),
+        Ready::NotReady => look_again(turns, alloc, limit, place, invocation, timeout, found),
     }
 }
 
 /// Whether the rank of a waiting caller has no room for what its present call needs.
-fn is_full(turns: &Turns, place: usize, call: &Call) -> bool
-    requires place { place < length turns.now.waiting }
-    requires active { AreActive turns.now }
-    ensures { (w : Waiting) (line : ScriptLine) → slice_get turns.now.waiting place ≡ Some w → line.call ≡ call.now → result ≡ is_full turns.now.state w.caller line }
+fn is_full(turns: &Turns, invocation: &Invocation<'_>) -> bool
+    requires active { is_active turns.now.state invocation.now.caller.rank invocation.now.caller.thread ≡ true }
+    ensures room { result ≡ is_full_in turns.now.state invocation.now.caller invocation.now.call.now }
+    ensures full { (w : Waiting) (line : ScriptLine) → w.caller ≡ invocation.now.caller → line.call ≡ invocation.now.call.now → result ≡ is_full turns.now.state w.caller line }
 {
-    let caller = turns.waiting.at(place).caller;
-    let pending = turns.state.is_pending(caller, call);
-    let rank = turns.waiting.at(place).caller.rank;
-    turns.state.room(rank) < need(call, pending, false)
+    turns.state.is_full(invocation)
 }
 
 /// The turn of a waiting caller whose script goes on.
@@ -231,26 +222,44 @@ fn go_on(
     ensures { (w : Waiting) (line : ScriptLine) → slice_get turns.old.waiting place ≡ Some w → line.call ≡ call.now → line.timeout ≡ timeout
         → OnOk result (turns.new ≡ going_turn limit turns.old place w line) }
 {
-    if is_full(turns, place, call) {
+    let caller = turns.waiting.at(place).caller;
+    let invocation = Invocation::new(caller, call);
+    go_on_with(turns, alloc, limit, place, &invocation, timeout)
+}
+
+/// The turn of a waiting caller whose script goes on, with its present call.
+fn go_on_with(
+    turns: &mut Turns,
+    alloc: Global,
+    limit: u32,
+    place: usize,
+    invocation: &Invocation<'_>,
+    timeout: Timeout,
+) -> Result<(), NoMemory>
+    requires place { place < length turns.old.waiting }
+    requires caller { IsCallerAt turns.old place invocation.now.caller }
+    requires active { is_active turns.old.state invocation.now.caller.rank invocation.now.caller.thread ≡ true }
+    ensures { (w : Waiting) (line : ScriptLine) → slice_get turns.old.waiting place ≡ Some w → line.call ≡ invocation.now.call.now → line.timeout ≡ timeout
+        → OnOk result (turns.new ≡ going_turn limit turns.old place w line) }
+{
+    turns.state.limits();
+    if is_full(turns, invocation) {
         let waiting = turns.waiting.at_mut(place);
         waiting.cursor.stop(Halted::Limit);
         waiting.looks = 0;
         return Ok(());
     }
-    let caller = turns.waiting.at(place).caller;
-    let look = turns.state.look(alloc, caller, call)?;
-    if matches!(look.ready, Ready::NotReady) {
-        return look_again(turns, alloc, limit, place, call, timeout, look);
-    }
-    if matches!(look.ready, Ready::Reply(_)) {
-        return record_call(turns, alloc, place, call, look);
-    }
-    match join_args(look) {
-        Some(args) => {
-            join_group(turns, alloc, place, call, args)?;
-            look_joined(turns, alloc, limit, place, call, timeout)
-        }
-        None => Ok(()),
+    let look = turns.state.look(alloc, invocation)?;
+    match look.ready {
+        Ready::NotReady => look_again(turns, alloc, limit, place, invocation, timeout, look),
+        Ready::Reply(_) => record_call(turns, alloc, place, invocation, look),
+        Ready::Join(_) => match join_args(look) {
+            Some(args) => {
+                join_group(turns, alloc, invocation, args)?;
+                look_joined(turns, alloc, limit, place, invocation, timeout)
+            }
+            None => Ok(()),
+        },
     }
 }
 

@@ -85,8 +85,11 @@ is_end call = (row_of call).ends
 abbrev pub is_collective : Call → Bool
 is_collective call = is_some (row_of call).group
 
--- own choice: the events that the call may bring: itself, the two transfers of each of its entries, and its join, where it is a
--- collective and none is pending for its caller on that group. The end of a caller has its room from the start.
+-- own choice: the events that a call of that row may bring: itself, the two transfers of each of its entries, and its join, where it is
+-- a collective and none is pending for its caller on that group. The end of a caller has its room from the start.
+abbrev pub need_in : CallRow → Bool → Bool → ℕ
+need_in row pending ended =
+    if row.ends && not ended then 0 else (if is_some row.group && not pending then 2 else 1 + 2 * entries_in row.posting)
+
 abbrev pub need_of : Call → Bool → Bool → ℕ
-need_of call pending ended =
-    if is_end call && not ended then 0 else (if is_collective call && not pending then 2 else 1 + 2 * entries_of call)
+need_of call pending ended = need_in (row_of call) pending ended

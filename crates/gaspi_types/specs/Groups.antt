@@ -87,5 +87,8 @@ fix_checks None mask = Ok tt
 fix_checks (Some kept) mask = check (kept == mask) (GroupMismatch kept)
 
 -- a group of a rank may be built or dropped only where no collective of the rank is pending on it, in any thread
+abbrev pub idle_check : Option Pending → Result (Unit {0}) Refusal
+idle_check pending = absent pending (λ p. ActiveCollective p.thread)
+
 abbrev pub idle_checks : List (Option Pending) → ℕ → Result (Unit {0}) Refusal
-idle_checks pending id = absent (entry_at pending id) (λ p. ActiveCollective p.thread)
+idle_checks pending id = idle_check (entry_at pending id)

@@ -1,7 +1,7 @@
 //! What calls share: a row for each call.
 
 ghost use Rattle.std.specs.Prelude.{◌≡◌, ◌≤◌, OnSome, Some, None, true, false};
-ghost use Rattle.gaspi_types.specs.CallRows.{row_of, row_touching, row_posting, row_joining, list_entries, entries_in, need_of};
+ghost use Rattle.gaspi_types.specs.CallRows.{row_of, row_touching, row_posting, row_joining, list_entries, entries_in, need_in, need_of};
 ghost use Rattle.gaspi_types.specs.declared.touches.Touch.TheVariants.{Nothing};
 
 use crate::calls::{Call, is_list_length};
@@ -100,6 +100,21 @@ impl CallRow {
             None => 0,
         }
     }
+
+    /// How many events of its caller's rank a call of this row needs room for: none for the end of a caller that has not
+    /// ended, one and two for each entry for a post, two for a collective where none is pending for the caller on that group,
+    /// which joins first, and one for every other call, also for a list post whose length is outside its limits. (own choice)
+    pub fn need(&self, pending: bool, ended: bool) -> u64
+        ensures { result ≡ need_in self.now pending ended }
+    {
+        if self.ends && !ended {
+            return 0;
+        }
+        if self.group.is_some() && !pending {
+            return 2;
+        }
+        1 + 2 * u64::from(self.entries())
+    }
 }
 
 /// How many entries a list post asks for: one for each of its items, and so many more. Where its length is outside its
@@ -181,18 +196,9 @@ impl Call {
     }
 }
 
-/// How many events of its caller's rank a call needs room for: none for the end of a caller that has not ended, one
-/// and two for each entry for a post, two for a collective where none is pending for the caller on that group, which joins
-/// first, and one for every other call, also for a list post whose length is outside its limits.
+/// How many events of its caller's rank a call needs room for, by its row. (own choice)
 pub fn need(call: &Call, pending: bool, ended: bool) -> u64
     ensures { result ≡ need_of call.now pending ended }
 {
-    let row = call.row();
-    if row.ends && !ended {
-        return 0;
-    }
-    if row.group.is_some() && !pending {
-        return 2;
-    }
-    1 + 2 * u64::from(row.entries())
+    call.row().need(pending, ended)
 }

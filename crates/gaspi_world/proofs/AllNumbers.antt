@@ -7,7 +7,7 @@ use Rattle.gaspi_types.specs.declared.events.Event.{Event}
 use Rattle.gaspi_types.specs.declared.shapes.CallerId.{CallerId}
 use Rattle.commit_table.specs.Views.{new_pass}
 use Rattle.gaspi_world.specs.Callers.{IsPassOf}
-use Rattle.gaspi_world.specs.WorldMachine.{number_of}
+use Rattle.gaspi_model.specs.Parties.{number_of}
 use Rattle.gaspi_world.specs.declared.starts.Start.{Start}
 use Rattle.gaspi_world.proofs.Numbers.{counts-is, there-any, number-below, same-number}
 

@@ -11,7 +11,8 @@ use Rattle.commit_table.specs.declared.views.Known.{Known}
 use Rattle.gaspi_world.specs.Closing.{HaveSeen, HaveDone}
 use Rattle.gaspi_world.specs.Shards.{shard_part}
 use Rattle.gaspi_world.specs.WorldLaws.{placed, part_after, ran, came}
-use Rattle.gaspi_world.specs.WorldMachine.{WorldPart, number_of, world_machine}
+use Rattle.gaspi_world.specs.WorldMachine.{WorldPart, world_machine}
+use Rattle.gaspi_model.specs.Parties.{number_of}
 use Rattle.gaspi_world.specs.declared.shards.Placed.{Placed}
 use Rattle.gaspi_world.specs.declared.shards.WorldShard.{WorldShard}
 use Rattle.gaspi_world.proofs.OwnEvents.{mine-events}

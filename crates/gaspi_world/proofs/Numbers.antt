@@ -11,7 +11,7 @@ use Rattle.gaspi_types.proofs.Chains.{both}
 use Rattle.commit_table.specs.declared.views.Known.{Known}
 use Rattle.gaspi_model.proofs.Sound.Turns.{in-range}
 use Rattle.gaspi_world.specs.Callers.{numbered, all_numbered, IsPassOf}
-use Rattle.gaspi_world.specs.WorldMachine.{comes_before, number_of}
+use Rattle.gaspi_model.specs.Parties.{comes_before, number_of}
 
 abbrev key : CallerId → ℕ
 key c = c.rank * 4 + c.thread

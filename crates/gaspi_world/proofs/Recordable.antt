@@ -19,7 +19,7 @@ use Rattle.gaspi_types.specs.declared.replies.Reply.TheVariants.{Refused}
 use Rattle.gaspi_types.specs.declared.shapes.CallerId.{CallerId}
 use Rattle.gaspi_types.specs.declared.shapes.Limits.{Limits}
 use Rattle.gaspi_model.specs.Calls.{call_finds, ready_of, answer, recorded_reply, charge, peer_after}
-use Rattle.gaspi_model.specs.CollectiveCalls.{collective_answer, is_reply_of, is_joining}
+use Rattle.gaspi_model.specs.CollectiveCalls.{collective_answer, is_reply_of, is_joining, group_of, join_event}
 use Rattle.gaspi_model.specs.Parts.{Parts, group_or_none, parts_of, with_parts, touched_of, with_worked_memory}
 use Rattle.gaspi_model.specs.Sound.{IsSound}
 use Rattle.gaspi_model.specs.State.{owed, thread_at, is_running}
@@ -32,7 +32,6 @@ use Rattle.gaspi_model.proofs.Ended.Activity.{active}
 use Rattle.gaspi_model.proofs.Listed.Enabled.{called-is_step, collective-needs, ok-then}
 use Rattle.gaspi_model.proofs.Listed.Joining.{join-is_step, joined-pends, pending-joins-not}
 use Rattle.gaspi_model.proofs.Sound.Steps.{limits-stay, steps}
-use Rattle.plain_machine.specs.Looking.{group_of, join_event}
 
 -- What an ended caller is answered.
 

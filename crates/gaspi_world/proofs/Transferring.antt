@@ -21,7 +21,8 @@ use Rattle.commit_table.specs.declared.views.Known.{Known}
 use Rattle.gaspi_world.specs.Holds.{Holds}
 use Rattle.gaspi_world.specs.Moves.{HasNoTransfer, HasActive, HaveEnded, Moves, MovesHeld}
 use Rattle.gaspi_world.specs.Shards.{shard_part}
-use Rattle.gaspi_world.specs.WorldMachine.{WorldPart, party_of, world_machine}
+use Rattle.gaspi_world.specs.WorldMachine.{WorldPart, world_machine}
+use Rattle.gaspi_model.specs.Parties.{party_of}
 use Rattle.gaspi_world.specs.declared.moving.Moving.{Moving}
 use Rattle.gaspi_world.specs.declared.moving.Moving.TheVariants.{Moved, Busy, Empty, Ended}
 use Rattle.gaspi_world.proofs.Holdings.{reached-legal}

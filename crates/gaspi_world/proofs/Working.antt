@@ -16,20 +16,20 @@ use Rattle.gaspi_types.specs.declared.replies.Reply.{Reply}
 use Rattle.gaspi_types.specs.declared.replies.Reply.TheVariants as replies
 use Rattle.gaspi_types.specs.declared.shapes.CallerId.{CallerId}
 use Rattle.gaspi_model.specs.Calls.{recorded_reply}
-use Rattle.gaspi_model.specs.CollectiveCalls.{is_joining}
-use Rattle.gaspi_model.specs.Step.{answer_in, is_active, is_pending, room_taken}
+use Rattle.gaspi_model.specs.CollectiveCalls.{is_joining, join_event}
+use Rattle.gaspi_model.specs.Step.{answer_in, is_active, is_pending, room_taken, is_full_in}
 use Rattle.gaspi_model.specs.declared.states.State.{State}
-use Rattle.plain_machine.specs.Looking.{join_event}
 use Rattle.timeout_state.specs.declared.budget.Look.{Look}
 use Rattle.timeout_state.specs.declared.budget.Look.TheVariants.{More, Final}
 use Rattle.commit_table.specs.Attempts.{LookedOnly, Missed}
 use Rattle.commit_table.specs.Views.{mine_after, gave_back}
 use Rattle.commit_table.specs.declared.views.Known.{Known}
-use Rattle.gaspi_world.specs.Attempts.{is_waiting, is_full_in, found_after, is_full_after, GoesOn, HasCommitted, LookedOnce, IsBusy, Attempted}
+use Rattle.gaspi_world.specs.Attempts.{is_waiting, found_after, is_full_after, GoesOn, HasCommitted, LookedOnce, IsBusy, Attempted}
 use Rattle.gaspi_world.specs.Callers.{IsPassOf}
 use Rattle.gaspi_world.specs.Holds.{Holds, Added}
 use Rattle.gaspi_world.specs.Shards.{shard_part}
-use Rattle.gaspi_world.specs.WorldMachine.{WorldPart, world_machine, party_of, caller_party, number_of}
+use Rattle.gaspi_world.specs.WorldMachine.{WorldPart, world_machine}
+use Rattle.gaspi_model.specs.Parties.{party_of, caller_party, number_of}
 use Rattle.gaspi_world.specs.Works.{is_early, Settled, Worked, WorkedOut}
 use Rattle.gaspi_world.specs.declared.attempts.Halt.{Halt}
 use Rattle.gaspi_world.specs.declared.attempts.Halt.TheVariants.{Busy, NotYet, NoMemory, EventLimit}

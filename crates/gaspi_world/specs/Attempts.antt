@@ -1,7 +1,6 @@
 -- What an attempt of a call tells.
-use Rattle.std.specs.Prelude.{◌≡◌, ◌⊎◌, ℕ, ◌+◌, Bool, true, false, not, nat_lt, List, [], ◌∷◌, ◌++◌, length, Option, None, Some, Result, Ok, Err}
+use Rattle.std.specs.Prelude.{◌≡◌, ◌⊎◌, ℕ, Bool, true, false, List, [], ◌∷◌, ◌++◌, length, Option, None, Some, Result, Ok, Err}
 use mathlib.Core.List.{IsPrefix}
-use Rattle.gaspi_types.specs.CallRows.{need_of}
 use Rattle.gaspi_types.specs.World.{World}
 use Rattle.gaspi_types.specs.declared.calls.Call.{Call}
 use Rattle.gaspi_types.specs.declared.events.Event.{Event}
@@ -12,10 +11,10 @@ use Rattle.gaspi_types.specs.declared.replies.Ready.TheVariants as ready
 use Rattle.gaspi_types.specs.declared.replies.Reply.{Reply}
 use Rattle.gaspi_types.specs.declared.replies.Reply.TheVariants.{Timeout}
 use Rattle.gaspi_types.specs.declared.shapes.CallerId.{CallerId}
-use Rattle.gaspi_model.specs.Step.{reached, is_legal, is_active, is_pending, answer_in, room_taken}
+use Rattle.gaspi_model.specs.Step.{reached, is_legal, is_pending, is_full_in, answer_in}
 use Rattle.gaspi_model.specs.declared.states.State.{State}
 use Rattle.gaspi_model.specs.declared.states.Why.{Why}
-use Rattle.plain_machine.specs.Looking.{join_event}
+use Rattle.gaspi_model.specs.CollectiveCalls.{join_event}
 use Rattle.timeout_state.specs.declared.budget.Look.{Look}
 use Rattle.timeout_state.specs.declared.budget.Look.TheVariants.{More, Final}
 use Rattle.commit_table.specs.Attempts.{Missed}
@@ -32,10 +31,6 @@ is_waiting None = false
 is_waiting (Some (ready.Reply reply)) = false
 is_waiting (Some (ready.Join args)) = true
 is_waiting (Some ready.NotReady) = true
-
--- the caller's rank has no room for what the call needs
-abbrev pub is_full_in : State → CallerId → Call → Bool
-is_full_in s c call = nat_lt s.limits.events (room_taken s c.rank + need_of call (is_pending s c.rank c.thread call) (not (is_active s c.rank c.thread)))
 
 module _ (w : World) (c : CallerId) (call : Call) where
   -- what a look at the call answers after a history

@@ -6,7 +6,7 @@ use Rattle.gaspi_types.specs.declared.events.Event.{Event}
 use Rattle.gaspi_types.specs.declared.events.Event.TheVariants.{Called, Joined, Take, Put}
 use Rattle.gaspi_types.specs.declared.shapes.CallerId.{CallerId}
 use Rattle.commit_table.specs.declared.views.Known.{Known}
-use Rattle.gaspi_world.specs.WorldMachine.{number_of}
+use Rattle.gaspi_model.specs.Parties.{number_of}
 
 abbrev pub numbered : List CallerId → ℕ → Option CallerId
 numbered callers number = find (λ (c : CallerId). number_of callers c == number) callers

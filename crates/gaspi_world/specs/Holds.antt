@@ -9,7 +9,8 @@ use Rattle.commit_table.specs.Views.{held_at, mine_after}
 use Rattle.commit_table.specs.declared.views.Known.{Known}
 use Rattle.gaspi_world.specs.Shards.{shard_part}
 use Rattle.gaspi_world.specs.WorldLaws.{placed}
-use Rattle.gaspi_world.specs.WorldMachine.{WorldPart, party_of, world_machine}
+use Rattle.gaspi_world.specs.WorldMachine.{WorldPart, world_machine}
+use Rattle.gaspi_model.specs.Parties.{party_of}
 
 module _ {S : Type 0} (w : World) where
   -- the pass holds the shard and no other, what lies there stands for all that the pass has seen, and the events of the pass's

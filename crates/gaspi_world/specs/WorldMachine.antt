@@ -1,10 +1,8 @@
 -- The machine that the threads of a world commit. Its whole state is one shard, with the events that were recorded, each at its place.
-use Rattle.std.specs.Prelude.{◌≡◌, ℕ, ◌+◌, ◌*◌, nat_lt, Bool, List, [], ◌∷◌, ◌++◌, Option, None, Some, Result, Ok, Err, count_by, if◌then◌else◌}
-use Rattle.std.specs.List.{list_any}
-use Rattle.gaspi_types.specs.World.{World, is_caller}
+use Rattle.std.specs.Prelude.{◌≡◌, ℕ, ◌*◌, List, [], ◌∷◌, ◌++◌, Option, None, Some, Result, Ok, Err}
+use Rattle.gaspi_types.specs.World.{World}
 use Rattle.gaspi_types.specs.declared.events.Event.{Event}
-use Rattle.gaspi_types.specs.declared.events.Event.TheVariants.{Called, Joined, Take, Put}
-use Rattle.gaspi_types.specs.declared.shapes.CallerId.{CallerId}
+use Rattle.gaspi_model.specs.Parties.{party_of}
 use Rattle.gaspi_model.specs.State.{opening}
 use Rattle.gaspi_model.specs.Step.{step}
 use Rattle.gaspi_model.specs.declared.states.State.{State}
@@ -17,23 +15,6 @@ pub record WorldPart : Type 0 where
   pub state : State
   pub journal : List (ℕ × Event)
   pub room : ℕ
-
--- callers by rank, and then by thread: the number of a caller is how many declared ones come before it
-abbrev pub comes_before : CallerId → CallerId → Bool
-comes_before a b = nat_lt (a.rank * 4 + a.thread) (b.rank * 4 + b.thread)
-
-abbrev pub number_of : List CallerId → CallerId → ℕ
-number_of callers c = count_by (λ d. comes_before d c) callers
-
-abbrev pub caller_party : List CallerId → CallerId → Option ℕ
-caller_party callers c = if list_any (is_caller c.rank c.thread) callers then Some (number_of callers c) else None
-
--- a call and a join are their caller's alone, a transfer may be made by every worker
-abbrev pub party_of : World → Event → Option ℕ
-party_of w (Called c call reply) = caller_party w.callers c
-party_of w (Joined c id args) = caller_party w.callers c
-party_of w (Take origin queue target number outcome) = None
-party_of w (Put origin queue target number outcome) = None
 
 -- the state after an event, or none where it is no step
 abbrev pub stepped_part : WorldPart → List WorldPart → Result State Why → Option (WorldPart × List WorldPart)

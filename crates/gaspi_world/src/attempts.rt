@@ -7,11 +7,11 @@ ghost use Rattle.gaspi_types.specs.declared.calls.Call.TheVariants.{End};
 ghost use Rattle.gaspi_types.specs.declared.events.Event.TheVariants.{Called};
 ghost use Rattle.gaspi_types.specs.declared.replies.Ready.TheVariants.{Join};
 ghost use Rattle.gaspi_model.specs.Calls.{recorded_reply};
-ghost use Rattle.gaspi_model.specs.CollectiveCalls.{is_joining};
-ghost use Rattle.gaspi_model.specs.Step.{step, answer_in, is_declared};
-ghost use Rattle.plain_machine.specs.Looking.{IsFindingIn, join_event};
+ghost use Rattle.gaspi_model.specs.CollectiveCalls.{is_joining, join_event};
+ghost use Rattle.gaspi_model.specs.Step.{step, answer_in, is_declared, is_full_in};
+ghost use Rattle.plain_machine.specs.Looking.{IsFindingIn};
 ghost use Rattle.commit_table.specs.Calls.{IsOf, HoldsNone};
-ghost use Rattle.gaspi_world.specs.Attempts.{is_full_in, is_full_after, Attempted};
+ghost use Rattle.gaspi_world.specs.Attempts.{is_full_after, Attempted};
 ghost use Rattle.gaspi_world.specs.Callers.{IsPassOf};
 ghost use Rattle.gaspi_world.specs.Holds.{Holds, Added};
 ghost use Rattle.gaspi_world.specs.Shards.{shard_part};
@@ -23,8 +23,7 @@ use crate::shards::WorldShard;
 use crate::starts::Start;
 use crate::worlds::Pass;
 use commit_table::CommitTable;
-use gaspi_model::StepFault;
-use gaspi_types::{Args, Call, CallerId, Event, Ready, Reply};
+use gaspi_types::{Args, Event, Invocation, Ready, Reply};
 use plain_calls::Finding;
 use std::alloc::Global;
 use timeout_state::Look;
@@ -83,49 +82,40 @@ fn is_early(found: &Finding, look: Look) -> bool
     }
 }
 
-/// Whether the caller's rank has no room for what a call needs.
-fn is_full(shard: &WorldShard, caller: &CallerId, call: &Call) -> bool
-    requires { is_declared shard.now.machine caller.now.rank caller.now.thread ≡ true }
-    ensures { result ≡ is_full_in shard.now.machine caller.now call.now }
-{
-    shard.machine.room(caller.rank) < shard.machine.need(*caller, call)
-}
-
 /// Records a call as it was found, and commits it. All memory is taken before anything changes.
 fn record(
     table: &CommitTable<Start>,
     pass: &mut Pass,
     alloc: Global,
     shard: &mut WorldShard,
-    caller: &CallerId,
-    call: &Call,
+    invocation: &Invocation<'_>,
     found: Finding,
 ) -> Result<Reply, Halt>
     requires pass { IsOf table.now pass.old }
-    requires caller { IsPassOf table.now.start.shape caller.now pass.old.known }
+    requires caller { IsPassOf table.now.start.shape invocation.now.caller pass.old.known }
     requires held { Holds table.now.start.shape (shard_part shard.old) pass.old.known }
-    requires declared { is_declared shard.old.machine caller.now.rank caller.now.thread ≡ true }
-    requires look { IsFindingIn found shard.old.machine caller.now call.now }
-    requires answer { answer_in shard.old.machine caller.now.rank caller.now.thread call.now ≡ Some found.ready }
+    requires declared { is_declared shard.old.machine invocation.now.caller.rank invocation.now.caller.thread ≡ true }
+    requires look { IsFindingIn found shard.old.machine invocation.now.caller invocation.now.call.now }
+    requires answer { answer_in shard.old.machine invocation.now.caller.rank invocation.now.caller.thread invocation.now.call.now ≡ Some found.ready }
     requires unjoined { is_joining found.ready ≡ false }
-    requires step { IsOk (step shard.old.machine (Called caller.now call.now (recorded_reply found.ready))) }
+    requires step { IsOk (step shard.old.machine (Called invocation.now.caller invocation.now.call.now (recorded_reply found.ready))) }
     ensures table { pass.new.table ≡ pass.old.table }
     ensures held { Holds table.now.start.shape (shard_part shard.new) pass.new.known }
     ensures reply { IfOk result (λ reply. reply ≡ recorded_reply found.ready) }
-    ensures added { IfOk result (λ reply. Added table.now.start.shape pass.old.known (Called caller.now call.now reply) pass.new.known) }
+    ensures added { IfOk result (λ reply. Added table.now.start.shape pass.old.known (Called invocation.now.caller invocation.now.call.now reply) pass.new.known) }
     ensures halt { IfErr result (λ halt. (halt ≡ NoMemory) × (pass.new.known ≡ pass.old.known)) }
-    ensures ends { call.now ≡ End → result ≢ Err NoMemory }
+    ensures ends { invocation.now.call.now ≡ End → result ≢ Err NoMemory }
 {
-    let (Ok(reply), Ok(copy)) = (recorded_reply(alloc, &found), call.copy(alloc)) else {
+    let (Ok(reply), Ok(call)) = (recorded_reply(alloc, &found), invocation.call.copy(alloc)) else {
         return Err(Halt::NoMemory);
     };
-    match shard.machine.record(alloc, *caller, &copy, found) {
+    match shard.machine.record(alloc, invocation, found) {
         Ok(recorded) => {
-            advance(table, pass, shard, Event::Called(*caller, copy, recorded));
+            let event = Event::Called(invocation.caller, call, recorded);
+            advance(table, pass, shard, event);
             Ok(reply)
         }
-        Err(StepFault::Illegal(_)) => unreachable!(),
-        Err(StepFault::NoMemory) => Err(Halt::NoMemory),
+        Err(gaspi_types::NoMemory) => Err(Halt::NoMemory),
     }
 }
 
@@ -135,28 +125,27 @@ fn settle(
     pass: &mut Pass,
     alloc: Global,
     shard: &mut WorldShard,
-    caller: &CallerId,
-    call: &Call,
+    invocation: &Invocation<'_>,
     look: Look,
     found: Finding,
 ) -> Result<Reply, Halt>
     requires pass { IsOf table.now pass.old }
-    requires caller { IsPassOf table.now.start.shape caller.now pass.old.known }
+    requires caller { IsPassOf table.now.start.shape invocation.now.caller pass.old.known }
     requires held { Holds table.now.start.shape (shard_part shard.old) pass.old.known }
-    requires declared { is_declared shard.old.machine caller.now.rank caller.now.thread ≡ true }
-    requires look { IsFindingIn found shard.old.machine caller.now call.now }
-    requires answer { answer_in shard.old.machine caller.now.rank caller.now.thread call.now ≡ Some found.ready }
+    requires declared { is_declared shard.old.machine invocation.now.caller.rank invocation.now.caller.thread ≡ true }
+    requires look { IsFindingIn found shard.old.machine invocation.now.caller invocation.now.call.now }
+    requires answer { answer_in shard.old.machine invocation.now.caller.rank invocation.now.caller.thread invocation.now.call.now ≡ Some found.ready }
     requires unjoined { is_joining found.ready ≡ false }
-    requires step { IsOk (step shard.old.machine (Called caller.now call.now (recorded_reply found.ready))) }
+    requires step { IsOk (step shard.old.machine (Called invocation.now.caller invocation.now.call.now (recorded_reply found.ready))) }
     ensures table { pass.new.table ≡ pass.old.table }
     ensures held { Holds table.now.start.shape (shard_part shard.new) pass.new.known }
-    ensures settled { Settled table.now.start.shape caller.now call.now found.ready look pass.old.known result pass.new.known }
-    ensures ends { call.now ≡ End → result ≢ Err NoMemory }
+    ensures settled { Settled table.now.start.shape invocation.now.caller invocation.now.call.now found.ready look pass.old.known result pass.new.known }
+    ensures ends { invocation.now.call.now ≡ End → result ≢ Err NoMemory }
 {
     if is_early(&found, look) {
         return Err(Halt::NotYet);
     }
-    record(table, pass, alloc, shard, caller, call, found)
+    record(table, pass, alloc, shard, invocation, found)
 }
 
 /// Joins a collective to its group, where a look found that it may, and commits the join. (GASPI: collectives)
@@ -165,29 +154,27 @@ fn join(
     pass: &mut Pass,
     alloc: Global,
     shard: &mut WorldShard,
-    caller: &CallerId,
-    call: &Call,
+    invocation: &Invocation<'_>,
     args: Args,
 ) -> Result<(), Halt>
     requires pass { IsOf table.now pass.old }
-    requires caller { IsPassOf table.now.start.shape caller.now pass.old.known }
+    requires caller { IsPassOf table.now.start.shape invocation.now.caller pass.old.known }
     requires held { Holds table.now.start.shape (shard_part shard.old) pass.old.known }
-    requires declared { is_declared shard.old.machine caller.now.rank caller.now.thread ≡ true }
-    requires joins { answer_in shard.old.machine caller.now.rank caller.now.thread call.now ≡ Some (Join args) }
-    requires step { IsOk (step shard.old.machine (join_event caller.now call.now args)) }
+    requires declared { is_declared shard.old.machine invocation.now.caller.rank invocation.now.caller.thread ≡ true }
+    requires joins { answer_in shard.old.machine invocation.now.caller.rank invocation.now.caller.thread invocation.now.call.now ≡ Some (Join args) }
+    requires step { IsOk (step shard.old.machine (join_event invocation.now.caller invocation.now.call.now args)) }
     ensures table { pass.new.table ≡ pass.old.table }
     ensures held { Holds table.now.start.shape (shard_part shard.new) pass.new.known }
-    ensures joined { IfOk result (λ done. step shard.old.machine (join_event caller.now call.now args) ≡ Ok shard.new.machine) }
-    ensures added { IfOk result (λ done. Added table.now.start.shape pass.old.known (join_event caller.now call.now args) pass.new.known) }
+    ensures joined { IfOk result (λ done. step shard.old.machine (join_event invocation.now.caller invocation.now.call.now args) ≡ Ok shard.new.machine) }
+    ensures added { IfOk result (λ done. Added table.now.start.shape pass.old.known (join_event invocation.now.caller invocation.now.call.now args) pass.new.known) }
     ensures halt { IfErr result (λ halt. (halt ≡ NoMemory) × (pass.new.known ≡ pass.old.known)) }
 {
-    match shard.machine.join(alloc, *caller, call, args) {
+    match shard.machine.join(alloc, invocation, args) {
         Ok(event) => {
             advance(table, pass, shard, event);
             Ok(())
         }
-        Err(StepFault::Illegal(_)) => unreachable!(),
-        Err(StepFault::NoMemory) => Err(Halt::NoMemory),
+        Err(gaspi_types::NoMemory) => Err(Halt::NoMemory),
     }
 }
 
@@ -197,27 +184,26 @@ fn join_first(
     pass: &mut Pass,
     alloc: Global,
     shard: &mut WorldShard,
-    caller: &CallerId,
-    call: &Call,
+    invocation: &Invocation<'_>,
     look: Look,
     args: Args,
 ) -> Result<Reply, Halt>
     requires world { IsWorld table.now.start.shape }
     requires pass { IsOf table.now pass.old }
-    requires caller { IsPassOf table.now.start.shape caller.now pass.old.known }
+    requires caller { IsPassOf table.now.start.shape invocation.now.caller pass.old.known }
     requires held { Holds table.now.start.shape (shard_part shard.old) pass.old.known }
-    requires room { is_full_in shard.old.machine caller.now call.now ≡ false }
-    requires joins { answer_in shard.old.machine caller.now.rank caller.now.thread call.now ≡ Some (Join args) }
+    requires room { is_full_in shard.old.machine invocation.now.caller invocation.now.call.now ≡ false }
+    requires joins { answer_in shard.old.machine invocation.now.caller.rank invocation.now.caller.thread invocation.now.call.now ≡ Some (Join args) }
     ensures table { pass.new.table ≡ pass.old.table }
     ensures held { Holds table.now.start.shape (shard_part shard.new) pass.new.known }
-    ensures worked { WorkedOut table.now.start.shape caller.now call.now look pass.old.known result pass.new.known }
-    ensures ends { call.now ≢ End }
+    ensures worked { WorkedOut table.now.start.shape invocation.now.caller invocation.now.call.now look pass.old.known result pass.new.known }
+    ensures ends { invocation.now.call.now ≢ End }
 {
-    join(table, pass, alloc, shard, caller, call, args)?;
-    let Ok(found) = shard.machine.look(alloc, *caller, call) else {
+    join(table, pass, alloc, shard, invocation, args)?;
+    let Ok(found) = shard.machine.look(alloc, invocation) else {
         return Err(Halt::NoMemory);
     };
-    settle(table, pass, alloc, shard, caller, call, look, found)
+    settle(table, pass, alloc, shard, invocation, look, found)
 }
 
 /// Makes a call while the shard is held: tests the room, looks, joins where it must, and settles.
@@ -226,28 +212,27 @@ fn work(
     pass: &mut Pass,
     alloc: Global,
     shard: &mut WorldShard,
-    caller: &CallerId,
-    call: &Call,
+    invocation: &Invocation<'_>,
     look: Look,
 ) -> Result<Reply, Halt>
     requires world { IsWorld table.now.start.shape }
     requires pass { IsOf table.now pass.old }
-    requires caller { IsPassOf table.now.start.shape caller.now pass.old.known }
+    requires caller { IsPassOf table.now.start.shape invocation.now.caller pass.old.known }
     requires held { Holds table.now.start.shape (shard_part shard.old) pass.old.known }
     ensures table { pass.new.table ≡ pass.old.table }
     ensures held { Holds table.now.start.shape (shard_part shard.new) pass.new.known }
-    ensures worked { WorkedOut table.now.start.shape caller.now call.now look pass.old.known result pass.new.known }
-    ensures ends { call.now ≡ End → result ≢ Err NoMemory }
+    ensures worked { WorkedOut table.now.start.shape invocation.now.caller invocation.now.call.now look pass.old.known result pass.new.known }
+    ensures ends { invocation.now.call.now ≡ End → result ≢ Err NoMemory }
 {
-    if is_full(shard, caller, call) {
+    if shard.machine.is_full(invocation) {
         return Err(Halt::EventLimit);
     }
-    let Ok(found) = shard.machine.look(alloc, *caller, call) else {
+    let Ok(found) = shard.machine.look(alloc, invocation) else {
         return Err(Halt::NoMemory);
     };
     match join_args(found) {
-        Ok(args) => join_first(table, pass, alloc, shard, caller, call, look, args),
-        Err(found) => settle(table, pass, alloc, shard, caller, call, look, found),
+        Ok(args) => join_first(table, pass, alloc, shard, invocation, look, args),
+        Err(found) => settle(table, pass, alloc, shard, invocation, look, found),
     }
 }
 
@@ -256,23 +241,22 @@ pub fn attempt(
     table: &CommitTable<Start>,
     pass: &mut Pass,
     alloc: Global,
-    caller: &CallerId,
-    call: &Call,
+    invocation: &Invocation<'_>,
     look: Look,
 ) -> Result<Reply, Halt>
     requires world { IsWorld table.now.start.shape }
     requires pass { IsOf table.now pass.old }
     requires free { HoldsNone pass.old.known }
-    requires caller { IsPassOf table.now.start.shape caller.now pass.old.known }
+    requires caller { IsPassOf table.now.start.shape invocation.now.caller pass.old.known }
     ensures table { pass.new.table ≡ pass.old.table }
     ensures free { HoldsNone pass.new.known }
-    ensures attempted { Attempted table.now.start.shape caller.now call.now look pass.old.known result pass.new.known }
-    ensures ends { call.now ≡ End → result ≢ Err NoMemory }
+    ensures attempted { Attempted table.now.start.shape invocation.now.caller invocation.now.call.now look pass.old.known result pass.new.known }
+    ensures ends { invocation.now.call.now ≡ End → result ≢ Err NoMemory }
 {
     let Some(mut shard) = open(table, pass) else {
         return Err(Halt::Busy);
     };
-    let told = work(table, pass, alloc, &mut shard, caller, call, look);
+    let told = work(table, pass, alloc, &mut shard, invocation, look);
     leave(table, pass, shard);
     told
 }

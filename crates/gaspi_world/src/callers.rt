@@ -2,7 +2,7 @@
 
 ghost use Rattle.std.specs.Prelude.{◌≡◌, IfOk};
 ghost use Rattle.gaspi_world.specs.Callers.{numbered, all_numbered};
-ghost use Rattle.gaspi_world.specs.WorldMachine.{comes_before, number_of};
+ghost use Rattle.gaspi_model.specs.Parties.{comes_before, number_of};
 
 use gaspi_types::{CallerId, NoMemory, Rows};
 use std::alloc::Global;

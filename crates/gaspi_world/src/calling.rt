@@ -13,7 +13,7 @@ use crate::attempts::{Halt, attempt};
 use crate::starts::Start;
 use crate::worlds::Pass;
 use commit_table::CommitTable;
-use gaspi_types::{Call, CallerId, Reply, Timeout};
+use gaspi_types::{Invocation, Reply, Timeout};
 use pauses::Pauses;
 use std::alloc::Global;
 use std::sync::Wait;
@@ -29,31 +29,30 @@ pub enum Stop {
 }
 
 /// Makes a call: it looks until the call is recorded, pausing between looks, and never holds the shard meanwhile. A missed shard is
-/// no look. (GASPI: timeouts)
+/// no look. The call's row is computed once for all of its looks. (GASPI: timeouts)
 pub fn call<R: Wait>(
     rt: &R,
     table: &CommitTable<Start>,
     pass: &mut Pass,
     alloc: Global,
-    caller: &CallerId,
-    call: &Call,
+    invocation: &Invocation<'_>,
     timeout: Timeout,
 ) -> Result<Reply, Stop>
     requires world { IsWorld table.now.start.shape }
     requires pass { IsOf table.now pass.old }
     requires free { HoldsNone pass.old.known }
-    requires caller { IsPassOf table.now.start.shape caller.now pass.old.known }
+    requires caller { IsPassOf table.now.start.shape invocation.now.caller pass.old.known }
     requires timeout { HasLook (looks_of timeout) }
     ensures table { pass.new.table ≡ pass.old.table }
     ensures free { HoldsNone pass.new.known }
-    ensures ends { call.now ≡ End → result ≢ Err NoMemory }
-    ensures calls { Calls table.now.start.shape caller.now call.now timeout pass.old.known result pass.new.known }
+    ensures ends { invocation.now.call.now ≡ End → result ≢ Err NoMemory }
+    ensures calls { Calls table.now.start.shape invocation.now.caller invocation.now.call.now timeout pass.old.known result pass.new.known }
 {
     let mut pauses = Pauses::new();
     let mut budget = Budget::new(timeout);
     let mut look = budget.next();
     for _ in rt.forever() {
-        match attempt(table, pass, alloc, caller, call, look) {
+        match attempt(table, pass, alloc, invocation, look) {
             Ok(reply) => return Ok(reply),
             Err(Halt::Busy) => pauses.pause(rt),
             Err(Halt::NotYet) => {

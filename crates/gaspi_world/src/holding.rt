@@ -6,7 +6,8 @@ ghost use Rattle.commit_table.specs.Calls.{IsOf, HoldsNone};
 ghost use Rattle.commit_table.specs.Views.{gave_back};
 ghost use Rattle.gaspi_world.specs.Holds.{Holds, HoldsBefore, Added};
 ghost use Rattle.gaspi_world.specs.Shards.{shard_part};
-ghost use Rattle.gaspi_world.specs.WorldMachine.{party_of, world_machine};
+ghost use Rattle.gaspi_world.specs.WorldMachine.{world_machine};
+ghost use Rattle.gaspi_model.specs.Parties.{party_of};
 
 use crate::shards::{Placed, WorldShard};
 use crate::starts::Start;

@@ -22,7 +22,7 @@ use crate::calling::Stop;
 use crate::starts::Start;
 use crate::worlds::{Pass, World};
 use commit_table::CommitTable;
-use gaspi_types::{Call, Reply, Timeout};
+use gaspi_types::{Call, Invocation, Reply, Timeout};
 use std::alloc::Global;
 use std::sync::Wait;
 use timeout_state::Look;
@@ -55,7 +55,8 @@ impl<'a> Rank<'a> {
     {
         self.world.shape().limits();
         let caller = self.world.caller_of(self.pass);
-        attempt(self.world.table(), self.pass, alloc, &caller, call, look)
+        let invocation = Invocation::new(caller, call);
+        attempt(self.world.table(), self.pass, alloc, &invocation, look)
     }
 
     /// Makes a call: it looks until the call is recorded, as often as its timeout allows, and backs off between looks.
@@ -76,15 +77,9 @@ impl<'a> Rank<'a> {
     {
         self.world.shape().limits();
         let caller = self.world.caller_of(self.pass);
-        calling::call(
-            rt,
-            self.world.table(),
-            self.pass,
-            alloc,
-            &caller,
-            call,
-            timeout,
-        )
+        let invocation = Invocation::new(caller, call);
+        let table = self.world.table();
+        calling::call(rt, table, self.pass, alloc, &invocation, timeout)
     }
 
     /// Makes a note of what the pass has seen, for another pass to learn.

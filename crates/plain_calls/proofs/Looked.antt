@@ -1,5 +1,5 @@
 -- What a look found, recorded: the step by the call with that reply.
-use Rattle.std.proofs.Common.{◌≡◌, ℕ, ◌+◌, ◌-◌, ◌≤◌, arith, Bool, true, false, nat_le, List, [], Option, None, Some, Result, Ok, Err, length, refl, sym, ap, subst, ◌∙◌}
+use Rattle.std.proofs.Common.{◌≡◌, ℕ, ◌+◌, ◌-◌, ◌≤◌, arith, Bool, true, false, nat_le, List, [], Option, None, Some, Ok, Err, length, refl, sym, ap, ◌∙◌}
 use Rattle.gaspi_types.specs.CallRows.{row_of}
 use Rattle.gaspi_types.specs.Replies.{is_idle, same_reply}
 use Rattle.gaspi_types.specs.World.{are_limits}
@@ -13,18 +13,16 @@ use Rattle.gaspi_model.specs.State.{thread_at, owed}
 use Rattle.gaspi_model.specs.Calls.{call_asks, answer, recorded_reply, posts_done, posts_after, memory_done, memory_after, charge}
 use Rattle.gaspi_model.specs.Posting.{with_post, counted}
 use Rattle.gaspi_model.specs.Sound.{IsSoundPosts}
-use Rattle.gaspi_model.specs.Step.{called, Steps, is_there}
+use Rattle.gaspi_model.specs.Step.{called, is_there}
 use Rattle.gaspi_types.specs.declared.inboxes.Message.{Message}
 use Rattle.gaspi_model.specs.PassiveCalls.{brought_by}
 use Rattle.gaspi_model.specs.declared.states.Posts.{Posts}
 use Rattle.gaspi_model.specs.declared.states.Memory.{Memory}
-use Rattle.gaspi_model.specs.declared.states.StepFault.{StepFault}
 use Rattle.gaspi_model.specs.declared.states.ThreadState.{ThreadState}
-use Rattle.gaspi_model.specs.declared.states.Why.{Why}
 use Rattle.gaspi_model.specs.declared.states.Why.TheVariants as whys
 use Rattle.gaspi_model.proofs.Listed.Enabled.{same_reply-refl}
 use Rattle.segment_tables.specs.PostKinds.{kinds_of}
-use Rattle.plain_calls.specs.Looks.{IsFinding, found_done, found_after, made_of, BringsMessage}
+use Rattle.plain_calls.specs.Looks.{IsFinding, found_done, found_after, BringsMessage}
 use Rattle.plain_calls.specs.Room.{HasCallRoom, freed}
 use Rattle.plain_calls.specs.declared.looks.Finding.{Finding}
 use Rattle.plain_calls.proofs.CallRoom.{found_by, room_by, taken_by}
@@ -134,9 +132,3 @@ freed-within after freed total result all is = omega (arith, all, is)
 
 pub charged : (t t' : ThreadState) (call : Call) (ready : Ready) (n : ℕ) → t ≡ t' → n ≡ charge t call (recorded_reply ready) → n ≡ charge t' call (recorded_reply ready)
 charged t t' call ready n state is = is ∙ ap (λ (t : ThreadState). charge t call (recorded_reply ready)) state
-
--- a step that gives something, as one that does not
-pub steps_as : {A S : Type 0} (result : Result A StepFault) (made : Result (Unit {0}) StepFault) (old new : S) (outcome outcome' : Result S Why)
-    → made_of result ≡ made → outcome ≡ outcome' → Steps (made_of result) old new outcome → Steps made old new outcome'
-steps_as {A} {S} result made old new outcome outcome' is same steps =
-    subst (λ (m : Result (Unit {0}) StepFault). Steps m old new outcome') is (subst (λ (o : Result S Why). Steps (made_of result) old new o) same steps)

@@ -17,6 +17,8 @@ use Rattle.gaspi_model.specs.Posting.{with_post, counted}
 use Rattle.gaspi_model.specs.declared.states.Posts.{Posts}
 use Rattle.gaspi_model.specs.declared.states.Memory.{Memory}
 use Rattle.gaspi_model.specs.declared.states.StepFault.{StepFault}
+use Rattle.gaspi_model.specs.declared.states.StepFault.TheVariants as faults
+use Rattle.gaspi_types.specs.declared.memory.NoMemory.{NoMemory}
 use Rattle.segment_tables.specs.PostKinds.{kinds_of}
 use Rattle.segment_tables.specs.declared.kinds.Kinds.{Kinds}
 use Rattle.plain_calls.specs.declared.looks.Finding.{Finding}
@@ -69,3 +71,8 @@ found_after posts thread call look =
 abbrev pub made_of : {A : Type 0} → Result A StepFault → Result (Unit {0}) StepFault
 made_of (Ok given) = Ok tt
 made_of (Err fault) = Err fault
+
+-- the same of a step for which there is room: it is made, or there is no memory
+abbrev pub recorded_of : {A : Type 0} → Result A NoMemory → Result (Unit {0}) StepFault
+recorded_of (Ok given) = Ok tt
+recorded_of (Err fault) = Err faults.NoMemory

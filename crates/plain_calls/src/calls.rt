@@ -16,7 +16,7 @@ ghost use Rattle.plain_calls.specs.Telling.{told};
 use crate::atomic_calls::{compare_swap_leaves, fetch_add_leaves, word_finds};
 use crate::group_calls::{
     group_add_finds, group_add_leaves, group_create_finds, group_create_leaves, group_delete_finds,
-    group_delete_leaves,
+    group_delete_leaves, pending_on,
 };
 use crate::looks::Finding;
 use crate::memory_calls::{load_finds, store_finds, store_leaves};
@@ -33,8 +33,8 @@ use crate::segment_calls::{
 use crate::threads::{end_thread, is_running, thread_at};
 use gaspi_model::{Memory, Posts};
 use gaspi_types::{
-    Call, CompareSwap, FetchAdd, Kind, Limits, Message, NoMemory, RankId, Ready, Refusal, Reply,
-    ThreadId,
+    Call, CompareSwap, FetchAdd, Invocation, Kind, Limits, Message, NoMemory, RankId, Ready,
+    Refusal, Reply, ThreadId,
 };
 use segment_tables::Kinds;
 use std::alloc::Global;
@@ -83,9 +83,15 @@ fn plain_finds(
                 ..
             },
         ) => { word_finds(limits, me, posts, memory, *seg, *offset, *rank) }
-        Call::GroupCreate => group_create_finds(posts),
-        Call::GroupAdd(call) => group_add_finds(limits, posts, call),
-        Call::GroupDelete(call) => group_delete_finds(posts, call),
+        Call::GroupCreate => group_create_finds(&posts.groups),
+        Call::GroupAdd(call) => {
+            let pending = pending_on(&posts.pending, call.group);
+            group_add_finds(limits.ranks, &posts.groups, pending, call)
+        }
+        Call::GroupDelete(call) => {
+            let pending = pending_on(&posts.pending, call.group);
+            group_delete_finds(&posts.groups, pending, call)
+        }
         Call::State => state_finds(posts),
         _ => Ok(Some(Reply::Done)),
     })
@@ -132,26 +138,26 @@ fn brought(
 pub fn look(
     alloc: Global,
     limits: &Limits,
-    me: RankId,
+    invocation: &Invocation<'_>,
     posts: &Posts,
     own: &Memory,
     memory: &Memory,
-    thread: ThreadId,
-    call: &Call,
 ) -> Result<Finding, NoMemory>
     requires queues { length posts.now.queues ≤ 8 }
     requires corrupt { length posts.now.corrupt ≤ 32 }
     requires inbox { AreShort memory.now.inbox }
-    ensures look { IfOk result (λ look. IsFinding look limits.now me posts.now memory.now thread call.now) }
-    ensures message { IfOk result (λ look. BringsMessage look (brought_by me own.now call.now)) }
-    ensures ample { looks_with_memory call.now ≡ false → IsOk result }
+    ensures look { IfOk result (λ look. IsFinding look limits.now invocation.now.caller.rank posts.now memory.now invocation.now.caller.thread invocation.now.call.now) }
+    ensures message { IfOk result (λ look. BringsMessage look (brought_by invocation.now.caller.rank own.now invocation.now.call.now)) }
+    ensures ample { looks_with_memory invocation.now.call.now ≡ false → IsOk result }
     // A look at a send that is not done takes none.
-    ensures idle { is_send call.now ≡ true → is_idle (recorded_reply (answer limits.now me posts.now memory.now thread call.now)) ≡ true → IsOk result }
+    ensures idle { is_send invocation.now.call.now ≡ true → is_idle (recorded_reply (answer limits.now invocation.now.caller.rank posts.now memory.now invocation.now.caller.thread invocation.now.call.now)) ≡ true → IsOk result }
 {
-    if !is_running(thread_at(posts, thread)) {
+    let me = invocation.caller.rank;
+    let call = invocation.call;
+    if !is_running(thread_at(posts, invocation.caller.thread)) {
         return Ok(Finding::plain(Ready::Reply(Reply::Refused(Refusal::CallerEnded))));
     }
-    match call.row().posting {
+    match invocation.row.posting {
         Some(to) => {
             let finds = posting_finds(alloc, limits, me, posts, to, call)?;
             Ok(posting_finding(finds))
@@ -212,23 +218,33 @@ fn plain_done(
 pub fn call_done(
     alloc: Global,
     limits: &Limits,
+    invocation: &Invocation<'_>,
     posts: &mut Posts,
     memory: &mut Memory,
-    thread: ThreadId,
-    call: &Call,
     kinds: &[Kind],
     message: Option<Message>,
 ) -> Result<(), NoMemory>
-    requires { HasCallRoom posts.old call.now (length kinds.now) }
-    ensures posts { OnOk result (posts.new ≡ found_done posts.old thread call.now kinds.now) }
-    ensures memory { OnOk result (memory.new ≡ memory_done limits.now posts.old message memory.old call.now) }
+    requires { HasCallRoom posts.old invocation.now.call.now (length kinds.now) }
+    ensures posts { OnOk result (posts.new ≡ found_done posts.old invocation.now.caller.thread invocation.now.call.now kinds.now) }
+    ensures memory { OnOk result (memory.new ≡ memory_done limits.now posts.old message memory.old invocation.now.call.now) }
     ensures posts_kept { OnErr result (posts.new ≡ posts.old) }
     ensures memory_kept { OnErr result (memory.new ≡ memory.old) }
-    ensures ample { keeps_memory call.now ≡ false → IsOk result }
+    ensures ample { keeps_memory invocation.now.call.now ≡ false → IsOk result }
 {
-    match call.row().posting {
+    match invocation.row.posting {
         Some(to) => post(alloc, posts, to.queue, to.rank, kinds),
-        None => plain_done(alloc, limits, posts, memory, thread, call, message),
+        None => {
+            let thread = invocation.caller.thread;
+            plain_done(
+                alloc,
+                limits,
+                posts,
+                memory,
+                thread,
+                invocation.call,
+                message,
+            )
+        }
     }
 }
 

@@ -1,7 +1,7 @@
 //! The collective calls: what a look at one finds. (GASPI: collectives, groups, segments, timeouts)
 
 ghost use Rattle.std.specs.Prelude.{◌≡◌, ℕ, length, true, false, Ok, OnOk, IfOk, IsOk};
-ghost use Rattle.std.specs.Option.{option_copied, option_map};
+ghost use Rattle.std.specs.Option.{option_map};
 ghost use Rattle.gaspi_types.specs.Collectives.{no_values, part_of, is_turn_full};
 ghost use Rattle.gaspi_types.specs.Groups.{fix_checks};
 ghost use Rattle.gaspi_types.specs.Tables.{entry_at};
@@ -12,13 +12,14 @@ ghost use Rattle.plain_calls.specs.Memory.{is_allreduce};
 ghost use Rattle.plain_calls.specs.Turns.{called_on, IsReducible};
 
 use crate::contributions::{check_turn, is_turn_full, turn_fold};
+use crate::group_calls::pending_on;
 use crate::threads::{is_running, thread_at};
 use call_rules::{check_count, check_type, resume, same_args};
 use gaspi_model::Posts;
 use gaspi_types::{
-    Allreduce, Args, Barrier, Call, Coll, Commit, Create, Group, Handle, Handles, NoMemory,
-    NumType, Numbers, Pending, RankId, Ready, Refusal, Reply, Resume, Rows, Stage, ThreadId,
-    is_member,
+    Allreduce, Args, Barrier, Call, CallerId, Coll, Commit, Create, Group, GroupId, Handle,
+    Handles, NoMemory, NumType, Numbers, RankId, Ready, Refusal, Reply, Resume, Rows, Stage,
+    ThreadId, is_member,
 };
 use segment_tables::check_alloc;
 use std::alloc::Global;
@@ -70,13 +71,13 @@ fn staged_at(groups: &Handles, me: RankId, id: u64, call: &Call) -> Result<Handl
     }
 }
 
-/// The group of a collective that is not refused whatever is pending on it.
-fn called_on(posts: &Posts, me: RankId, id: u64, call: &Call) -> Result<Handle, Refusal>
-    ensures group { result ≡ called_on posts.now.groups me id call.now }
+/// The group of a collective, of the groups of its caller's rank, where it is not refused whatever is pending on it.
+pub fn called_on(groups: &Handles, me: RankId, id: u64, call: &Call) -> Result<Handle, Refusal>
+    ensures group { result ≡ called_on groups.now me id call.now }
     ensures elements { OnOk result (element_checks call.now ≡ Ok tt) }
 {
     check_elements(call)?;
-    staged_at(&posts.groups, me, id, call)
+    staged_at(groups, me, id, call)
 }
 
 /// No values, as all collectives but an allreduce have.
@@ -110,7 +111,7 @@ fn plain_coll(members: u32, call: &Call) -> Option<Coll>
 
 /// The arguments of a collective, where its group has those members; one whose numbers are over 32 bits has none. Only an
 /// allreduce takes memory, for its values.
-fn args_of(alloc: Global, members: u32, call: &Call) -> Result<Option<Args>, NoMemory>
+pub fn args_of(alloc: Global, members: u32, call: &Call) -> Result<Option<Args>, NoMemory>
     requires { element_checks call.now ≡ Ok tt }
     ensures args { IfOk result (λ args. args ≡ args_of members call.now) }
     ensures ample { is_allreduce call.now ≡ false → IsOk result }
@@ -130,16 +131,6 @@ fn args_of(alloc: Global, members: u32, call: &Call) -> Result<Option<Args>, NoM
     }
 }
 
-/// The collective of a rank that is pending on a group.
-fn pending_at(posts: &Posts, id: u64) -> Option<&Pending>
-    ensures { option_copied result ≡ entry_at posts.now.pending id }
-{
-    match posts.pending.get(id as usize) {
-        Some(Some(pending)) => Some(pending),
-        Some(None) | None => None,
-    }
-}
-
 /// Checks the segment that a collective makes, if it does. (GASPI: segment_create)
 fn check_segment(posts: &Posts, call: &Call) -> Result<(), Refusal>
     ensures { result ≡ segment_checks posts.now call.now }
@@ -151,7 +142,7 @@ fn check_segment(posts: &Posts, call: &Call) -> Result<(), Refusal>
 }
 
 /// Checks a list of ranks that is to be committed: it is the one that is fixed for its group, if one is. (own choice)
-fn check_fixed(fixed: Option<u32>, mask: u32) -> Result<(), Refusal>
+pub fn check_fixed(fixed: Option<u32>, mask: u32) -> Result<(), Refusal>
     ensures { result ≡ fix_checks fixed mask }
 {
     match fixed {
@@ -215,7 +206,7 @@ fn resumed_finds(alloc: Global, group: &Group, me: RankId, call: &Call) -> Resul
 }
 
 /// What a look found, or its refusal, in one value.
-fn collective_ready(finds: Result<Ready, Refusal>) -> Ready
+pub fn collective_ready(finds: Result<Ready, Refusal>) -> Ready
     ensures { result ≡ collective_ready finds }
 {
     match finds {
@@ -244,12 +235,12 @@ pub fn collective_look(
     if !is_running(thread_at(posts, thread)) {
         return Ok(collective_ready(Err(Refusal::CallerEnded)));
     }
-    let handle = match called_on(posts, me, id, call) {
+    let handle = match called_on(&posts.groups, me, id, call) {
         Ok(handle) => handle,
         Err(refusal) => return Ok(collective_ready(Err(refusal))),
     };
     let args = args_of(alloc, handle.members, call)?;
-    match resume(pending_at(posts, id), thread, args.as_ref()) {
+    match resume(pending_on(&posts.pending, id), thread, args.as_ref()) {
         Ok(Resume::Fresh) => Ok(collective_ready(fresh_finds(posts, group, me, args, call))),
         Ok(Resume::Same) => resumed_finds(alloc, group, me, call),
         Err(refusal) => Ok(collective_ready(Err(refusal))),
@@ -276,23 +267,30 @@ fn joining_call(alloc: Global, id: u64, args: &Args) -> Result<Call, NoMemory>
     })
 }
 
-/// Whether a collective of a rank may join a group with these arguments. (GASPI: collectives)
+/// A join that a caller makes: the group, and the arguments of its collective. (GASPI: collectives)
+#[derive(Debug, Drop)]
+pub struct Joining<'a> {
+    pub caller: CallerId,
+    pub group: GroupId,
+    pub args: &'a Args,
+}
+
+/// Whether a collective of a caller may join a group with these arguments. (GASPI: collectives)
 pub fn may_join(
     alloc: Global,
+    joining: &Joining<'_>,
     posts: &Posts,
     group: &Group,
-    me: RankId,
-    thread: ThreadId,
-    id: u64,
-    args: &Args,
 ) -> Result<bool, NoMemory>
     requires group { IsSoundGroup (length group.now.parts) group.now }
-    requires part { IsSoundPart posts.now.events (entry_at posts.now.pending id) (part_of group.now me) }
-    ensures { IfOk result (λ may. may ≡ is_join_of (collective_answer posts.now group.now me thread id (joining_call id args.now)) args.now) }
+    requires part { IsSoundPart posts.now.events (entry_at posts.now.pending joining.now.group) (part_of group.now joining.now.caller.rank) }
+    ensures { IfOk result (λ may. may ≡ is_join_of (collective_answer posts.now group.now joining.now.caller.rank joining.now.caller.thread joining.now.group (joining_call joining.now.group joining.now.args.now)) joining.now.args.now) }
 {
-    let call = joining_call(alloc, id, args)?;
-    match collective_look(alloc, posts, group, me, thread, id, &call)? {
-        Ready::Join(may) => Ok(same_args(&may, args)),
+    let id = u64::from(joining.group.number());
+    let caller = joining.caller;
+    let call = joining_call(alloc, id, joining.args)?;
+    match collective_look(alloc, posts, group, caller.rank, caller.thread, id, &call)? {
+        Ready::Join(may) => Ok(same_args(&may, joining.args)),
         Ready::Reply(_) | Ready::NotReady => Ok(false),
     }
 }

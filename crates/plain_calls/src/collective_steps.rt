@@ -1,12 +1,13 @@
 //! A collective joins its group, and completes its turn: the steps by a join and by a collective with its reply, on the posts of its
 //! caller's rank, its memory and its group. (GASPI: collectives, groups, segments)
 
-ghost use Rattle.std.specs.Prelude.{◌≡◌, ◌≢◌, ◌+◌, ◌<◌, ◌^◌, IfOk, OnOk, OnErr, Some, Err, false, true};
+ghost use Rattle.std.specs.Prelude.{◌≡◌, ◌+◌, ◌<◌, ◌≤◌, ◌^◌, OnOk, OnErr, Some, Ok, false, true};
 ghost use Rattle.gaspi_types.specs.Collectives.{part_of, turn_of, with_joined, with_completed};
 ghost use Rattle.gaspi_types.specs.Groups.{with_committed};
 ghost use Rattle.gaspi_types.specs.Replies.{is_idle};
 ghost use Rattle.gaspi_types.specs.Tables.{entry_at};
 ghost use Rattle.gaspi_types.specs.World.{are_limits};
+ghost use Rattle.gaspi_types.specs.declared.shapes.Limits.{Limits};
 ghost use Rattle.gaspi_model.specs.Calls.{recorded_reply};
 ghost use Rattle.gaspi_model.specs.CollectiveCalls.{collective_answer, is_join_of, joining_call, contribution_of, made_generation, made_posts, made_memory, with_pending, joined_posts, told_posts, completed_posts, is_joining};
 ghost use Rattle.gaspi_model.specs.Contributions.{IsSoundPart};
@@ -14,17 +15,18 @@ ghost use Rattle.gaspi_model.specs.Posting.{counted};
 ghost use Rattle.gaspi_model.specs.Sound.{IsSoundPosts};
 ghost use Rattle.gaspi_model.specs.State.{owed, thread_at};
 ghost use Rattle.gaspi_model.specs.Step.{Met, completed, joined, Steps, is_there};
-ghost use Rattle.plain_calls.specs.Looks.{made_of};
+ghost use Rattle.plain_calls.specs.Looks.{recorded_of};
 ghost use Rattle.plain_calls.specs.Room.{HasMakingRoom, HasTellingRoom};
 ghost use Rattle.plain_calls.specs.Turns.{posts_met, group_met};
 
+use crate::collective_calls::Joining;
 use crate::contributions::{complete_turn, join_turn, make_turn_known};
 use crate::replies::{is_idle, recorded_reply};
 use crate::segment_calls::{make_segment, place_segment};
-use gaspi_model::{Memory, Posts, StepFault, Why};
+use gaspi_model::{Memory, Posts};
 use gaspi_types::{
-    Alloc, Args, Call, Coll, Contribution, Group, Handle, Limits, NoMemory, Pending, RankId, Ready,
-    Reply, Stage, ThreadId,
+    Alloc, Call, Coll, Contribution, Group, Handle, Invocation, Limits, NoMemory, Pending, RankId,
+    Ready, Reply, Stage,
 };
 use segment_tables::next_generation;
 use std::alloc::Global;
@@ -89,40 +91,38 @@ fn complete_parts(
 
 /// Completes a collective that was looked at, or records its refusal or its timeout: the step by the call with what the look found. It
 /// gives the reply with which the call was recorded. The look is one of this very call on these very posts and this group, and found
-/// no join; what is left to check is that the rank has room. `taken` is the room that the rank has taken, before and after. It takes
-/// no memory. (GASPI: collectives, timeouts)
+/// no join. Where the rank has room for the event, that is the step by the call. `taken` is the room that the rank has taken, before and after. It
+/// takes no memory. (GASPI: collectives, timeouts)
 pub fn complete(
-    limits: &Limits,
-    me: RankId,
+    invocation: &Invocation<'_>,
+    id: u64,
     posts: &mut Posts,
     group: &mut Group,
     taken: &mut u32,
-    thread: ThreadId,
-    id: u64,
-    call: &Call,
     ready: Ready,
-) -> Result<Reply, StepFault>
-    requires limits { are_limits limits.now ≡ true }
-    requires sound { IsSoundPosts limits.now posts.old }
-    requires part { IsSoundPart posts.old.events (entry_at posts.old.pending id) (part_of group.old me) }
+) -> Reply
+    requires part { IsSoundPart posts.old.events (entry_at posts.old.pending id) (part_of group.old invocation.now.caller.rank) }
     requires taken { taken.old ≡ posts.old.events + owed posts.old }
-    requires there { is_there (thread_at posts.old thread) ≡ true }
-    requires look { ready ≡ collective_answer posts.old group.old me thread id call.now }
+    requires few { taken.old + 1 < 2 ^ 32 }
+    requires there { is_there (thread_at posts.old invocation.now.caller.thread) ≡ true }
+    requires look { ready ≡ collective_answer posts.old group.old invocation.now.caller.rank invocation.now.caller.thread id invocation.now.call.now }
     requires unjoined { is_joining ready ≡ false }
-    ensures reply { IfOk result (λ reply. reply ≡ recorded_reply ready) }
-    ensures step { Steps {S = Met} (made_of result) (record { posts = posts.old; group = group.old }) (record { posts = posts.new; group = group.new }) (completed limits.now me posts.old group.old thread id call.now (recorded_reply ready)) }
+    ensures reply { result ≡ recorded_reply ready }
+    ensures step { (limits : Limits) → posts.old.events + owed posts.old + 1 ≤ limits.events
+        → completed limits invocation.now.caller.rank posts.old group.old invocation.now.caller.thread id invocation.now.call.now (recorded_reply ready) ≡ Ok (record { posts = posts.new; group = group.new }) }
     ensures taken { taken.new ≡ posts.new.events + owed posts.new }
-    ensures ample { result ≢ Err StepFault.NoMemory }
 {
-    let _thread = thread;
-    let room = *taken + 1;
-    if room > limits.events {
-        return Err(StepFault::Illegal(Why::Limit));
-    }
     let reply = recorded_reply(ready);
-    complete_parts(posts, group, me, id, call, &reply);
-    *taken = room;
-    Ok(reply)
+    complete_parts(
+        posts,
+        group,
+        invocation.caller.rank,
+        id,
+        invocation.call,
+        &reply,
+    );
+    *taken += 1;
+    reply
 }
 
 /// The generation of the segment that a collective makes as it joins; 0 where it makes none. (GASPI: segment_create)
@@ -174,72 +174,66 @@ fn give(
 fn join_parts(
     alloc: Global,
     limits: &Limits,
-    me: RankId,
+    joining: &Joining<'_>,
     posts: &mut Posts,
     memory: &mut Memory,
     group: &mut Group,
-    thread: ThreadId,
-    id: u64,
-    args: &Args,
 ) -> Result<(), NoMemory>
-    requires room { HasMakingRoom posts.old args.now.coll }
+    requires room { HasMakingRoom posts.old joining.now.args.now.coll }
     requires events { posts.old.events + 1 < 2 ^ 32 }
-    ensures posts { OnOk result (posts.new ≡ counted (joined_posts posts.old thread id args.now)) }
-    ensures memory { OnOk result (memory.new ≡ made_memory limits.now posts.old memory.old args.now.coll) }
-    ensures group { OnOk result (group.new ≡ with_joined group.old me (contribution_of posts.old args.now)) }
+    ensures posts { OnOk result (posts.new ≡ counted (joined_posts posts.old joining.now.caller.thread joining.now.group joining.now.args.now)) }
+    ensures memory { OnOk result (memory.new ≡ made_memory limits.now posts.old memory.old joining.now.args.now.coll) }
+    ensures group { OnOk result (group.new ≡ with_joined group.old joining.now.caller.rank (contribution_of posts.old joining.now.args.now)) }
     ensures posts_kept { OnErr result (posts.new ≡ posts.old) }
     ensures memory_kept { OnErr result (memory.new ≡ memory.old) }
     ensures group_kept { OnErr result (group.new ≡ group.old) }
 {
     let pending = Pending {
-        thread,
-        args: args.copy(alloc)?,
+        thread: joining.caller.thread,
+        args: joining.args.copy(alloc)?,
     };
     let contribution = Contribution {
-        args: args.copy(alloc)?,
-        generation: made_generation(posts, args.coll),
+        args: joining.args.copy(alloc)?,
+        generation: made_generation(posts, joining.args.coll),
     };
-    give(alloc, limits, me, posts, memory, group, contribution)?;
-    set_pending(posts, id, Some(pending));
+    give(
+        alloc,
+        limits,
+        joining.caller.rank,
+        posts,
+        memory,
+        group,
+        contribution,
+    )?;
+    set_pending(posts, u64::from(joining.group.number()), Some(pending));
     posts.events += 1;
     Ok(())
 }
 
-/// Joins: the step by the join of a collective of a rank to a group with these arguments, which it may join, so that what is left to
-/// check is that the rank has room. The collective is then pending for its caller, and the rank has given to its turn; a segment that
-/// it makes is there. `taken` is the room that the rank has taken, before and after. Without memory nothing changes.
-/// (GASPI: collectives, segment_create)
+/// Joins: the step by the join of a collective of a rank to a group with these arguments, which it may join, and the rank has room for
+/// the event. The collective is then pending for its caller, and the rank has given to its turn; a segment that it makes is there.
+/// `taken` is the room that the rank has taken, before and after. Without memory nothing changes. (GASPI: collectives, segment_create)
 pub fn join(
     alloc: Global,
     limits: &Limits,
-    me: RankId,
+    joining: &Joining<'_>,
     posts: &mut Posts,
     memory: &mut Memory,
     group: &mut Group,
     taken: &mut u32,
-    thread: ThreadId,
-    id: u64,
-    args: &Args,
-) -> Result<(), StepFault>
+) -> Result<(), NoMemory>
     requires limits { are_limits limits.now ≡ true }
     requires sound { IsSoundPosts limits.now posts.old }
     requires taken { taken.old ≡ posts.old.events + owed posts.old }
-    requires there { is_there (thread_at posts.old thread) ≡ true }
-    requires joins { is_join_of (collective_answer posts.old group.old me thread id (joining_call id args.now)) args.now ≡ true }
-    ensures step { Steps {S = Met} result (record { posts = posts.old; group = group.old }) (record { posts = posts.new; group = group.new }) (joined limits.now me posts.old group.old thread id args.now) }
-    ensures memory { OnOk result (memory.new ≡ made_memory limits.now posts.old memory.old args.now.coll) }
+    requires there { is_there (thread_at posts.old joining.now.caller.thread) ≡ true }
+    requires joins { is_join_of (collective_answer posts.old group.old joining.now.caller.rank joining.now.caller.thread joining.now.group (joining_call joining.now.group joining.now.args.now)) joining.now.args.now ≡ true }
+    requires room { posts.old.events + owed posts.old + 1 ≤ limits.now.events }
+    ensures step { Steps {S = Met} (recorded_of result) (record { posts = posts.old; group = group.old }) (record { posts = posts.new; group = group.new }) (joined limits.now joining.now.caller.rank posts.old group.old joining.now.caller.thread joining.now.group joining.now.args.now) }
+    ensures memory { OnOk result (memory.new ≡ made_memory limits.now posts.old memory.old joining.now.args.now.coll) }
     ensures memory_kept { OnErr result (memory.new ≡ memory.old) }
     ensures taken { taken.new ≡ posts.new.events + owed posts.new }
 {
-    let room = *taken + 1;
-    if room > limits.events {
-        return Err(StepFault::Illegal(Why::Limit));
-    }
-    match join_parts(alloc, limits, me, posts, memory, group, thread, id, args) {
-        Ok(()) => {
-            *taken = room;
-            Ok(())
-        }
-        Err(NoMemory) => Err(StepFault::NoMemory),
-    }
+    join_parts(alloc, limits, joining, posts, memory, group)?;
+    *taken += 1;
+    Ok(())
 }

@@ -1,32 +1,46 @@
 //! The calls on the groups of a rank: what they find, and what they leave. (GASPI: groups)
 
 ghost use Rattle.std.specs.Prelude.{◌≡◌, ◌+◌, ◌<◌, ◌^◌};
-ghost use Rattle.gaspi_types.specs.Groups.{idle_checks};
+ghost use Rattle.std.specs.Option.{option_copied};
+ghost use Rattle.gaspi_types.specs.Groups.{idle_check};
+ghost use Rattle.gaspi_types.specs.Tables.{entry_at};
+ghost use Rattle.gaspi_types.specs.declared.shapes.Limits.{Limits};
 ghost use Rattle.gaspi_model.specs.GroupCalls.{group_create_finds, group_create_leaves, group_add_finds, group_add_leaves, group_delete_finds, group_delete_leaves};
+ghost use Rattle.gaspi_model.specs.declared.states.Posts.{Posts};
 
 use gaspi_model::Posts;
 use gaspi_types::{
-    GroupAdd, GroupDelete, Handle, Limits, Pending, RankId, Refusal, Reply, Rows, Stage,
+    GroupAdd, GroupDelete, Handle, Handles, Pending, RankId, Refusal, Reply, Rows, Stage,
     with_member,
 };
 
-/// Checks that no collective of the rank is pending on a group.
-fn check_idle(pending: &Rows<Option<Pending>>, id: u64) -> Result<(), Refusal>
-    ensures { result ≡ idle_checks pending.now id }
+/// What is pending of a rank on a group.
+pub fn pending_on(pending: &Rows<Option<Pending>>, id: u64) -> Option<&Pending>
+    ensures { option_copied result ≡ entry_at pending.now id }
 {
     match pending.get(id as usize) {
-        Some(Some(collective)) => Err(Refusal::ActiveCollective {
+        Some(Some(pending)) => Some(pending),
+        Some(None) | None => None,
+    }
+}
+
+/// Checks that no collective of the rank is pending on a group: this is what is pending on it.
+fn check_idle(pending: Option<&Pending>) -> Result<(), Refusal>
+    ensures { result ≡ idle_check (option_copied pending.entry) }
+{
+    match pending {
+        Some(collective) => Err(Refusal::ActiveCollective {
             thread: collective.thread.number(),
         }),
-        Some(None) | None => Ok(()),
+        None => Ok(()),
     }
 }
 
 /// Looks at the making of a group: it answers the next number. (GASPI: group_create)
-pub fn group_create_finds(posts: &Posts) -> Result<Option<Reply>, Refusal>
-    ensures { result ≡ group_create_finds posts.now }
+pub fn group_create_finds(groups: &Handles) -> Result<Option<Reply>, Refusal>
+    ensures { (posts : Posts) → posts.groups ≡ groups.now → result ≡ group_create_finds posts }
 {
-    let made = posts.groups.made;
+    let made = groups.made;
     if made >= 7 {
         return Err(Refusal::GroupsFull);
     }
@@ -47,19 +61,22 @@ pub fn group_create_leaves(posts: &mut Posts)
     posts.groups.made = id;
 }
 
-/// Looks at the adding of a rank to a group. (GASPI: group_add)
+/// Looks at the adding of a rank to a group, in a world of so many ranks: these are the groups of the caller's rank, and what is
+/// pending on that group. (GASPI: group_add)
 pub fn group_add_finds(
-    limits: &Limits,
-    posts: &Posts,
+    ranks: u32,
+    groups: &Handles,
+    pending: Option<&Pending>,
     call: &GroupAdd,
 ) -> Result<Option<Reply>, Refusal>
-    ensures { result ≡ group_add_finds limits.now posts.now call.now }
+    ensures { (limits : Limits) (posts : Posts) → limits.ranks ≡ ranks → posts.groups ≡ groups.now → entry_at posts.pending call.now.group ≡ option_copied pending.entry
+        → result ≡ group_add_finds limits posts call.now }
 {
-    if call.rank >= u64::from(limits.ranks) {
+    if call.rank >= u64::from(ranks) {
         return Err(Refusal::BadRank);
     }
-    let _building = posts.groups.building(call.group)?;
-    check_idle(&posts.pending, call.group)?;
+    groups.building(call.group)?;
+    check_idle(pending)?;
     Ok(Some(Reply::Done))
 }
 
@@ -76,17 +93,22 @@ pub fn group_add_leaves(posts: &mut Posts, call: &GroupAdd)
     posts.groups.set(call.group, changed);
 }
 
-/// Looks at the dropping of a group, which is not group 0. (GASPI: group_delete)
-pub fn group_delete_finds(posts: &Posts, call: &GroupDelete) -> Result<Option<Reply>, Refusal>
-    ensures { result ≡ group_delete_finds posts.now call.now }
+/// Looks at the dropping of a group, which is not group 0: these are the groups of the caller's rank, and what is pending on that
+/// group. (GASPI: group_delete)
+pub fn group_delete_finds(
+    groups: &Handles,
+    pending: Option<&Pending>,
+    call: &GroupDelete,
+) -> Result<Option<Reply>, Refusal>
+    ensures { (posts : Posts) → posts.groups ≡ groups.now → entry_at posts.pending call.now.group ≡ option_copied pending.entry → result ≡ group_delete_finds posts call.now }
 {
-    posts.groups.handle(call.group).ok_or(Refusal::NoGroup)?;
+    groups.handle(call.group).ok_or(Refusal::NoGroup)?;
     if call.group == 0 {
         return Err(Refusal::GroupStage {
             stage: Stage::Committed,
         });
     }
-    check_idle(&posts.pending, call.group)?;
+    check_idle(pending)?;
     Ok(Some(Reply::Done))
 }
 

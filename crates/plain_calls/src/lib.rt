@@ -23,12 +23,15 @@ mod segment_calls;
 mod threads;
 
 pub use calls::{look, news, tell};
-pub use collective_calls::{collective_look, may_join};
+pub use collective_calls::{
+    Joining, args_of, called_on, check_fixed, collective_look, collective_ready, may_join,
+};
 pub use collective_steps::{complete, join};
+pub use group_calls::{group_add_finds, group_create_finds, group_delete_finds, pending_on};
 pub use lanes::{is_carried, is_posted, is_read, is_write, may_put, may_take, place_of};
 pub use looks::Finding;
 pub use memories::{bytes_of, new_slots, segment_at, set_slot};
 pub use queue_calls::purged_queue;
-pub use recording::record;
+pub use recording::{charge, record};
 pub use segment_calls::News;
 pub use threads::{is_running, is_there, thread_at};

@@ -18,7 +18,7 @@ use Rattle.gaspi_types.specs.declared.shapes.CallerId.{CallerId}
 use Rattle.gaspi_types.specs.declared.shapes.Limits.{Limits}
 use Rattle.gaspi_types.proofs.Items.{past-none}
 use Rattle.gaspi_model.specs.Calls.{answer, call_finds, ready_of}
-use Rattle.gaspi_model.specs.CollectiveCalls.{collective_answer, is_join_of, joining_call}
+use Rattle.gaspi_model.specs.CollectiveCalls.{collective_answer, is_join_of, joining_call, group_of}
 use Rattle.gaspi_model.specs.Contributions.{IsSoundGroup, IsSoundPart}
 use Rattle.gaspi_model.specs.Parts.{no_group, group_or_none}
 use Rattle.gaspi_model.specs.Sound.{IsSound}
@@ -32,7 +32,7 @@ use Rattle.gaspi_model.specs.declared.states.Why.TheVariants as whys
 use Rattle.gaspi_model.proofs.CollectiveFinds.{join-found}
 use Rattle.gaspi_model.proofs.Listed.Joining.{same_args-refl, joins-itself}
 use Rattle.gaspi_model.proofs.Sound.Completions.{staged-there, group-there}
-use Rattle.plain_machine.specs.Looking.{MayJoin, group_of}
+use Rattle.plain_machine.specs.Looking.{MayJoin}
 use Rattle.plain_machine.proofs.OnGroups.{completed_steps, joined_err}
 use Rattle.plain_machine.proofs.Recorded.{declared_there}
 

@@ -1,5 +1,6 @@
 pub mod Counted
 pub mod Dropped
+pub mod EventRooms
 pub mod Fitting
 pub mod Joining
 pub mod Kept

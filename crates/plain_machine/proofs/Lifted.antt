@@ -1,11 +1,12 @@
 -- The step of the whole state from that of a rank's posts and the memory that is lent.
-use Rattle.std.proofs.Common.{◌≡◌, ℕ, ◌+◌, ◌^◌, ◌<◌, true, Option, None, Some, Result, Ok, Err, length, slice_get, slice_set, refl, sym, ap, subst, ◌∙◌, arith, List}
+use Rattle.std.proofs.Common.{◌≡◌, ℕ, ◌+◌, ◌^◌, ◌<◌, true, Option, None, Some, Result, Ok, Err, OnOk, OnErr, length, slice_get, slice_set, refl, sym, ap, subst, ◌∙◌, arith, List}
 use Rattle.std.proofs.lemmas.Bool.Decides.{nat_tests}
 use Rattle.gaspi_types.specs.CallRows.{row_of}
 use Rattle.gaspi_types.specs.Checks.{◌>>=◌, found}
 use Rattle.gaspi_types.specs.World.{are_limits}
 use Rattle.gaspi_types.specs.declared.calls.Call.{Call}
 use Rattle.gaspi_types.specs.declared.events.Event.TheVariants.{Called}
+use Rattle.gaspi_types.specs.declared.memory.NoMemory.{NoMemory}
 use Rattle.gaspi_types.specs.declared.replies.Reply.{Reply}
 use Rattle.gaspi_types.specs.declared.shapes.CallerId.{CallerId}
 use Rattle.gaspi_types.specs.declared.shapes.Limits.{Limits}
@@ -25,6 +26,7 @@ use Rattle.gaspi_model.specs.declared.states.StepFault.TheVariants as faults
 use Rattle.gaspi_model.specs.declared.states.Why.{Why}
 use Rattle.plain_machine.specs.Machine.{taken_of}
 use Rattle.plain_machine.specs.Reaching.{call_reach, memory_at, with_memory_at, with_peer_at, Lent, call_lent}
+use Rattle.plain_calls.specs.Looks.{recorded_of}
 use Rattle.plain_calls.specs.Telling.{told}
 use Rattle.plain_calls.specs.declared.segment_calls.News.{News}
 use Rattle.gaspi_types.proofs.Items.{changed_at-found, set-there, there-within}
@@ -36,12 +38,6 @@ pub lift_steps : {S T : Type 0} (result : Result (Unit {0}) StepFault) (old new 
 lift_steps (Ok done) old new outcome s whole is steps = rw steps refl
 lift_steps (Err (faults.Illegal why)) old new outcome s whole is steps = (rw steps.0 refl, ap whole steps.1 ∙ is)
 lift_steps (Err faults.NoMemory) old new outcome s whole is steps = ap whole steps ∙ is
-
--- one that is not made, where more would have been done
-pub lift_fault : {S : Type 0} (fault : StepFault) (old new : S) (outcome : Result S Why) (s : State) (whole more : S → State)
-    → whole old ≡ s → Steps (Err fault) old new outcome → Steps (Err fault) s (whole new) (outcome >>= (λ w. Ok (more w)))
-lift_fault (faults.Illegal why) old new outcome s whole more is steps = (rw steps.0 refl, ap whole steps.1 ∙ is)
-lift_fault faults.NoMemory old new outcome s whole more is steps = ap whole steps ∙ is
 
 -- a step of one rank's posts and a memory, among the posts of all ranks
 pub lent_steps : (result : Result (Unit {0}) StepFault) (all : List Posts) (me : ℕ) (p p' : Posts) (m m' : Memory) (why : Why) (local : Posts → Memory → Result Worked Why)
@@ -77,7 +73,7 @@ called_steps s c call reply reach result m posts' m' plain within is memory kept
     (subst (λ (t : State). Steps result s t (call_lent s.limits s.posts (call_brought s c.rank call) m c call reply >>= (λ w. Ok (whole w)))) new
     (lift_steps result (record { posts = s.posts; memory = m }) (record { posts = posts'; memory = m' }) (call_lent s.limits s.posts (call_brought s c.rank call) m c call reply) s whole old steps))
 
--- a call that tells a peer, and one that would have
+-- a call that tells a peer
 pub called_telling : (s : State) (c : CallerId) (call : Call) (reply : Reply) (rank : ℕ) (p q q' : Posts) (m m' : Memory) (posts' : List Posts)
     → (row_of call).group ≡ None → slice_get s.posts c.rank ≡ Some p → call_reach s.limits c.rank call ≡ PeerPosts rank → m ≡ no_memory → slice_get posts' rank ≡ Some q → q' ≡ peer_after c.rank p call reply q
     → call_lent s.limits s.posts (call_brought s c.rank call) m c call reply ≡ Ok (record { posts = posts'; memory = m' })
@@ -89,17 +85,6 @@ called_telling s c call reply rank p q q' m m' posts' plain there is none peer_t
     ∙ (ap (λ (ps : List Posts). Ok (record s { posts = ps })) (changed_at-found posts' rank q (peer_after c.rank p call reply) peer_there)
     ∙ ap (λ (x : Posts). Ok (record s { posts = slice_set posts' rank x })) (sym told)))
 
-pub called_untold : (s : State) (c : CallerId) (call : Call) (reply : Reply) (rank : ℕ) (p : Posts) (m m' : Memory) (posts' : List Posts) (fault : StepFault)
-    → (row_of call).group ≡ None → slice_get s.posts c.rank ≡ Some p → call_reach s.limits c.rank call ≡ PeerPosts rank → m ≡ no_memory
-    → Steps {S = Lent} (Err fault) (record { posts = s.posts; memory = m }) (record { posts = posts'; memory = m' }) (call_lent s.limits s.posts (call_brought s c.rank call) m c call reply)
-    → Steps (Err fault) s (record s { posts = posts' }) (step s (Called c call reply))
-called_untold s c call reply rank p m m' posts' fault plain there is none steps =
-    let is_step : step s (Called c call reply) ≡ (call_lent s.limits s.posts (call_brought s c.rank call) m c call reply >>= (λ w. Ok (record s { posts = changed_at w.posts rank (peer_after c.rank p call reply) }))) =
-    rw none (called_as s c call reply p (PeerPosts rank) plain there is) in
-    subst (λ (o : Result State Why). Steps (Err fault) s (record s { posts = posts' }) o) (sym is_step)
-    (lift_fault fault (record { posts = s.posts; memory = m }) (record { posts = posts'; memory = m' }) (call_lent s.limits s.posts (call_brought s c.rank call) m c call reply) s
-    (λ w. record s { posts = w.posts }) (λ w. record s { posts = changed_at w.posts rank (peer_after c.rank p call reply) }) refl steps)
-
 -- what a peer is told takes no room
 pub told_taken : (news : Option News) (peer : Posts) → taken_of (told news peer) ≡ taken_of peer
 told_taken None peer = refl
@@ -108,3 +93,16 @@ told_taken (Some news) peer = refl
 -- the count of events has room for one more in its 32 bits
 pub events_fit : (limits : Limits) (p : Posts) → are_limits limits ≡ true → IsSoundPosts limits p → p.events + 1 < 2 ^ 32
 events_fit limits p limited sound = let room = sound.room in grind (arith, nat_tests)
+
+-- and the room that is taken has, too
+pub taken_fits : (limits : Limits) (p : Posts) (n : ℕ) → are_limits limits ≡ true → IsSoundPosts limits p → n ≡ taken_of p → n + 1 < 2 ^ 32
+taken_fits limits p n limited sound is = let room = sound.room in grind (arith, nat_tests)
+
+-- a step that is made, or for which there is no memory
+pub ok_recorded : (P : Type 0) (result : Result (Unit {0}) NoMemory) → OnOk result P → OnOk (recorded_of result) P
+ok_recorded P (Ok done) h = h
+ok_recorded P (Err fault) h = h
+
+pub err_recorded : (P : Type 0) (result : Result (Unit {0}) NoMemory) → OnErr result P → OnErr (recorded_of result) P
+err_recorded P (Ok done) h = h
+err_recorded P (Err fault) h = h

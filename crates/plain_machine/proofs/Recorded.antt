@@ -65,7 +65,7 @@ finding_answers s c call look declared finds = by_group (row_of call).group refl
     by_group (Some id) named = rw (d.item, named) (ap (λ (r : Ready). Some r) (sym (finds.meets d.posts id d.item named)))
 
 -- a call that is no step on its rank's posts is none, where it is no collective
-refused : (s : State) (c : CallerId) (call : Call) (reply : Reply) (p : Posts) (why : Why) → (row_of call).group ≡ None → slice_get s.posts c.rank ≡ Some p
+pub refused : (s : State) (c : CallerId) (call : Call) (reply : Reply) (p : Posts) (why : Why) → (row_of call).group ≡ None → slice_get s.posts c.rank ≡ Some p
     → called s.limits c.rank p (call_brought s c.rank call) (memory_at s.memories c.rank (call_reach s.limits c.rank call)) c.thread call reply ≡ Err why → step s (Called c call reply) ≡ Err why
 refused s c call reply p why plain there is = called_as s c call reply p (call_reach s.limits c.rank call) plain there refl ∙ (rw there rw is refl)
 

@@ -1,17 +1,15 @@
 -- A look at a call in the whole state.
-use Rattle.std.specs.Prelude.{◌≡◌, ℕ, true, Option, Some, slice_get, None, if◌then◌else◌}
-use Rattle.std.specs.Option.{unwrap_or}
+use Rattle.std.specs.Prelude.{◌≡◌, ℕ, ◌+◌, ◌≤◌, List, true, Option, Some, slice_get, None, if◌then◌else◌}
 use Rattle.gaspi_types.specs.CallRows.{row_of}
 use Rattle.gaspi_types.specs.declared.calls.Call.{Call}
-use Rattle.gaspi_types.specs.declared.events.Event.{Event}
-use Rattle.gaspi_types.specs.declared.events.Event.TheVariants.{Joined}
 use Rattle.gaspi_types.specs.declared.groups.Args.{Args}
+use Rattle.gaspi_types.specs.declared.replies.Ready.{Ready}
 use Rattle.gaspi_types.specs.declared.shapes.CallerId.{CallerId}
 use Rattle.gaspi_types.specs.declared.shapes.Limits.{Limits}
 use Rattle.gaspi_types.specs.Replies.{is_idle}
-use Rattle.gaspi_model.specs.Calls.{recorded_reply}
+use Rattle.gaspi_model.specs.Calls.{charge, recorded_reply}
 use Rattle.gaspi_model.specs.CollectiveCalls.{collective_answer, is_join_of, joining_call}
-use Rattle.gaspi_model.specs.State.{thread_at}
+use Rattle.gaspi_model.specs.State.{owed, thread_at}
 use Rattle.gaspi_model.specs.Step.{call_memory, call_brought, group_in, is_there}
 use Rattle.gaspi_model.specs.declared.states.Posts.{Posts}
 use Rattle.gaspi_model.specs.declared.states.Memory.{Memory}
@@ -47,10 +45,11 @@ abbrev pub MayJoin : State → CallerId → ℕ → Args → Type 0
 MayJoin s c id args =
     (posts : Posts) → slice_get s.posts c.rank ≡ Some posts → is_join_of (collective_answer posts (group_in s id) c.rank c.thread id (joining_call id args)) args ≡ true
 
--- the group of a collective
-abbrev pub group_of : Call → ℕ
-group_of call = unwrap_or (row_of call).group 0
+-- the rank of a caller has room for the event that records what a look found
+abbrev pub HasEventRoom : Limits → List Posts → CallerId → Call → Ready → Type 0
+HasEventRoom limits all c call ready =
+    (posts : Posts) → slice_get all c.rank ≡ Some posts → posts.events + owed posts + charge (thread_at posts c.thread) call (recorded_reply ready) ≤ limits.events
 
--- the join of a call with its arguments
-abbrev pub join_event : CallerId → Call → Args → Event
-join_event c call args = Joined c (group_of call) args
+-- a rank has room for the event of a join
+abbrev pub HasJoinRoom : Limits → List Posts → ℕ → Type 0
+HasJoinRoom limits all rank = (posts : Posts) → slice_get all rank ≡ Some posts → posts.events + owed posts + 1 ≤ limits.events

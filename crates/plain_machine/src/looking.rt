@@ -1,23 +1,24 @@
 //! A look at a call in the whole state, and its record: the step by the call with what the look found.
 
-ghost use Rattle.std.specs.Prelude.{◌≡◌, ◌≢◌, ◌<◌, ◌||◌, List, length, map, slice_get, IfOk, IsOk, Err, true, false, Some, None};
+ghost use Rattle.std.specs.Prelude.{◌≡◌, ◌≢◌, ◌+◌, ◌<◌, ◌≤◌, ◌||◌, List, nat_le, length, map, slice_get, IfOk, IsOk, Ok, Err, true, false, Some, None};
 ghost use Rattle.gaspi_types.specs.CallRows.{row_of};
 ghost use Rattle.gaspi_types.specs.Replies.{is_idle};
 ghost use Rattle.gaspi_types.specs.Tables.{entry_at};
+ghost use Rattle.gaspi_types.specs.World.{are_limits};
 ghost use Rattle.gaspi_types.specs.declared.events.Event.TheVariants.{Called, Joined};
 ghost use Rattle.gaspi_types.specs.declared.replies.Ready.{Ready};
 ghost use Rattle.gaspi_types.specs.declared.replies.Ready.TheVariants.{Join};
-ghost use Rattle.gaspi_types.specs.declared.touches.Reach.TheVariants.{PeerPosts};
-ghost use Rattle.gaspi_model.specs.Calls.{recorded_reply};
-ghost use Rattle.gaspi_model.specs.CollectiveCalls.{collective_answer, is_join_of, joining_call, is_joining};
-ghost use Rattle.gaspi_model.specs.Step.{answer_in, group_in, step, Steps, is_declared, is_pending, is_pending_of};
+ghost use Rattle.gaspi_model.specs.Calls.{charge, recorded_reply};
+ghost use Rattle.gaspi_model.specs.CollectiveCalls.{collective_answer, is_join_of, joining_call, is_joining, join_event};
+ghost use Rattle.gaspi_model.specs.State.{owed, thread_at};
+ghost use Rattle.gaspi_model.specs.Step.{answer_in, step, Steps, is_declared, is_pending, is_pending_of};
 ghost use Rattle.gaspi_model.specs.declared.states.Memory.{Memory};
 ghost use Rattle.gaspi_model.specs.declared.states.Posts.{Posts};
-ghost use Rattle.plain_calls.specs.Looks.{made_of};
+ghost use Rattle.plain_calls.specs.Looks.{recorded_of};
 ghost use Rattle.plain_calls.specs.Memory.{is_send, is_allreduce, looks_with_memory, keeps_memory};
-ghost use Rattle.plain_machine.specs.Looking.{IsFindingIn, IsFindingOn, MayJoin, join_event, look_purge};
+ghost use Rattle.plain_machine.specs.Looking.{IsFindingIn, IsFindingOn, MayJoin, HasEventRoom, HasJoinRoom, look_purge};
 ghost use Rattle.plain_machine.specs.Machine.{AreWhole, IsMachine, state_in, taken_of};
-ghost use Rattle.plain_machine.specs.Reaching.{call_reach, Lent, call_lent, AreRanks};
+ghost use Rattle.plain_machine.specs.Reaching.{Lent, call_lent, group_at, AreRanks};
 ghost use Rattle.plain_machine.specs.Standing.{standing_lanes};
 
 use crate::ranks::Ranks;
@@ -25,11 +26,12 @@ use crate::reaching::{call_reach, group_in, no_group, no_memory, own_memory, wor
 use crate::standing::{LaneId, has_entry, look_lane, look_purge, name_lane, unname_queue};
 use gaspi_model::{Memory, Posts, StepFault, Why};
 use gaspi_types::{
-    Args, Call, CallerId, Event, GroupId, NoMemory, RankId, Reach, Ready, Reply, Rows, ThreadId,
+    Args, Call, CallerId, Event, GroupId, Invocation, NoMemory, RankId, Reach, Ready, Reply, Rows,
+    ThreadId,
 };
 use plain_calls::{
-    Finding, collective_look, complete, is_there, join, look, may_join, news, record, tell,
-    thread_at,
+    Finding, Joining, charge, collective_look, complete, is_there, join, look, may_join, news,
+    pending_on, record, tell, thread_at,
 };
 use std::alloc::Global;
 
@@ -47,9 +49,9 @@ pub fn has_section(ranks: &Ranks, caller: &CallerId) -> bool
 fn is_pending_at(posts: &Posts, thread: ThreadId, id: u64) -> bool
     ensures { result ≡ is_pending_of thread (entry_at posts.now.pending id) }
 {
-    match posts.pending.get(id as usize) {
-        Some(Some(pending)) => pending.thread.number() == thread.number(),
-        Some(None) | None => false,
+    match pending_on(&posts.pending, id) {
+        Some(pending) => pending.thread.number() == thread.number(),
+        None => false,
     }
 }
 
@@ -59,48 +61,43 @@ fn look_plain(
     ranks: &Ranks,
     memories: &Rows<Memory>,
     alloc: Global,
-    caller: &CallerId,
-    call: &Call,
+    invocation: &Invocation<'_>,
 ) -> Result<Finding, NoMemory>
     requires whole { AreWhole ranks.now memories.now }
-    requires there { caller.now.rank < length ranks.now.posts }
-    requires plain { (row_of call.now).group ≡ None }
-    ensures look { IfOk result (λ look. IsFindingIn look (state_in ranks.now memories.now) caller.now call.now) }
-    ensures ample { looks_with_memory call.now ≡ false → IsOk result }
-    ensures idle { (ready : Ready) → is_send call.now ≡ true → answer_in (state_in ranks.now memories.now) caller.now.rank caller.now.thread call.now ≡ Some ready → is_idle (recorded_reply ready) ≡ true → IsOk result }
+    requires there { invocation.now.caller.rank < length ranks.now.posts }
+    requires plain { (row_of invocation.now.call.now).group ≡ None }
+    ensures look { IfOk result (λ look. IsFindingIn look (state_in ranks.now memories.now) invocation.now.caller invocation.now.call.now) }
+    ensures ample { looks_with_memory invocation.now.call.now ≡ false → IsOk result }
+    ensures idle { (ready : Ready) → is_send invocation.now.call.now ≡ true → answer_in (state_in ranks.now memories.now) invocation.now.caller.rank invocation.now.caller.thread invocation.now.call.now ≡ Some ready → is_idle (recorded_reply ready) ≡ true → IsOk result }
 {
     let none = no_memory(alloc);
-    let reach = call_reach(&ranks.limits, caller.rank, call);
-    let own_reach = call_reach(&ranks.limits, caller.rank, call);
-    let own = own_memory(memories, &none, caller.rank, own_reach);
-    let memory = worked_memory(memories, &none, caller.rank, reach);
+    let rank = invocation.caller.rank;
+    let reach = call_reach(&ranks.limits, invocation);
+    let own = own_memory(memories, &none, rank, &reach);
+    let memory = worked_memory(memories, &none, rank, &reach);
     look(
         alloc,
         &ranks.limits,
-        caller.rank,
-        ranks.posts.at(caller.rank.index()),
+        invocation,
+        ranks.posts.at(rank.index()),
         own,
         memory,
-        caller.thread,
-        call,
     )
 }
 
 /// Looks at a collective of a caller. Only an allreduce takes memory.
 fn look_collective(
     ranks: &Ranks,
-    memories: &Rows<Memory>,
     alloc: Global,
     caller: &CallerId,
     id: u64,
     call: &Call,
 ) -> Result<Ready, NoMemory>
-    requires whole { AreWhole ranks.now memories.now }
+    requires whole { (memories : List Memory) × AreWhole ranks.now memories }
     requires there { caller.now.rank < length ranks.now.posts }
-    ensures look { IfOk result (λ ready. (posts : Posts) → slice_get ranks.now.posts caller.now.rank ≡ Some posts → ready ≡ collective_answer posts (group_in (state_in ranks.now memories.now) id) caller.now.rank caller.now.thread id call.now) }
+    ensures look { IfOk result (λ ready. (posts : Posts) → slice_get ranks.now.posts caller.now.rank ≡ Some posts → ready ≡ collective_answer posts (group_at ranks.now.groups id) caller.now.rank caller.now.thread id call.now) }
     ensures ample { is_allreduce call.now ≡ false → IsOk result }
 {
-    let _memories = memories;
     let none = no_group(alloc);
     collective_look(
         alloc,
@@ -118,29 +115,29 @@ pub fn look_in(
     ranks: &Ranks,
     memories: &Rows<Memory>,
     alloc: Global,
-    caller: &CallerId,
-    call: &Call,
+    invocation: &Invocation<'_>,
 ) -> Result<Finding, NoMemory>
     requires whole { AreWhole ranks.now memories.now }
-    requires there { caller.now.rank < length ranks.now.posts }
-    ensures look { IfOk result (λ look. IsFindingIn look (state_in ranks.now memories.now) caller.now call.now) }
-    ensures ample { looks_with_memory call.now ≡ false → IsOk result }
-    ensures idle { (ready : Ready) → is_send call.now ≡ true → answer_in (state_in ranks.now memories.now) caller.now.rank caller.now.thread call.now ≡ Some ready → is_idle (recorded_reply ready) ≡ true → IsOk result }
+    requires there { invocation.now.caller.rank < length ranks.now.posts }
+    ensures look { IfOk result (λ look. IsFindingIn look (state_in ranks.now memories.now) invocation.now.caller invocation.now.call.now) }
+    ensures ample { looks_with_memory invocation.now.call.now ≡ false → IsOk result }
+    ensures idle { (ready : Ready) → is_send invocation.now.call.now ≡ true → answer_in (state_in ranks.now memories.now) invocation.now.caller.rank invocation.now.caller.thread invocation.now.call.now ≡ Some ready → is_idle (recorded_reply ready) ≡ true → IsOk result }
 {
-    match call.row().group {
+    match invocation.row.group {
         Some(id) => {
-            let ready = look_collective(ranks, memories, alloc, caller, id, call)?;
+            let ready = look_collective(ranks, alloc, &invocation.caller, id, invocation.call)?;
             Ok(Finding::plain(ready))
         }
-        None => look_plain(ranks, memories, alloc, caller, call),
+        None => look_plain(ranks, memories, alloc, invocation),
     }
 }
 
-/// Whether a collective is pending for a caller on the group that a call names.
-pub fn is_pending_in(ranks: &Ranks, caller: &CallerId, call: &Call) -> bool
-    ensures { (memories : List Memory) → result ≡ is_pending (state_in ranks.now memories) caller.now.rank caller.now.thread call.now }
+/// Whether a collective is pending for a caller on the group that its call names.
+pub fn is_pending_in(ranks: &Ranks, invocation: &Invocation<'_>) -> bool
+    ensures { (memories : List Memory) → result ≡ is_pending (state_in ranks.now memories) invocation.now.caller.rank invocation.now.caller.thread invocation.now.call.now }
 {
-    match (ranks.posts.get(caller.rank.index()), call.row().group) {
+    let caller = invocation.caller;
+    match (ranks.posts.get(caller.rank.index()), invocation.row.group) {
         (Some(posts), Some(id)) => is_pending_at(posts, caller.thread, id),
         _ => false,
     }
@@ -153,72 +150,32 @@ fn record_on(
     ranks: &mut Ranks,
     memory: &mut Memory,
     alloc: Global,
-    caller: CallerId,
-    call: &Call,
+    invocation: &Invocation<'_>,
     look: Finding,
-) -> Result<Reply, StepFault>
+) -> Result<Reply, NoMemory>
     requires ranks { AreRanks ranks.old.limits ranks.old.posts }
     requires taken { ranks.old.taken ≡ map taken_of ranks.old.posts }
-    requires there { caller.rank < length ranks.old.posts }
-    requires look { (posts : Posts) → slice_get ranks.old.posts caller.rank ≡ Some posts → IsFindingOn look ranks.old.limits posts memory.old caller call.now }
+    requires there { invocation.now.caller.rank < length ranks.old.posts }
+    requires look { (posts : Posts) → slice_get ranks.old.posts invocation.now.caller.rank ≡ Some posts → IsFindingOn look ranks.old.limits posts memory.old invocation.now.caller invocation.now.call.now }
+    requires room { HasEventRoom ranks.old.limits ranks.old.posts invocation.now.caller invocation.now.call.now look.ready }
     ensures reply { IfOk result (λ reply. reply ≡ recorded_reply look.ready) }
-    ensures step { Steps {S = Lent} (made_of result) (record { posts = ranks.old.posts; memory = memory.old }) (record { posts = ranks.new.posts; memory = memory.new }) (call_lent ranks.old.limits ranks.old.posts look.message memory.old caller call.now (recorded_reply look.ready)) }
+    ensures step { Steps {S = Lent} (recorded_of result) (record { posts = ranks.old.posts; memory = memory.old }) (record { posts = ranks.new.posts; memory = memory.new }) (call_lent ranks.old.limits ranks.old.posts look.message memory.old invocation.now.caller invocation.now.call.now (recorded_reply look.ready)) }
     ensures ranks { length ranks.new.posts ≡ length ranks.old.posts }
     ensures limits { ranks.new.limits ≡ ranks.old.limits }
     ensures groups { ranks.new.groups ≡ ranks.old.groups }
     ensures taken { ranks.new.taken ≡ map taken_of ranks.new.posts }
-    ensures ample { keeps_memory call.now ≡ false → result ≢ Err StepFault.NoMemory }
+    ensures ample { keeps_memory invocation.now.call.now ≡ false → IsOk result }
 {
-    let rank = caller.rank.index();
+    let rank = invocation.caller.rank.index();
     record(
         alloc,
         &ranks.limits,
-        caller.rank,
+        invocation,
         ranks.posts.at_mut(rank),
         memory,
         ranks.taken.at_mut(rank),
-        caller.thread,
-        call,
         look,
     )
-}
-
-/// Records a look at a call that tells a peer.
-#[inline(always)]
-fn record_telling(
-    ranks: &mut Ranks,
-    memories: &Rows<Memory>,
-    alloc: Global,
-    caller: CallerId,
-    call: &Call,
-    look: Finding,
-    peer: RankId,
-) -> Result<Reply, StepFault>
-    requires whole { AreWhole ranks.old memories.now }
-    requires declared { is_declared (state_in ranks.old memories.now) caller.rank caller.thread ≡ true }
-    requires look { IsFindingIn look (state_in ranks.old memories.now) caller call.now }
-    requires plain { (row_of call.now).group ≡ None }
-    requires reach { call_reach ranks.old.limits caller.rank call.now ≡ PeerPosts peer }
-    ensures reply { IfOk result (λ reply. reply ≡ recorded_reply look.ready) }
-    ensures step { Steps (made_of result) (state_in ranks.old memories.now) (state_in ranks.new memories.now) (step (state_in ranks.old memories.now) (Called caller call.now (recorded_reply look.ready))) }
-    ensures taken { ranks.new.taken ≡ map taken_of ranks.new.posts }
-    ensures ample { keeps_memory call.now ≡ false → result ≢ Err StepFault.NoMemory }
-{
-    let _memories = memories;
-    let news = news(
-        caller.rank,
-        ranks.posts.at(caller.rank.index()),
-        call,
-        &look,
-    );
-    let mut none = no_memory(alloc);
-    match record_on(ranks, &mut none, alloc, caller, call, look) {
-        Ok(reply) => {
-            tell(ranks.posts.at_mut(peer.index()), news);
-            Ok(reply)
-        }
-        Err(fault) => Err(fault),
-    }
 }
 
 /// Records a look at a call that is no collective.
@@ -227,96 +184,93 @@ fn record_plain(
     ranks: &mut Ranks,
     memories: &mut Rows<Memory>,
     alloc: Global,
-    caller: CallerId,
-    call: &Call,
+    invocation: &Invocation<'_>,
     look: Finding,
-) -> Result<Reply, StepFault>
+) -> Result<Reply, NoMemory>
     requires whole { AreWhole ranks.old memories.old }
-    requires declared { is_declared (state_in ranks.old memories.old) caller.rank caller.thread ≡ true }
-    requires look { IsFindingIn look (state_in ranks.old memories.old) caller call.now }
-    requires plain { (row_of call.now).group ≡ None }
+    requires declared { is_declared (state_in ranks.old memories.old) invocation.now.caller.rank invocation.now.caller.thread ≡ true }
+    requires look { IsFindingIn look (state_in ranks.old memories.old) invocation.now.caller invocation.now.call.now }
+    requires plain { (row_of invocation.now.call.now).group ≡ None }
+    requires room { HasEventRoom ranks.old.limits ranks.old.posts invocation.now.caller invocation.now.call.now look.ready }
     ensures reply { IfOk result (λ reply. reply ≡ recorded_reply look.ready) }
-    ensures step { Steps (made_of result) (state_in ranks.old memories.old) (state_in ranks.new memories.new) (step (state_in ranks.old memories.old) (Called caller call.now (recorded_reply look.ready))) }
+    ensures step { Steps (recorded_of result) (state_in ranks.old memories.old) (state_in ranks.new memories.new) (step (state_in ranks.old memories.old) (Called invocation.now.caller invocation.now.call.now (recorded_reply look.ready))) }
     ensures taken { ranks.new.taken ≡ map taken_of ranks.new.posts }
-    ensures ample { keeps_memory call.now ≡ false → result ≢ Err StepFault.NoMemory }
+    ensures ample { keeps_memory invocation.now.call.now ≡ false → IsOk result }
 {
-    match call_reach(&ranks.limits, caller.rank, call) {
+    let rank = invocation.caller.rank;
+    match call_reach(&ranks.limits, invocation) {
         Reach::Alone => {
             let mut none = no_memory(alloc);
-            record_on(ranks, &mut none, alloc, caller, call, look)
+            record_on(ranks, &mut none, alloc, invocation, look)
         }
         Reach::OwnMemory => {
-            let memory = memories.at_mut(caller.rank.index());
-            record_on(ranks, memory, alloc, caller, call, look)
+            let memory = memories.at_mut(rank.index());
+            record_on(ranks, memory, alloc, invocation, look)
         }
         Reach::PeerMemory(peer) => {
             let memory = memories.at_mut(peer.index());
-            record_on(ranks, memory, alloc, caller, call, look)
+            record_on(ranks, memory, alloc, invocation, look)
         }
         Reach::BothMemories(peer) => {
             let target = memories.at_mut(peer.index());
-            record_on(ranks, target, alloc, caller, call, look)
+            record_on(ranks, target, alloc, invocation, look)
         }
         Reach::Group(_) => {
             let mut none = no_memory(alloc);
-            record_on(ranks, &mut none, alloc, caller, call, look)
+            record_on(ranks, &mut none, alloc, invocation, look)
         }
         Reach::GroupAndMemory(_) => {
-            let memory = memories.at_mut(caller.rank.index());
-            record_on(ranks, memory, alloc, caller, call, look)
+            let memory = memories.at_mut(rank.index());
+            record_on(ranks, memory, alloc, invocation, look)
         }
-        Reach::PeerPosts(peer) => record_telling(ranks, memories, alloc, caller, call, look, peer),
+        Reach::PeerPosts(peer) => {
+            let own = ranks.posts.at(rank.index());
+            let news = news(rank, own, invocation.call, &look);
+            let mut none = no_memory(alloc);
+            let reply = record_on(ranks, &mut none, alloc, invocation, look)?;
+            tell(ranks.posts.at_mut(peer.index()), news);
+            Ok(reply)
+        }
     }
 }
 
 /// Completes a collective that was looked at, or records its refusal or its timeout. It takes no memory.
 fn record_collective(
     ranks: &mut Ranks,
-    memories: &Rows<Memory>,
     alloc: Global,
-    caller: CallerId,
+    invocation: &Invocation<'_>,
     id: u64,
-    call: &Call,
     ready: Ready,
-) -> Result<Reply, StepFault>
-    requires whole { AreWhole ranks.old memories.now }
-    requires declared { is_declared (state_in ranks.old memories.now) caller.rank caller.thread ≡ true }
-    requires there { caller.rank < length ranks.old.posts }
-    requires group { (row_of call.now).group ≡ Some id }
-    requires look { (posts : Posts) → slice_get ranks.old.posts caller.rank ≡ Some posts → ready ≡ collective_answer posts (group_in (state_in ranks.old memories.now) id) caller.rank caller.thread id call.now }
+) -> Reply
+    requires whole { (memories : List Memory) × AreWhole ranks.old memories }
+    requires declared { (memories : List Memory) → is_declared (state_in ranks.old memories) invocation.now.caller.rank invocation.now.caller.thread ≡ true }
+    requires there { invocation.now.caller.rank < length ranks.old.posts }
+    requires group { (row_of invocation.now.call.now).group ≡ Some id }
+    requires look { (posts : Posts) → slice_get ranks.old.posts invocation.now.caller.rank ≡ Some posts → ready ≡ collective_answer posts (group_at ranks.old.groups id) invocation.now.caller.rank invocation.now.caller.thread id invocation.now.call.now }
     requires unjoined { is_joining ready ≡ false }
-    ensures reply { IfOk result (λ reply. reply ≡ recorded_reply ready) }
-    ensures step { Steps (made_of result) (state_in ranks.old memories.now) (state_in ranks.new memories.now) (step (state_in ranks.old memories.now) (Called caller call.now (recorded_reply ready))) }
+    requires room { HasEventRoom ranks.old.limits ranks.old.posts invocation.now.caller invocation.now.call.now ready }
+    ensures reply { result ≡ recorded_reply ready }
+    ensures step { (memories : List Memory) → step (state_in ranks.old memories) (Called invocation.now.caller invocation.now.call.now (recorded_reply ready)) ≡ Ok (state_in ranks.new memories) }
     ensures taken { ranks.new.taken ≡ map taken_of ranks.new.posts }
-    ensures ample { result ≢ Err StepFault.NoMemory }
 {
-    let _memories = memories;
-    let rank = caller.rank.index();
-    let thread = caller.thread;
-    let me = caller.rank;
+    let rank = invocation.caller.rank.index();
     if id < 8 {
         return complete(
-            &ranks.limits,
-            me,
+            invocation,
+            id,
             ranks.posts.at_mut(rank),
             ranks.groups.at_mut(id as usize),
             ranks.taken.at_mut(rank),
-            thread,
-            id,
-            call,
             ready,
         );
     }
     let mut none = no_group(alloc);
     complete(
-        &ranks.limits,
-        me,
+        invocation,
+        id,
         ranks.posts.at_mut(rank),
         &mut none,
         ranks.taken.at_mut(rank),
-        thread,
-        id,
-        call,
         ready,
     )
 }
@@ -328,68 +282,84 @@ fn record_posting(
     memories: &mut Rows<Memory>,
     standing: &mut Vec<LaneId>,
     alloc: Global,
-    caller: CallerId,
-    call: &Call,
+    invocation: &Invocation<'_>,
     look: Finding,
-) -> Result<Reply, StepFault>
+) -> Result<Reply, NoMemory>
     requires machine { IsMachine (state_in ranks.old memories.old) ranks.old.taken standing.old.items }
-    requires declared { is_declared (state_in ranks.old memories.old) caller.rank caller.thread ≡ true }
-    requires look { IsFindingIn look (state_in ranks.old memories.old) caller call.now }
-    requires plain { (row_of call.now).group ≡ None }
-    requires unpurged { look_purge call.now look ≡ None }
+    requires declared { is_declared (state_in ranks.old memories.old) invocation.now.caller.rank invocation.now.caller.thread ≡ true }
+    requires look { IsFindingIn look (state_in ranks.old memories.old) invocation.now.caller invocation.now.call.now }
+    requires plain { (row_of invocation.now.call.now).group ≡ None }
+    requires unpurged { look_purge invocation.now.call.now look ≡ None }
+    requires room { HasEventRoom ranks.old.limits ranks.old.posts invocation.now.caller invocation.now.call.now look.ready }
     ensures reply { IfOk result (λ reply. reply ≡ recorded_reply look.ready) }
-    ensures step { Steps (made_of result) (state_in ranks.old memories.old) (state_in ranks.new memories.new) (step (state_in ranks.old memories.old) (Called caller call.now (recorded_reply look.ready))) }
+    ensures step { Steps (recorded_of result) (state_in ranks.old memories.old) (state_in ranks.new memories.new) (step (state_in ranks.old memories.old) (Called invocation.now.caller invocation.now.call.now (recorded_reply look.ready))) }
     ensures taken { ranks.new.taken ≡ map taken_of ranks.new.posts }
     ensures named { standing.new.items ≡ standing_lanes ranks.new.posts }
-    ensures ample { keeps_memory call.now ≡ false → result ≢ Err StepFault.NoMemory }
+    ensures ample { keeps_memory invocation.now.call.now ≡ false → IsOk result }
 {
-    let Some(id) = look_lane(caller.rank, call, &look) else {
-        return record_plain(ranks, memories, alloc, caller, call, look);
+    let Some(id) = look_lane(invocation, &look) else {
+        return record_plain(ranks, memories, alloc, invocation, look);
     };
     if has_entry(&ranks.posts, &id) {
-        return record_plain(ranks, memories, alloc, caller, call, look);
+        return record_plain(ranks, memories, alloc, invocation, look);
     }
     if standing.reserve(1).is_err() {
-        return Err(StepFault::NoMemory);
+        return Err(NoMemory);
     }
-    let reply = record_plain(ranks, memories, alloc, caller, call, look)?;
+    let reply = record_plain(ranks, memories, alloc, invocation, look)?;
     name_lane(standing, id);
     Ok(reply)
 }
 
 /// Records a look at a call, and names the lane to which it posts; the lanes of a queue that it purges are named no more. It
-/// gives the reply with which the call was recorded. The look is one of this very call in this very state, and found no join, so nothing
-/// is looked for again: what is left to check is that the rank has room.
+/// gives the reply with which the call was recorded. The look is one of this very call in this very state, and found no join, and
+/// the rank has room for its event, so nothing is looked for or tested again.
 #[inline(always)]
 pub fn record_named(
     ranks: &mut Ranks,
     memories: &mut Rows<Memory>,
     standing: &mut Vec<LaneId>,
     alloc: Global,
-    caller: CallerId,
-    call: &Call,
+    invocation: &Invocation<'_>,
     look: Finding,
-) -> Result<Reply, StepFault>
+) -> Result<Reply, NoMemory>
     requires machine { IsMachine (state_in ranks.old memories.old) ranks.old.taken standing.old.items }
-    requires declared { is_declared (state_in ranks.old memories.old) caller.rank caller.thread ≡ true }
-    requires look { IsFindingIn look (state_in ranks.old memories.old) caller call.now }
+    requires declared { is_declared (state_in ranks.old memories.old) invocation.now.caller.rank invocation.now.caller.thread ≡ true }
+    requires look { IsFindingIn look (state_in ranks.old memories.old) invocation.now.caller invocation.now.call.now }
     requires unjoined { is_joining look.ready ≡ false }
+    requires room { HasEventRoom ranks.old.limits ranks.old.posts invocation.now.caller invocation.now.call.now look.ready }
     ensures reply { IfOk result (λ reply. reply ≡ recorded_reply look.ready) }
-    ensures step { Steps (made_of result) (state_in ranks.old memories.old) (state_in ranks.new memories.new) (step (state_in ranks.old memories.old) (Called caller call.now (recorded_reply look.ready))) }
+    ensures step { Steps (recorded_of result) (state_in ranks.old memories.old) (state_in ranks.new memories.new) (step (state_in ranks.old memories.old) (Called invocation.now.caller invocation.now.call.now (recorded_reply look.ready))) }
     ensures taken { ranks.new.taken ≡ map taken_of ranks.new.posts }
     ensures named { standing.new.items ≡ standing_lanes ranks.new.posts }
-    ensures ample { keeps_memory call.now ≡ false → result ≢ Err StepFault.NoMemory }
+    ensures ample { keeps_memory invocation.now.call.now ≡ false → IsOk result }
 {
-    if let Some(id) = call.row().group {
-        return record_collective(ranks, memories, alloc, caller, id, call, look.ready);
+    if let Some(id) = invocation.row.group {
+        let reply = record_collective(ranks, alloc, invocation, id, look.ready);
+        return Ok(reply);
     }
-    let Some(queue) = look_purge(call, &look) else {
-        return record_posting(ranks, memories, standing, alloc, caller, call, look);
+    let Some(queue) = look_purge(invocation.call, &look) else {
+        return record_posting(ranks, memories, standing, alloc, invocation, look);
     };
-    let origin = caller.rank;
-    let reply = record_plain(ranks, memories, alloc, caller, call, look)?;
-    unname_queue(standing, origin, queue);
+    let reply = record_plain(ranks, memories, alloc, invocation, look)?;
+    unname_queue(standing, invocation.caller.rank, queue);
     Ok(reply)
+}
+
+/// Whether the rank of a caller has room for the event that records what a look found.
+fn has_event_room(ranks: &Ranks, invocation: &Invocation<'_>, ready: &Ready) -> bool
+    requires limits { are_limits ranks.now.limits ≡ true }
+    requires room { (posts : Posts) → slice_get ranks.now.posts invocation.now.caller.rank ≡ Some posts → posts.events + owed posts ≤ ranks.now.limits.events }
+    requires taken { ranks.now.taken ≡ map taken_of ranks.now.posts }
+    requires there { invocation.now.caller.rank < length ranks.now.posts }
+    ensures { (posts : Posts) → slice_get ranks.now.posts invocation.now.caller.rank ≡ Some posts
+        → result ≡ nat_le (posts.events + owed posts + charge (thread_at posts invocation.now.caller.thread) invocation.now.call.now (recorded_reply ready.now)) ranks.now.limits.events }
+{
+    let rank = invocation.caller.rank.index();
+    let posts = ranks.posts.at(rank);
+    let taken = *ranks.taken.at(rank);
+    let state = thread_at(posts, invocation.caller.thread);
+    taken + charge(state, invocation, ready) <= ranks.limits.events
 }
 
 /// Steps by a call with its reply: its caller has a section, the reply is the one that may be recorded, and its rank has
@@ -399,89 +369,91 @@ pub fn step_called(
     memories: &mut Rows<Memory>,
     standing: &mut Vec<LaneId>,
     alloc: Global,
-    caller: CallerId,
-    call: &Call,
+    invocation: &Invocation<'_>,
     reply: &Reply,
 ) -> Result<(), StepFault>
     requires { IsMachine (state_in ranks.old memories.old) ranks.old.taken standing.old.items }
-    ensures step { Steps result (state_in ranks.old memories.old) (state_in ranks.new memories.new) (step (state_in ranks.old memories.old) (Called caller call.now reply.now)) }
+    ensures step { Steps result (state_in ranks.old memories.old) (state_in ranks.new memories.new) (step (state_in ranks.old memories.old) (Called invocation.now.caller invocation.now.call.now reply.now)) }
     ensures taken { ranks.new.taken ≡ map taken_of ranks.new.posts }
     ensures named { standing.new.items ≡ standing_lanes ranks.new.posts }
-    ensures ample { (looks_with_memory call.now || keeps_memory call.now) ≡ false → result ≢ Err StepFault.NoMemory }
+    ensures ample { (looks_with_memory invocation.now.call.now || keeps_memory invocation.now.call.now) ≡ false → result ≢ Err StepFault.NoMemory }
 {
-    if !has_section(ranks, &caller) {
+    if !has_section(ranks, &invocation.caller) {
         return Err(StepFault::Illegal(Why::Caller));
     }
-    let look = match look_in(ranks, memories, alloc, &caller, call) {
+    let look = match look_in(ranks, memories, alloc, invocation) {
         Ok(look) => look,
         Err(NoMemory) => return Err(StepFault::NoMemory),
     };
     if !look.is_recorded_with(reply) {
         return Err(StepFault::Illegal(Why::Reply));
     }
-    match record_named(ranks, memories, standing, alloc, caller, call, look) {
+    if !has_event_room(ranks, invocation, &look.ready) {
+        return Err(StepFault::Illegal(Why::Limit));
+    }
+    match record_named(ranks, memories, standing, alloc, invocation, look) {
         Ok(_) => Ok(()),
-        Err(fault) => Err(fault),
+        Err(NoMemory) => Err(StepFault::NoMemory),
     }
 }
 
 /// Whether a collective of a caller may join a group with these arguments.
-fn may_join_in(
-    ranks: &Ranks,
-    memories: &Rows<Memory>,
-    alloc: Global,
-    caller: &CallerId,
-    id: GroupId,
-    args: &Args,
-) -> Result<bool, NoMemory>
-    requires whole { AreWhole ranks.now memories.now }
-    requires there { caller.now.rank < length ranks.now.posts }
-    ensures { IfOk result (λ may. (posts : Posts) → slice_get ranks.now.posts caller.now.rank ≡ Some posts → may ≡ is_join_of (collective_answer posts (group_in (state_in ranks.now memories.now) id) caller.now.rank caller.now.thread id (joining_call id args.now)) args.now) }
+fn may_join_in(ranks: &Ranks, alloc: Global, joining: &Joining<'_>) -> Result<bool, NoMemory>
+    requires whole { (memories : List Memory) × AreWhole ranks.now memories }
+    requires there { joining.now.caller.rank < length ranks.now.posts }
+    ensures { IfOk result (λ may. (posts : Posts) → slice_get ranks.now.posts joining.now.caller.rank ≡ Some posts
+        → may ≡ is_join_of (collective_answer posts (group_at ranks.now.groups joining.now.group) joining.now.caller.rank joining.now.caller.thread joining.now.group (joining_call joining.now.group joining.now.args.now)) joining.now.args.now) }
 {
-    let _memories = memories;
     let none = no_group(alloc);
-    let number = u64::from(id.number());
+    let number = u64::from(joining.group.number());
     may_join(
         alloc,
-        ranks.posts.at(caller.rank.index()),
+        joining,
+        ranks.posts.at(joining.caller.rank.index()),
         group_in(&ranks.groups, &none, number),
-        caller.rank,
-        caller.thread,
-        number,
-        args,
     )
 }
 
-/// Joins: the step by the join of a collective of a caller to a group with these arguments, which it may join. What is left to check
-/// is that the rank has room.
+/// Joins: the step by the join of a collective of a caller to a group with these arguments, which it may join, and its rank has
+/// room for the event.
 fn join_in(
     ranks: &mut Ranks,
     memories: &mut Rows<Memory>,
     alloc: Global,
-    caller: &CallerId,
-    id: GroupId,
-    args: &Args,
-) -> Result<(), StepFault>
+    joining: &Joining<'_>,
+) -> Result<(), NoMemory>
     requires whole { AreWhole ranks.old memories.old }
-    requires declared { is_declared (state_in ranks.old memories.old) caller.now.rank caller.now.thread ≡ true }
-    requires there { caller.now.rank < length ranks.old.posts }
-    requires joins { MayJoin (state_in ranks.old memories.old) caller.now id args.now }
-    ensures step { Steps result (state_in ranks.old memories.old) (state_in ranks.new memories.new) (step (state_in ranks.old memories.old) (Joined caller.now id args.now)) }
+    requires declared { is_declared (state_in ranks.old memories.old) joining.now.caller.rank joining.now.caller.thread ≡ true }
+    requires there { joining.now.caller.rank < length ranks.old.posts }
+    requires joins { MayJoin (state_in ranks.old memories.old) joining.now.caller joining.now.group joining.now.args.now }
+    requires room { HasJoinRoom ranks.old.limits ranks.old.posts joining.now.caller.rank }
+    ensures step { Steps (recorded_of result) (state_in ranks.old memories.old) (state_in ranks.new memories.new) (step (state_in ranks.old memories.old) (Joined joining.now.caller joining.now.group joining.now.args.now)) }
     ensures taken { ranks.new.taken ≡ map taken_of ranks.new.posts }
 {
-    let rank = caller.rank.index();
+    let rank = joining.caller.rank.index();
     join(
         alloc,
         &ranks.limits,
-        caller.rank,
+        joining,
         ranks.posts.at_mut(rank),
         memories.at_mut(rank),
-        ranks.groups.at_mut(id.index()),
+        ranks.groups.at_mut(joining.group.index()),
         ranks.taken.at_mut(rank),
-        caller.thread,
-        u64::from(id.number()),
-        args,
     )
+}
+
+/// Whether the rank of a caller has room for the event of a join.
+fn has_join_room(ranks: &Ranks, rank: RankId) -> bool
+    requires limits { are_limits ranks.now.limits ≡ true }
+    requires room { (posts : Posts) → slice_get ranks.now.posts rank ≡ Some posts → posts.events + owed posts ≤ ranks.now.limits.events }
+    requires taken { ranks.now.taken ≡ map taken_of ranks.now.posts }
+    requires there { rank < length ranks.now.posts }
+    ensures { (posts : Posts) → slice_get ranks.now.posts rank ≡ Some posts → result ≡ nat_le (posts.events + owed posts + 1) ranks.now.limits.events }
+{
+    let place = rank.index();
+    let _posts = ranks.posts.at(place);
+    let taken = *ranks.taken.at(place);
+    taken + 1 <= ranks.limits.events
 }
 
 /// Steps by a join: its caller has a section, its collective may join with these arguments, and its rank has room.
@@ -489,41 +461,53 @@ pub fn step_joined(
     ranks: &mut Ranks,
     memories: &mut Rows<Memory>,
     alloc: Global,
-    caller: CallerId,
-    id: GroupId,
-    args: &Args,
+    joining: &Joining<'_>,
 ) -> Result<(), StepFault>
     requires { AreWhole ranks.old memories.old }
-    ensures step { Steps result (state_in ranks.old memories.old) (state_in ranks.new memories.new) (step (state_in ranks.old memories.old) (Joined caller id args.now)) }
+    ensures step { Steps result (state_in ranks.old memories.old) (state_in ranks.new memories.new) (step (state_in ranks.old memories.old) (Joined joining.now.caller joining.now.group joining.now.args.now)) }
     ensures taken { ranks.new.taken ≡ map taken_of ranks.new.posts }
 {
-    if !has_section(ranks, &caller) {
+    if !has_section(ranks, &joining.caller) {
         return Err(StepFault::Illegal(Why::Caller));
     }
-    match may_join_in(ranks, memories, alloc, &caller, id, args) {
-        Ok(true) => join_in(ranks, memories, alloc, &caller, id, args),
-        Ok(false) => Err(StepFault::Illegal(Why::Join)),
+    let may_join = match may_join_in(ranks, alloc, joining) {
+        Ok(may_join) => may_join,
+        Err(NoMemory) => return Err(StepFault::NoMemory),
+    };
+    if !may_join {
+        return Err(StepFault::Illegal(Why::Join));
+    }
+    if !has_join_room(ranks, joining.caller.rank) {
+        return Err(StepFault::Illegal(Why::Limit));
+    }
+    match join_in(ranks, memories, alloc, joining) {
+        Ok(()) => Ok(()),
         Err(NoMemory) => Err(StepFault::NoMemory),
     }
 }
 
-/// Joins where a look at a collective found that it may, with these arguments. It gives the event.
+/// Joins where a look at a collective found that it may, with these arguments, and the join is a step. It gives the event.
 pub fn join_found(
     ranks: &mut Ranks,
     memories: &mut Rows<Memory>,
     alloc: Global,
-    caller: CallerId,
-    call: &Call,
+    invocation: &Invocation<'_>,
     args: Args,
-) -> Result<Event, StepFault>
+) -> Result<Event, NoMemory>
     requires whole { AreWhole ranks.old memories.old }
-    requires declared { is_declared (state_in ranks.old memories.old) caller.rank caller.thread ≡ true }
-    requires joins { answer_in (state_in ranks.old memories.old) caller.rank caller.thread call.now ≡ Some (Join args) }
-    ensures event { IfOk result (λ event. event ≡ join_event caller call.now args) }
-    ensures step { Steps (made_of result) (state_in ranks.old memories.old) (state_in ranks.new memories.new) (step (state_in ranks.old memories.old) (join_event caller call.now args)) }
+    requires declared { is_declared (state_in ranks.old memories.old) invocation.now.caller.rank invocation.now.caller.thread ≡ true }
+    requires joins { answer_in (state_in ranks.old memories.old) invocation.now.caller.rank invocation.now.caller.thread invocation.now.call.now ≡ Some (Join args) }
+    requires steps { IsOk (step (state_in ranks.old memories.old) (join_event invocation.now.caller invocation.now.call.now args)) }
+    ensures event { IfOk result (λ event. event ≡ join_event invocation.now.caller invocation.now.call.now args) }
+    ensures step { Steps (recorded_of result) (state_in ranks.old memories.old) (state_in ranks.new memories.new) (step (state_in ranks.old memories.old) (join_event invocation.now.caller invocation.now.call.now args)) }
     ensures taken { ranks.new.taken ≡ map taken_of ranks.new.posts }
 {
-    let id = GroupId::of(call.row().group.unwrap_or(0) as u32);
-    join_in(ranks, memories, alloc, &caller, id, &args)?;
-    Ok(Event::Joined(caller, id, args))
+    let id = GroupId::of(invocation.row.group.unwrap_or(0) as u32);
+    let joining = Joining {
+        caller: invocation.caller,
+        group: id,
+        args: &args,
+    };
+    join_in(ranks, memories, alloc, &joining)?;
+    Ok(Event::Joined(invocation.caller, id, args))
 }

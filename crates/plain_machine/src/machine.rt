@@ -2,9 +2,10 @@
 
 ghost use Rattle.std.specs.Prelude.{◌≡◌, ◌≢◌, ℕ, ◌+◌, ◌<◌, ◌↔◌, IfOk, IfSome, IfNone, IsOk, IsTrue, Some, None, Err, if◌then◌else◌, true, false, not, length, slice_get};
 ghost use Rattle.gaspi_types.specs.CallRows.{need_of};
-ghost use Rattle.gaspi_model.specs.CollectiveCalls.{is_joining};
+ghost use Rattle.gaspi_model.specs.CollectiveCalls.{is_joining, join_event};
+ghost use Rattle.gaspi_model.specs.Sound.{IsSound};
 ghost use Rattle.gaspi_model.specs.State.{opening};
-ghost use Rattle.gaspi_model.specs.Step.{step, Steps, answer_in, is_declared, is_active, is_pending, room_taken, transfer_event};
+ghost use Rattle.gaspi_model.specs.Step.{step, Steps, answer_in, is_declared, is_active, is_pending, is_full_in, room_taken, transfer_event};
 ghost use Rattle.gaspi_model.specs.Transfers.{transfers};
 ghost use Rattle.gaspi_types.specs.Replies.{is_idle};
 ghost use Rattle.gaspi_types.specs.declared.events.Event.TheVariants.{Called};
@@ -12,9 +13,9 @@ ghost use Rattle.gaspi_types.specs.declared.events.Transfer.{Transfer};
 ghost use Rattle.gaspi_types.specs.declared.replies.Ready.{Ready};
 ghost use Rattle.gaspi_types.specs.declared.replies.Ready.TheVariants.{Join};
 ghost use Rattle.gaspi_model.specs.Calls.{recorded_reply};
-ghost use Rattle.plain_calls.specs.Looks.{made_of};
+ghost use Rattle.plain_calls.specs.Looks.{made_of, recorded_of};
 ghost use Rattle.plain_calls.specs.Memory.{is_send, looks_with_memory, keeps_memory, takes_memory};
-ghost use Rattle.plain_machine.specs.Looking.{IsFindingIn, join_event};
+ghost use Rattle.plain_machine.specs.Looking.{IsFindingIn};
 ghost use Rattle.plain_machine.specs.Machine.{is_still};
 ghost use Rattle.plain_machine.specs.Words.{word_in};
 
@@ -26,7 +27,8 @@ use crate::standing::LaneId;
 use crate::steps::{make, step};
 use gaspi_model::{Memory, StepFault, soundness};
 use gaspi_types::{
-    Args, Call, CallerId, Event, NoMemory, RankId, Ready, Reply, Rows, Shape, Transfer,
+    Args, Call, CallerId, Event, Invocation, Limits, NoMemory, RankId, Ready, Reply, Rows, Shape,
+    Transfer,
 };
 use plain_calls::{Finding, bytes_of, is_running, thread_at};
 use segment_tables::{is_within, word_at};
@@ -120,72 +122,64 @@ impl Machine {
     /// ready; and what it asks to be appended. Only a load takes memory, for the bytes that it reads, the post of a list, for its
     /// entries, an allreduce, for its numbers, and a send that is done, for its message: a look at one that is refused or not ready
     /// takes none.
-    pub fn look(&self, alloc: Global, caller: CallerId, call: &Call) -> Result<Finding, NoMemory>
-        requires { is_declared self.now caller.rank caller.thread ≡ true }
-        ensures look { IfOk result (λ look. IsFindingIn look self.now caller call.now) }
-        ensures answer { IfOk result (λ look. answer_in self.now caller.rank caller.thread call.now ≡ Some look.ready) }
-        ensures ample { looks_with_memory call.now ≡ false → IsOk result }
-        ensures idle { (ready : Ready) → is_send call.now ≡ true → answer_in self.now caller.rank caller.thread call.now ≡ Some ready → is_idle (recorded_reply ready) ≡ true → IsOk result }
+    pub fn look(&self, alloc: Global, invocation: &Invocation<'_>) -> Result<Finding, NoMemory>
+        requires { is_declared self.now invocation.now.caller.rank invocation.now.caller.thread ≡ true }
+        ensures look { IfOk result (λ look. IsFindingIn look self.now invocation.now.caller invocation.now.call.now) }
+        ensures answer { IfOk result (λ look. answer_in self.now invocation.now.caller.rank invocation.now.caller.thread invocation.now.call.now ≡ Some look.ready) }
+        ensures ample { looks_with_memory invocation.now.call.now ≡ false → IsOk result }
+        ensures idle { (ready : Ready) → is_send invocation.now.call.now ≡ true → answer_in self.now invocation.now.caller.rank invocation.now.caller.thread invocation.now.call.now ≡ Some ready → is_idle (recorded_reply ready) ≡ true → IsOk result }
     {
-        let look = look_in(&self.ranks, &self.memories, alloc, &caller, call)?;
+        let look = look_in(&self.ranks, &self.memories, alloc, invocation)?;
         Ok(look)
     }
 
     /// Records a look at a call: the step by the call with what the look found. It gives the reply with which the call was
-    /// recorded. The look is one of this very call in this very state, and found no join, so that nothing is looked for again, and
-    /// an event that is no step is one for which the rank has no room. Posts, messages and segments that are made alone may want
-    /// memory.
+    /// recorded. The look is one of this very call in this very state, and found no join, and the event is a step, since its rank has
+    /// room for it: nothing is looked for or tested again. Posts, messages and segments that are made alone may want memory, and
+    /// without it nothing changed.
     pub fn record(
         &mut self,
         alloc: Global,
-        caller: CallerId,
-        call: &Call,
+        invocation: &Invocation<'_>,
         look: Finding,
-    ) -> Result<Reply, StepFault>
-        requires declared { is_declared self.old caller.rank caller.thread ≡ true }
-        requires look { IsFindingIn look self.old caller call.now }
+    ) -> Result<Reply, NoMemory>
+        requires declared { is_declared self.old invocation.now.caller.rank invocation.now.caller.thread ≡ true }
+        requires look { IsFindingIn look self.old invocation.now.caller invocation.now.call.now }
         requires unjoined { is_joining look.ready ≡ false }
+        requires steps { IsOk (step self.old (Called invocation.now.caller invocation.now.call.now (recorded_reply look.ready))) }
         ensures reply { IfOk result (λ reply. reply ≡ recorded_reply look.ready) }
-        ensures step { Steps (made_of result) self.old self.new (step self.old (Called caller call.now (recorded_reply look.ready))) }
-        ensures ample { keeps_memory call.now ≡ false → result ≢ Err StepFault.NoMemory }
+        ensures step { Steps (recorded_of result) self.old self.new (step self.old (Called invocation.now.caller invocation.now.call.now (recorded_reply look.ready))) }
+        ensures ample { keeps_memory invocation.now.call.now ≡ false → IsOk result }
     {
         soundness();
-        self.counted = kept_count(self.counted, call);
+        self.counted = kept_count(self.counted, invocation.call);
         record_named(
             &mut self.ranks,
             &mut self.memories,
             &mut self.standing,
             alloc,
-            caller,
-            call,
+            invocation,
             look,
         )
     }
 
     /// Joins: the step by the join of a collective of a caller to its group, where a look at it in this very state found that it may,
-    /// with these arguments. It gives the event. The collective is then pending for its caller. An event that is no step is one for
-    /// which the rank has no room; without memory nothing changed. (GASPI: collectives)
+    /// with these arguments, and the event is a step. It gives the event. The collective is then pending for its caller. Without
+    /// memory nothing changed. (GASPI: collectives)
     pub fn join(
         &mut self,
         alloc: Global,
-        caller: CallerId,
-        call: &Call,
+        invocation: &Invocation<'_>,
         args: Args,
-    ) -> Result<Event, StepFault>
-        requires declared { is_declared self.old caller.rank caller.thread ≡ true }
-        requires joins { answer_in self.old caller.rank caller.thread call.now ≡ Some (Join args) }
-        ensures event { IfOk result (λ event. event ≡ join_event caller call.now args) }
-        ensures step { Steps (made_of result) self.old self.new (step self.old (join_event caller call.now args)) }
+    ) -> Result<Event, NoMemory>
+        requires declared { is_declared self.old invocation.now.caller.rank invocation.now.caller.thread ≡ true }
+        requires joins { answer_in self.old invocation.now.caller.rank invocation.now.caller.thread invocation.now.call.now ≡ Some (Join args) }
+        requires steps { IsOk (step self.old (join_event invocation.now.caller invocation.now.call.now args)) }
+        ensures event { IfOk result (λ event. event ≡ join_event invocation.now.caller invocation.now.call.now args) }
+        ensures step { Steps (recorded_of result) self.old self.new (step self.old (join_event invocation.now.caller invocation.now.call.now args)) }
     {
         soundness();
-        join_found(
-            &mut self.ranks,
-            &mut self.memories,
-            alloc,
-            caller,
-            call,
-            args,
-        )
+        join_found(&mut self.ranks, &mut self.memories, alloc, invocation, args)
     }
 
     /// What a look at a call answers: its refusal or its reply, or that it is a collective which may join its group, with its
@@ -196,7 +190,8 @@ impl Machine {
         ensures ample { looks_with_memory call.now ≡ false → IsOk result }
         ensures idle { (ready : Ready) → is_send call.now ≡ true → answer_in self.now caller.rank caller.thread call.now ≡ Some ready → is_idle (recorded_reply ready) ≡ true → IsOk result }
     {
-        let look = look_in(&self.ranks, &self.memories, alloc, &caller, call)?;
+        let invocation = Invocation::new(caller, call);
+        let look = self.look(alloc, &invocation)?;
         Ok(look.ready)
     }
 
@@ -284,19 +279,29 @@ impl Machine {
     }
 
     /// How much room a call of a caller needs in its rank's count of events: a collective that has not joined needs its join besides.
+    fn needed(&self, invocation: &Invocation<'_>) -> u64
+        requires { is_declared self.now invocation.now.caller.rank invocation.now.caller.thread ≡ true }
+        ensures { result ≡ need_of invocation.now.call.now (is_pending self.now invocation.now.caller.rank invocation.now.caller.thread invocation.now.call.now) (not (is_active self.now invocation.now.caller.rank invocation.now.caller.thread)) }
+    {
+        let pending = is_pending_in(&self.ranks, invocation);
+        let row = &invocation.row;
+        row.need(pending, !self.is_active(invocation.caller))
+    }
+
+    /// How much room a call of a caller needs in its rank's count of events: a collective that has not joined needs its join besides.
     pub fn need(&self, caller: CallerId, call: &Call) -> u64
         requires { is_declared self.now caller.rank caller.thread ≡ true }
         ensures { result ≡ need_of call.now (is_pending self.now caller.rank caller.thread call.now) (not (is_active self.now caller.rank caller.thread)) }
     {
-        let pending = is_pending_in(&self.ranks, &caller, call);
-        gaspi_types::need(call, pending, !self.is_active(caller))
+        self.needed(&Invocation::new(caller, call))
     }
 
-    /// Whether a collective is pending for a caller on the group that a call names. (GASPI: collectives, timeouts)
-    pub fn is_pending(&self, caller: CallerId, call: &Call) -> bool
-        ensures { result ≡ is_pending self.now caller.rank caller.thread call.now }
+    /// Whether the rank of a caller has no room for the events that its call needs. (own choice)
+    pub fn is_full(&self, invocation: &Invocation<'_>) -> bool
+        requires { is_declared self.now invocation.now.caller.rank invocation.now.caller.thread ≡ true }
+        ensures { result ≡ is_full_in self.now invocation.now.caller invocation.now.call.now }
     {
-        is_pending_in(&self.ranks, &caller, call)
+        self.room(invocation.caller.rank) < self.needed(invocation)
     }
 
     /// The word at an offset of a segment of a rank, the lowest of its eight bytes first; none where no eight bytes stand there. It need
@@ -311,6 +316,14 @@ impl Machine {
         } else {
             None
         }
+    }
+
+    /// The limits of the world. The state is sound. (own choice)
+    pub fn limits(&self) -> Limits
+        ensures value { result ≡ self.now.limits }
+        ensures sound { IsSound self.now }
+    {
+        self.ranks.limits
     }
 
     /// Whether a caller has a section.

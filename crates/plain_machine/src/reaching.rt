@@ -5,15 +5,16 @@ ghost use Rattle.gaspi_model.specs.Parts.{no_memory, memory_or_none, no_group};
 ghost use Rattle.plain_machine.specs.Reaching.{call_reach, memory_at, own_at, group_at};
 
 use gaspi_model::Memory;
-use gaspi_types::{Call, Group, Limits, RankId, Reach, Rows};
+use gaspi_types::{Group, Invocation, Limits, RankId, Reach, Rows};
 use std::alloc::Global;
 
-/// What a call of a rank reaches.
-pub fn call_reach(limits: &Limits, me: RankId, call: &Call) -> Reach
+/// What a call reaches.
+pub fn call_reach(limits: &Limits, invocation: &Invocation<'_>) -> Reach
     requires { limits.now.ranks ≤ 16 }
-    ensures { result ≡ call_reach limits.now me call.now }
+    ensures { result ≡ call_reach limits.now invocation.now.caller.rank invocation.now.call.now }
 {
-    call.row().touch.reach(limits.ranks, me)
+    let touch = invocation.row.touch;
+    touch.reach(limits.ranks, invocation.caller.rank)
 }
 
 /// A memory with no segment, for an event that works on none. It takes no memory.
@@ -67,14 +68,14 @@ pub fn worked_memory<'a>(
     memories: &'a Rows<Memory>,
     none: &'a Memory,
     me: RankId,
-    reach: Reach,
+    reach: &Reach,
 ) -> &'a Memory
     requires { none.now ≡ no_memory }
-    ensures { result.now ≡ memory_at memories.now me reach }
+    ensures { result.now ≡ memory_at memories.now me reach.now }
 {
     match reach {
         Reach::OwnMemory | Reach::GroupAndMemory(_) => memory_of(memories, none, me),
-        Reach::PeerMemory(rank) | Reach::BothMemories(rank) => memory_of(memories, none, rank),
+        Reach::PeerMemory(rank) | Reach::BothMemories(rank) => memory_of(memories, none, *rank),
         Reach::Alone | Reach::PeerPosts(_) | Reach::Group(_) => none,
     }
 }
@@ -84,10 +85,10 @@ pub fn own_memory<'a>(
     memories: &'a Rows<Memory>,
     none: &'a Memory,
     me: RankId,
-    reach: Reach,
+    reach: &Reach,
 ) -> &'a Memory
     requires { none.now ≡ no_memory }
-    ensures { result.now ≡ own_at memories.now me reach }
+    ensures { result.now ≡ own_at memories.now me reach.now }
 {
     match reach {
         Reach::OwnMemory | Reach::BothMemories(_) | Reach::GroupAndMemory(_) => {

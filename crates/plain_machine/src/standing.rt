@@ -7,7 +7,7 @@ ghost use Rattle.plain_machine.specs.Standing.{is_before, is_elsewhere, lane_que
 ghost use Rattle.plain_machine.specs.Looking.{look_lane, look_purge};
 
 use gaspi_model::Posts;
-use gaspi_types::{Call, Entry, Queue, QueueId, RankId, Rows};
+use gaspi_types::{Call, Entry, Invocation, Queue, QueueId, RankId, Rows};
 use plain_calls::{Finding, purged_queue};
 
 /// The name of a lane: its origin, its queue and its target.
@@ -97,15 +97,15 @@ fn post_lane(rank: RankId, target: u64, queue: u64) -> Option<LaneId>
     })
 }
 
-/// The lane to which a call of a rank posts whose look is recorded.
-pub fn look_lane(rank: RankId, call: &Call, look: &Finding) -> Option<LaneId>
-    ensures { result ≡ look_lane rank call.now look.now }
+/// The lane to which a call posts whose look is recorded.
+pub fn look_lane(invocation: &Invocation<'_>, look: &Finding) -> Option<LaneId>
+    ensures { result ≡ look_lane invocation.now.caller.rank invocation.now.call.now look.now }
 {
     if look.is_idle() {
         return None;
     }
-    match call.row().posting {
-        Some(posting) => post_lane(rank, posting.rank, posting.queue),
+    match invocation.row.posting {
+        Some(posting) => post_lane(invocation.caller.rank, posting.rank, posting.queue),
         None => None,
     }
 }

@@ -17,7 +17,8 @@ use crate::reaching::{no_memory, worked_memory};
 use crate::standing::{LaneId, has_entry, unname_lane};
 use crate::transfers::{FoundEntry, find_entry, put_bytes, set_put, set_taken, take_bytes};
 use gaspi_model::{Memory, StepFault, Why};
-use gaspi_types::{Event, Outcome, RankId, Reach, Rows, Transfer};
+use gaspi_types::{Event, Invocation, Outcome, RankId, Reach, Rows, Transfer};
+use plain_calls::Joining;
 use std::alloc::Global;
 
 /// A take that failed spares its rank the event of the entry's put.
@@ -59,7 +60,7 @@ fn step_take(
         .kind
         .take_touch(id.target)
         .reach(ranks.limits.ranks, id.origin);
-    let memory = worked_memory(memories, &none, id.origin, reach);
+    let memory = worked_memory(memories, &none, id.origin, &reach);
     match take_bytes(alloc, &ranks.limits, memory, &at, given) {
         Ok(taken) => {
             let outcome = taken.outcome();
@@ -182,10 +183,16 @@ pub fn step(
 {
     match event {
         Event::Called(caller, call, reply) => {
-            step_called(ranks, memories, standing, alloc, *caller, call, reply)
+            let invocation = Invocation::new(*caller, call);
+            step_called(ranks, memories, standing, alloc, &invocation, reply)
         }
         Event::Joined(caller, id, args) => {
-            step_joined(ranks, memories, alloc, *caller, *id, args)
+            let joining = Joining {
+                caller: *caller,
+                group: *id,
+                args,
+            };
+            step_joined(ranks, memories, alloc, &joining)
         }
         Event::Take(origin, queue, target, number, outcome) => {
             let id = LaneId {

@@ -16,12 +16,11 @@ use Rattle.gaspi_types.specs.declared.shapes.CallerId.{CallerId}
 use Rattle.gaspi_types.proofs.Chains.{both}
 use Rattle.gaspi_model.specs.Sound.{IsSound}
 use Rattle.gaspi_model.specs.State.{opening, opening_posts, opening_thread, is_running, thread_at}
-use Rattle.gaspi_model.specs.Step.{after, reached, is_active, ends_caller, answer_in, room_taken}
+use Rattle.gaspi_model.specs.Step.{after, reached, is_active, ends_caller, answer_in, room_taken, is_full_in}
 use Rattle.gaspi_model.specs.declared.states.Posts.{Posts}
 use Rattle.gaspi_model.specs.declared.states.State.{State}
 use Rattle.gaspi_model.proofs.Ended.Activity.{active}
 use Rattle.gaspi_model.proofs.Histories.{after-first}
-use Rattle.gaspi_world.specs.Attempts.{is_full_in}
 use Rattle.script_bodies.specs.SoFar.{HasNoEnd}
 
 -- At the start.

@@ -14,12 +14,11 @@ use Rattle.gaspi_types.specs.declared.replies.Reply.TheVariants.{Done}
 use Rattle.gaspi_types.specs.declared.shapes.CallerId.{CallerId}
 use Rattle.gaspi_model.specs.Calls.{recorded_reply}
 use Rattle.gaspi_model.specs.State.{opening}
-use Rattle.gaspi_model.specs.Step.{step, after, reached, own_calls, answer_in}
+use Rattle.gaspi_model.specs.Step.{step, after, reached, own_calls, answer_in, is_full_in}
 use Rattle.gaspi_model.specs.declared.states.State.{State}
 use Rattle.gaspi_model.specs.declared.states.Why.{Why}
 use Rattle.gaspi_model.proofs.Histories.{after-first, after-both, leads, reached-sound}
 use Rattle.commit_table.specs.declared.views.Known.{Known}
-use Rattle.gaspi_world.specs.Attempts.{is_full_in}
 use Rattle.gaspi_world.specs.Calling.{IsCalled, IsStopped, Calls}
 use Rattle.gaspi_world.specs.declared.calling.Stop.{Stop}
 use Rattle.gaspi_world.specs.declared.calling.Stop.TheVariants.{NoMemory, EventLimit}

@@ -20,7 +20,8 @@ use Rattle.commit_table.specs.Views.{mine_after}
 use Rattle.commit_table.specs.declared.views.Known.{Known}
 use Rattle.gaspi_world.specs.Moves.{is_transfer_of, HasNoTransfer, HasActive, HaveEnded, Moves}
 use Rattle.gaspi_world.specs.Shards.{shard_part}
-use Rattle.gaspi_world.specs.WorldMachine.{party_of, world_machine}
+use Rattle.gaspi_world.specs.WorldMachine.{world_machine}
+use Rattle.gaspi_model.specs.Parties.{party_of}
 use Rattle.gaspi_world.specs.declared.moving.Moving.{Moving}
 use Rattle.gaspi_world.specs.declared.moving.Moving.TheVariants as moves
 use Rattle.transfer_worker.specs.Turns.{with_try, GoesOn, IsDrained, IsMoved, IsMissed, IsStill, IsActive, IsEnded, AreTried, Turned}

@@ -237,7 +237,7 @@ done-keeps ranks limits me posts thread call all rise few counts = go (row_of ca
     go (Some to) post = rw post (post-keeps ranks posts to.queue to.rank (call_asks limits me posts call) (λ kinds asks. counts to kinds post asks) all rise few)
 
 -- a queue is not deeper than that
-depth-few : (limits : Limits) → are_limits limits ≡ true → limits.depth ≤ 256
+pub depth-few : (limits : Limits) → are_limits limits ≡ true → limits.depth ≤ 256
 depth-few limits h =
     let depth = (both (is_between 1 256 limits.depth) _ (both (is_between 1 8 limits.queues) _ (both (is_between 1 16 limits.ranks) _ h).1).1).0 in
     leb-true limits.depth 256 (both (nat_le 1 limits.depth) (nat_le limits.depth 256) depth).1
@@ -474,18 +474,18 @@ steps s t (Put origin queue target number outcome) sound h =
 
 -- each event adds one to the events of its owner
 
-called-events : (limits : Limits) (me : ℕ) (posts : Posts) (brought : Option Message) (memory : Memory) (thread : ℕ) (call : Call) (reply : Reply) (after : Worked) → limits.depth ≤ 256
+pub called-events : (limits : Limits) (me : ℕ) (posts : Posts) (brought : Option Message) (memory : Memory) (thread : ℕ) (call : Call) (reply : Reply) (after : Worked) → limits.depth ≤ 256
     → IsSoundPosts limits posts → IsCalled limits me posts brought memory thread call reply after → after.posts.events ≡ posts.events + 1
 called-events limits me posts brought memory thread call reply after depth sound h =
     let keeps = call-keeps limits me posts brought memory thread call reply after depth sound h in
     rw h.leaves (ap (λ (n : ℕ). n + 1) keeps.events)
 
-take-events : (limits : Limits) (posts : Posts) (memory : Memory) (queue target number : ℕ) (outcome : Outcome) (after : Posts) (at : Found)
+pub take-events : (limits : Limits) (posts : Posts) (memory : Memory) (queue target number : ℕ) (outcome : Outcome) (after : Posts) (at : Found)
     → IsTake limits posts memory queue target number outcome after at → after.events ≡ posts.events + 1
 take-events limits posts memory queue target number Applied after at h = rw h.leaves refl
 take-events limits posts memory queue target number Failed after at h = rw h.leaves refl
 
-put-events : (posts : Posts) (memory : Memory) (queue target number : ℕ) (outcome : Outcome) (after : Worked) (at : Found)
+pub put-events : (posts : Posts) (memory : Memory) (queue target number : ℕ) (outcome : Outcome) (after : Worked) (at : Found)
     → IsPut posts memory queue target number outcome after at → after.posts.events ≡ posts.events + 1
 put-events posts memory queue target number Applied after at h = rw h.leaves refl
 put-events posts memory queue target number Failed after at h = rw h.leaves refl

@@ -16,5 +16,5 @@ returns-then-from c = λ w line there call timeout.
     let last : nat_le (looks_of c.args.limit line.timeout) (w.looks + 1) ≡ true = grind (arith, nat_tests) in
     rw last
     (subst (λ (x : Call). OnOk c.record_call.result (c.record_call.new.turns ≡ recorded c.args.turns.now c.args.place w x replies.Timeout)) (sym call)
-    (subst (λ (x : Ready). OnOk c.record_call.result (c.record_call.new.turns ≡ recorded c.args.turns.now c.args.place w c.args.call.now (recorded_reply x))) c.requires.not_ready
+    (subst (λ (x : Ready). OnOk c.record_call.result (c.record_call.new.turns ≡ recorded c.args.turns.now c.args.place w c.args.invocation.now.call.now (recorded_reply x))) c.requires.not_ready
     (c.record_call.ensures w there)))

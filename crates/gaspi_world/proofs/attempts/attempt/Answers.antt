@@ -7,10 +7,10 @@ use Rattle.gaspi_world.proofs.Working.{attempted, missed-attempt}
 use Rattle.gaspi_world.proofs.attempts.attempt.Goals as goal
 
 pub returns-in_default-clause-attempted : goal.returns-in_default-clause-attempted
-returns-in_default-clause-attempted c = missed-attempt c.args.table.now.start.shape c.args.caller.now c.args.pass.now.known c.open.new.pass.known c.requires.world c.requires.caller c.in_default.ensures.missed
+returns-in_default-clause-attempted c = missed-attempt c.args.table.now.start.shape c.args.invocation.now.caller c.args.pass.now.known c.open.new.pass.known c.requires.world c.requires.caller c.in_default.ensures.missed
 
 pub returns-clause-attempted : goal.returns-clause-attempted
 returns-clause-attempted c =
     let w = c.args.table.now.start.shape in
-    subst (λ (p : PassValue Start Event). Attempted w c.args.caller.now c.args.call.now c.args.look c.args.pass.now.known c.work-told.result p.known) (sym c.leave.ensures.left)
-    (attempted w c.args.caller.now c.args.call.now c.args.look c.args.pass.now.known c.open.new.pass.known c.work-told.new.pass.known _ c.work-told.result c.requires.world c.requires.caller c.in-Some.ensures.looked c.work-told.ensures.held c.work-told.ensures.worked)
+    subst (λ (p : PassValue Start Event). Attempted w c.args.invocation.now.caller c.args.invocation.now.call.now c.args.look c.args.pass.now.known c.work-told.result p.known) (sym c.leave.ensures.left)
+    (attempted w c.args.invocation.now.caller c.args.invocation.now.call.now c.args.look c.args.pass.now.known c.open.new.pass.known c.work-told.new.pass.known _ c.work-told.result c.requires.world c.requires.caller c.in-Some.ensures.looked c.work-told.ensures.held c.work-told.ensures.worked)

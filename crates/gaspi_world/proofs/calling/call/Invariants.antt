@@ -12,7 +12,7 @@ invariant-loop g l =
     × (goal.iterator-loop g).is_finite l.iterator'
     × (l.pass.table ≡ l.fn.pass.table)
     × HoldsNone l.pass.known
-    × ((earlier : List (List Event)) × HasWaited l.fn.table.start.shape l.fn.caller l.fn.call earlier l.fn.pass.known l.pass.known
+    × ((earlier : List (List Event)) × HasWaited l.fn.table.start.shape l.fn.invocation.caller l.fn.invocation.call.now earlier l.fn.pass.known l.pass.known
     × HasLook (left_after (length earlier) (looks_of l.fn.timeout))
     × (l.look ≡ answer_of (left_after (length earlier) (looks_of l.fn.timeout)))
     × (l.budget ≡ left_after (suc (length earlier)) (looks_of l.fn.timeout))

@@ -1,7 +1,7 @@
-use Rattle.plain_machine.specs.Machine.{state_in}
-use Rattle.plain_machine.proofs.Recorded.{finding_answers}
 use Rattle.plain_machine.proofs.machine.Machine.answer.Goals as goal
 
+pub look-requires : goal.look-requires
+look-requires c = rw c.new-invocation.ensures.caller c.requires
+
 pub returns-clause-answer : goal.returns-clause-answer
-returns-clause-answer c =
-    rw (← c.self.view_is) (finding_answers (state_in c.self.inside.ranks c.self.inside.memories) c.args.caller c.args.call.now c.in_ok-look.look (rw (← c.self.view_is) at c.requires) c.in_ok-look.ensures.look)
+returns-clause-answer c = rw (c.new-invocation.ensures.caller, c.new-invocation.ensures.call) at c.in_ok-look.ensures.answer

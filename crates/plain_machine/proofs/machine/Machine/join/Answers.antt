@@ -1,9 +1,9 @@
 use Rattle.std.proofs.Common.{◌∙◌, sym, refl}
-use Rattle.plain_calls.specs.Looks.{made_of}
+use Rattle.plain_calls.specs.Looks.{recorded_of}
 use Rattle.plain_machine.proofs.Counted.{count_joined}
 use Rattle.plain_machine.proofs.Renamed.{quiet_steps}
 use Rattle.plain_machine.proofs.Running.{stepped}
-use Rattle.plain_machine.specs.Looking.{group_of, join_event}
+use Rattle.gaspi_model.specs.CollectiveCalls.{group_of, join_event}
 use Rattle.plain_machine.specs.Machine.{state_in}
 use Rattle.plain_machine.proofs.machine.Machine.join.Goals as goal
 
@@ -11,10 +11,10 @@ pub invariant_of-self : goal.invariant_of-self
 invariant_of-self c =
     let old = state_in c.self.inside.ranks c.self.inside.memories in
     let new = state_in c.join_found.new.ranks c.join_found.new.memories in
-    let event = join_event c.args.caller c.args.call.now c.args.args in
+    let event = join_event c.args.invocation.now.caller c.args.invocation.now.call.now c.args.args in
     let named =
     c.self.invariant.0.named
-    ∙ sym (quiet_steps old new event (made_of c.join_found.result) c.self.invariant.0.sound c.self.invariant.0.fitting refl refl c.join_found.ensures.step) in (
-      stepped old new event _ _ _ _ (made_of c.join_found.result) c.soundness.ensures.steps c.self.invariant.0 c.join_found.ensures.step c.join_found.ensures.taken named,
-      count_joined c.self.inside.counted old new c.args.caller (group_of c.args.call.now) c.args.args (made_of c.join_found.result) c.soundness.ensures.limits c.self.invariant.1 c.join_found.ensures.step,
+    ∙ sym (quiet_steps old new event (recorded_of c.join_found.result) c.self.invariant.0.sound c.self.invariant.0.fitting refl refl c.join_found.ensures.step) in (
+      stepped old new event _ _ _ _ (recorded_of c.join_found.result) c.soundness.ensures.steps c.self.invariant.0 c.join_found.ensures.step c.join_found.ensures.taken named,
+      count_joined c.self.inside.counted old new c.args.invocation.now.caller (group_of c.args.invocation.now.call.now) c.args.args (recorded_of c.join_found.result) c.soundness.ensures.limits c.self.invariant.1 c.join_found.ensures.step,
     )
