@@ -56,7 +56,7 @@ abbrev pub memory_rank : Limits → ℕ → Call → ℕ
 memory_rank limits me call = memory_place (call_reach limits.ranks me call) me
 
 -- that is a rank
-place-within : (ranks me : ℕ) (touch : Touch) → me < ranks → memory_place (reach_of ranks me touch) me < ranks
+pub place-within : (ranks me : ℕ) (touch : Touch) → me < ranks → memory_place (reach_of ranks me touch) me < ranks
 place-within ranks me touches.Nothing less = less
 place-within ranks me touches.OwnMemory less = less
 place-within ranks me (touches.MemoryOf r) less = go (r == me) (nat_lt r ranks) refl
@@ -89,7 +89,7 @@ place-within ranks me (touches.GroupAndMemory id) less = go (nat_lt id 8)
     go false = less
 
 -- whether an event of that reach works on no memory
-abbrev is_unworked : Reach → Bool
+abbrev pub is_unworked : Reach → Bool
 is_unworked Alone = true
 is_unworked OwnMemory = false
 is_unworked (PeerMemory rank) = false
@@ -117,7 +117,7 @@ send-unworked limits me rank h = go (rank == me) (nat_lt rank limits.ranks) refl
     go false false is h = is
 
 -- A call that works on no memory finds the same whatever the memory is, and leaves it.
-finds-unworked : (limits : Limits) (me : ℕ) (posts : Posts) (m m' : Memory) (call : Call) → is_unworked (call_reach limits.ranks me call) ≡ true
+pub finds-unworked : (limits : Limits) (me : ℕ) (posts : Posts) (m m' : Memory) (call : Call) → is_unworked (call_reach limits.ranks me call) ≡ true
     → call_finds limits me posts m call ≡ call_finds limits me posts m' call
 finds-unworked limits me posts m m' (Load call) h = absurd (let no : ⊥ = cc in no)
 finds-unworked limits me posts m m' (Waitsome call) h = absurd (let no : ⊥ = cc in no)
@@ -143,7 +143,7 @@ done-unworked limits me posts brought m (CompareSwap call) reply h finds =
     absurd (let refused = rw (word-unworked limits me posts m call.seg call.offset call.rank h) at finds in let no : ⊥ = cc in no)
 done-unworked limits me posts brought m other reply h finds = refl
 
-answer-unworked : (limits : Limits) (me : ℕ) (posts : Posts) (m m' : Memory) (thread : ℕ) (call : Call) → is_unworked (call_reach limits.ranks me call) ≡ true
+pub answer-unworked : (limits : Limits) (me : ℕ) (posts : Posts) (m m' : Memory) (thread : ℕ) (call : Call) → is_unworked (call_reach limits.ranks me call) ≡ true
     → answer limits me posts m thread call ≡ answer limits me posts m' thread call
 answer-unworked limits me posts m m' thread call h = go (is_running (thread_at posts thread)) refl
   where
@@ -246,7 +246,7 @@ called-there s t c call reply plain has h =
         worked posts m after made memory there (rw (is, here) refl) (rw is refl)
 
 -- The memory that an event of some reach works on is there.
-worked-there : (s : State) (me : ℕ) (touch : Touch) → HasMemories s → me < s.limits.ranks → is_unworked (reach_of s.limits.ranks me touch) ≡ false
+pub worked-there : (s : State) (me : ℕ) (touch : Touch) → HasMemories s → me < s.limits.ranks → is_unworked (reach_of s.limits.ranks me touch) ≡ false
     → slice_get s.memories (memory_place (reach_of s.limits.ranks me touch) me) ≡ Some (memory_at (reach_of s.limits.ranks me touch) me s.memories)
 worked-there s me touch has less worked =
     let place = place-within s.limits.ranks me touch less in
@@ -318,7 +318,7 @@ pub record IsPutThere (s t : State) (origin queue target number : ℕ) (outcome 
 
 -- In a sound state.
 
-has-memories : (s : State) → IsSound s → HasMemories s
+pub has-memories : (s : State) → IsSound s → HasMemories s
 has-memories s sound = record { ranks = sound.ranks; memories = sound.memories }
 
 pub sound-called : (s t : State) (c : CallerId) (call : Call) (reply : Reply) → (row_of call).group ≡ None → IsSound s → step s (Called c call reply) ≡ Ok t
