@@ -1,6 +1,6 @@
 -- The shards of an event: the parts of the state that it reads and changes. A shard is the posts of a rank, the memory of a
 -- rank, or a group. (own choice)
-use Rattle.std.specs.Prelude.{◌≡◌, ℕ, Bool, true, false, ◌==◌, nat_lt, List, [], ◌∷◌, map, Option, None, Some, Result, Ok, Err, if◌then◌else◌, slice_get}
+use Rattle.std.specs.Prelude.{◌≡◌, ℕ, Bool, true, false, ◌==◌, nat_eq, nat_lt, List, [], ◌∷◌, map, Option, None, Some, Result, Ok, Err, if◌then◌else◌, slice_get}
 use Rattle.std.specs.List.{list_any}
 use Rattle.gaspi_types.specs.declared.entries.Entry.{Entry}
 use Rattle.gaspi_types.specs.declared.calls.Call.{Call}
@@ -105,13 +105,10 @@ ComeToSame s s' (Err why) (Err why') = why ≡ why'
 ComeToSame s s' (Ok t) (Err why) = ⊥
 ComeToSame s s' (Err why) (Ok t) = ⊥
 
-abbrev pub is_among : List ℕ → ℕ → Bool
-is_among list n = list_any (λ m. m == n) list
-
 -- numbers without those that stand again behind
 abbrev pub without_repeats : List ℕ → List ℕ
 without_repeats [] = []
-without_repeats (n ∷ list) = if is_among list n then without_repeats list else n ∷ without_repeats list
+without_repeats (n ∷ list) = if list_any (nat_eq n) list then without_repeats list else n ∷ without_repeats list
 
 -- Coarser shards: each shard has a number, and those of one number are one. So a rank's posts and memory can be one shard,
 -- or the whole state. The numbers of an event's shards, each once.

@@ -1,6 +1,6 @@
 //! Laws of the machine: the contracts of functions that do nothing.
 
-ghost use Rattle.std.specs.Prelude.{◌==◌, ◌≡◌, ◌≢◌, ℕ, ◌+◌, ◌%◌, ◌^◌, ◌<◌, ◌≤◌, ◌∷◌, ◌++◌, [], List, Ok, Some, IsOk, true, false, length, slice_get, if◌then◌else◌};
+ghost use Rattle.std.specs.Prelude.{◌==◌, nat_eq, ◌≡◌, ◌≢◌, ℕ, ◌+◌, ◌%◌, ◌^◌, ◌<◌, ◌≤◌, ◌∷◌, ◌++◌, [], List, Ok, Some, IsOk, true, false, length, slice_get, if◌then◌else◌};
 ghost use Rattle.byteorder.specs.Endian.{little_bytes};
 ghost use Rattle.gaspi_types.specs.CallRows.{need_of, row_of};
 ghost use Rattle.gaspi_types.specs.declared.call_rows.Posting.{Posting};
@@ -68,7 +68,7 @@ ghost use Rattle.gaspi_types.specs.Lanes.{is_write, is_read};
 ghost use Rattle.gaspi_model.specs.Messages.{IsEarliest, inbox_of, sent_in, received_in};
 ghost use Rattle.gaspi_model.specs.Order.{AreStanding, IsNotificationStanding, IsReadNoteStanding, IsReadStanding, IsWriteStanding, is_purge_of};
 ghost use Rattle.gaspi_model.specs.RankGroups.{handle_of, is_drop_of};
-ghost use Rattle.gaspi_model.specs.Shards.{AgreeOn, ComeToSame, HaveSamePart, is_wide, is_create, group_shards, create_shards, send_shards, is_group_call, is_shard, same_shard, footprint, numbers_of, is_among};
+ghost use Rattle.gaspi_model.specs.Shards.{AgreeOn, ComeToSame, HaveSamePart, is_wide, is_create, group_shards, create_shards, send_shards, is_group_call, is_shard, same_shard, footprint, numbers_of};
 ghost use Rattle.gaspi_model.specs.declared.states.Shard.{Shard};
 ghost use Rattle.gaspi_model.specs.declared.states.Shard.TheVariants as shards;
 ghost use Rattle.gaspi_model.specs.Settled.{AreLanesEmpty, IsSettled};
@@ -366,11 +366,11 @@ pub fn locality()
 /// The same of coarser shards, where each shard has a number and those of one number are one: so of a rank's posts and
 /// memory as one shard, or of the whole state. The numbers of an event's shards are listed once each.
 pub fn coarser_locality()
-    ensures frame { (number : Shard → ℕ) (s t : State) (e : Event) (shard : Shard) → step s e ≡ Ok t → is_among (numbers_of number s e) (number shard) ≡ false
+    ensures frame { (number : Shard → ℕ) (s t : State) (e : Event) (shard : Shard) → step s e ≡ Ok t → list_any (nat_eq (number shard)) (numbers_of number s e) ≡ false
         → HaveSamePart t s shard }
-    ensures determined { (number : Shard → ℕ) (s s' : State) (e : Event) → AgreeOn (λ shard. is_among (numbers_of number s e) (number shard)) s s'
+    ensures determined { (number : Shard → ℕ) (s s' : State) (e : Event) → AgreeOn (λ shard. list_any (nat_eq (number shard)) (numbers_of number s e)) s s'
         → ComeToSame s s' (step s e) (step s' e) }
-    ensures owner { (number : Shard → ℕ) (s : State) (e : Event) → is_among (numbers_of number s e) (number (shards.Posts (owner_of e))) ≡ true }
+    ensures owner { (number : Shard → ℕ) (s : State) (e : Event) → list_any (nat_eq (number (shards.Posts (owner_of e)))) (numbers_of number s e) ≡ true }
     ensures once { (number : Shard → ℕ) (s : State) (e : Event) (n : ℕ) → count_by (λ m. m == n) (numbers_of number s e) ≤ 1 }
 {}
 

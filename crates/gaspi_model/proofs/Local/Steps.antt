@@ -1,6 +1,6 @@
 -- An event reads and changes the parts of its shards alone.
-use Rattle.std.proofs.Common.{◌≡◌, ℕ, ◌+◌, ◌≤◌, Bool, true, false, ◌==◌, nat_lt, ◌||◌, List, [], ◌∷◌, map, length, Option, None, Some, Ok, refl, sym, ap, ◌∙◌, subst, arith, cond, if◌then◌else◌}
-use Rattle.std.specs.List.{slice_get, count_by}
+use Rattle.std.proofs.Common.{◌≡◌, ℕ, ◌+◌, ◌≤◌, Bool, true, false, ◌==◌, nat_eq, nat_lt, ◌||◌, List, [], ◌∷◌, map, length, Option, None, Some, Ok, refl, sym, ap, ◌∙◌, subst, arith, cond, if◌then◌else◌}
+use Rattle.std.specs.List.{slice_get, count_by, list_any}
 use Rattle.std.proofs.lemmas.Bool.{eq-eqb, eqb-true}
 use Rattle.std.proofs.lemmas.List.Sums.{sum_by-cons}
 use Rattle.gaspi_types.specs.CallRows.{row_of}
@@ -33,7 +33,7 @@ use Rattle.gaspi_types.specs.declared.collectives.Coll.TheVariants as colls
 use Rattle.gaspi_types.specs.declared.groups.Args.{Args}
 use Rattle.gaspi_model.specs.Step.{step, owner_of, entry_touch, join_touch, event_touch, event_reach, local_step, missing}
 use Rattle.gaspi_model.specs.Transfers.{entry_in}
-use Rattle.gaspi_model.specs.Shards.{footprint, reach_shards, is_wide, is_create, group_shards, create_shards, send_shards, is_group_call, is_shard, same_shard, HaveSamePart, AgreeOn, ComeToSame, numbers_of, is_among, without_repeats}
+use Rattle.gaspi_model.specs.Shards.{footprint, reach_shards, is_wide, is_create, group_shards, create_shards, send_shards, is_group_call, is_shard, same_shard, HaveSamePart, AgreeOn, ComeToSame, numbers_of, without_repeats}
 use Rattle.gaspi_model.specs.declared.states.Posts.{Posts}
 use Rattle.gaspi_model.specs.declared.states.State.{State}
 use Rattle.gaspi_model.specs.declared.states.Shard.{Shard}
@@ -313,7 +313,7 @@ same-shards (shards.Group m) (shards.Posts n) h = absurd (let no : ⊥ = cc in n
 same-shards (shards.Group m) (shards.Memory n) h = absurd (let no : ⊥ = cc in no)
 
 -- what is a shard of a list has its number among theirs
-pub numbered-among : (number : Shard → ℕ) (list : List Shard) (shard : Shard) → is_shard list shard ≡ true → is_among (map number list) (number shard) ≡ true
+pub numbered-among : (number : Shard → ℕ) (list : List Shard) (shard : Shard) → is_shard list shard ≡ true → list_any (nat_eq (number shard)) (map number list) ≡ true
 numbered-among number [] shard h = absurd (let no : ⊥ = cc in no)
 numbered-among number (x ∷ list) shard h = go (same_shard x shard) refl (λ rest. numbered-among number list shard rest)
   where
@@ -321,45 +321,49 @@ numbered-among number (x ∷ list) shard h = go (same_shard x shard) refl (λ re
     later true c rest = refl
     later false c rest = rest
 
-    go : (b : Bool) → same_shard x shard ≡ b → (is_shard list shard ≡ true → is_among (map number list) (number shard) ≡ true) → is_among (map number (x ∷ list)) (number shard) ≡ true
+    go : (b : Bool) → same_shard x shard ≡ b → (is_shard list shard ≡ true → list_any (nat_eq (number shard)) (map number list) ≡ true) → list_any (nat_eq (number shard)) (map number (x ∷ list)) ≡ true
     go true is rest =
         let same = ap number (same-shards x shard is) in
-        rw (eq-eqb (number x) (number shard) same) refl
-    go false is rest = later (number x == number shard) (is_among (map number list) (number shard)) (rest (rw is at h))
+        rw (eq-eqb (number shard) (number x) (sym same)) refl
+    go false is rest = later (nat_eq (number shard) (number x)) (list_any (nat_eq (number shard)) (map number list)) (rest (rw is at h))
 
 -- numbers without repeats are the same numbers
-same-among : (list : List ℕ) (n : ℕ) → is_among (without_repeats list) n ≡ is_among list n
+same-among : (list : List ℕ) (n : ℕ) → list_any (nat_eq n) (without_repeats list) ≡ list_any (nat_eq n) list
 same-among [] n = refl
-same-among (x ∷ list) n = go (is_among list x) refl (same-among list n)
+same-among (x ∷ list) n = go (list_any (nat_eq x) list) refl (same-among list n)
   where
-    covered : (b : Bool) → (x == n) ≡ b → is_among list x ≡ true → is_among list n ≡ (b || is_among list n)
-    covered true is there = rw (sym (eqb-true x n is)) there
+    covered : (b : Bool) → nat_eq n x ≡ b → list_any (nat_eq x) list ≡ true → list_any (nat_eq n) list ≡ (b || list_any (nat_eq n) list)
+    covered true is there = rw (eqb-true n x is) there
     covered false is there = refl
 
-    go : (b : Bool) → is_among list x ≡ b → is_among (without_repeats list) n ≡ is_among list n → is_among (without_repeats (x ∷ list)) n ≡ is_among (x ∷ list) n
-    go true there rest = rw there (rest ∙ covered (x == n) refl there)
-    go false there rest = rw there (ap (λ (b : Bool). (x == n) || b) rest)
+    go : (b : Bool) → list_any (nat_eq x) list ≡ b → list_any (nat_eq n) (without_repeats list) ≡ list_any (nat_eq n) list → list_any (nat_eq n) (without_repeats (x ∷ list)) ≡ list_any (nat_eq n) (x ∷ list)
+    go true there rest = rw there (rest ∙ covered (nat_eq n x) refl there)
+    go false there rest = rw there (ap (λ (b : Bool). nat_eq n x || b) rest)
 
 -- each of them once
-none-counted : (list : List ℕ) (n : ℕ) → is_among list n ≡ false → count_by (λ m. m == n) list ≡ 0
+none-counted : (list : List ℕ) (n : ℕ) → list_any (nat_eq n) list ≡ false → count_by (λ m. m == n) list ≡ 0
 none-counted [] n none = refl
-none-counted (x ∷ list) n none = go (x == n) refl (λ absent. none-counted list n absent)
+none-counted (x ∷ list) n none = go (x == n) refl (none-counted list n (behind (nat_eq n x) none))
   where
-    go : (b : Bool) → (x == n) ≡ b → (is_among list n ≡ false → count_by (λ m. m == n) list ≡ 0) → count_by (λ m. m == n) (x ∷ list) ≡ 0
-    go true is rest = absurd (let there = rw is at none in let no : ⊥ = cc in no)
-    go false is rest = rw is (rest (rw is at none))
+    behind : (b : Bool) → (b || list_any (nat_eq n) list) ≡ false → list_any (nat_eq n) list ≡ false
+    behind true none = absurd (let no : ⊥ = cc in no)
+    behind false none = none
+
+    go : (b : Bool) → (x == n) ≡ b → count_by (λ m. m == n) list ≡ 0 → count_by (λ m. m == n) (x ∷ list) ≡ 0
+    go true is rest = absurd (let there = rw (eq-eqb n x (sym (eqb-true x n is))) at none in let no : ⊥ = cc in no)
+    go false is rest = rw is rest
 
 counted-cons : (x n : ℕ) (list : List ℕ) → count_by (λ m. m == n) (x ∷ list) ≡ cond (x == n) 1 0 + count_by (λ m. m == n) list
 counted-cons x n list = sum_by-cons (λ (m : ℕ). cond (m == n) 1 0) x list
 
 once-counted : (list : List ℕ) (n : ℕ) → count_by (λ m. m == n) (without_repeats list) ≤ 1
 once-counted [] n = omega arith
-once-counted (x ∷ list) n = go (is_among list x) refl (x == n) refl (once-counted list n)
+once-counted (x ∷ list) n = go (list_any (nat_eq x) list) refl (x == n) refl (once-counted list n)
   where
-    go : (b : Bool) → is_among list x ≡ b → (c : Bool) → (x == n) ≡ c → count_by (λ m. m == n) (without_repeats list) ≤ 1 → count_by (λ m. m == n) (without_repeats (x ∷ list)) ≤ 1
+    go : (b : Bool) → list_any (nat_eq x) list ≡ b → (c : Bool) → (x == n) ≡ c → count_by (λ m. m == n) (without_repeats list) ≤ 1 → count_by (λ m. m == n) (without_repeats (x ∷ list)) ≤ 1
     go true there c is rest = rw there rest
     go false there true is rest =
-        let none = none-counted (without_repeats list) n (same-among list n ∙ subst (λ (k : ℕ). is_among list k ≡ false) (eqb-true x n is) there) in
+        let none = none-counted (without_repeats list) n (same-among list n ∙ subst (λ (k : ℕ). list_any (nat_eq k) list ≡ false) (eqb-true x n is) there) in
         let one : count_by (λ m. m == n) (x ∷ without_repeats list) ≡ 1 = counted-cons x n (without_repeats list) ∙ rw (is, none) refl in
         rw there (omega arith)
     go false there false is rest =
@@ -370,19 +374,19 @@ pub coarse-once : (number : Shard → ℕ) (s : State) (e : Event) (n : ℕ) →
 coarse-once number s e n = once-counted (map number (footprint s e)) n
 
 -- what is a shard of an event has its number among the event's
-numbered : (number : Shard → ℕ) (s : State) (e : Event) (shard : Shard) → is_shard (footprint s e) shard ≡ true → is_among (numbers_of number s e) (number shard) ≡ true
+numbered : (number : Shard → ℕ) (s : State) (e : Event) (shard : Shard) → is_shard (footprint s e) shard ≡ true → list_any (nat_eq (number shard)) (numbers_of number s e) ≡ true
 numbered number s e shard is = same-among (map number (footprint s e)) (number shard) ∙ numbered-among number (footprint s e) shard is
 
-pub coarse-frame : (number : Shard → ℕ) (s t : State) (e : Event) (shard : Shard) → step s e ≡ Ok t → is_among (numbers_of number s e) (number shard) ≡ false → HaveSamePart t s shard
+pub coarse-frame : (number : Shard → ℕ) (s t : State) (e : Event) (shard : Shard) → step s e ≡ Ok t → list_any (nat_eq (number shard)) (numbers_of number s e) ≡ false → HaveSamePart t s shard
 coarse-frame number s t e shard h out = frame s t e shard h (by-test (is_shard (footprint s e) shard) refl)
   where
     by-test : (b : Bool) → is_shard (footprint s e) shard ≡ b → is_shard (footprint s e) shard ≡ false
     by-test true is = absurd (let among = numbered number s e shard is in let no : ⊥ = cc in no)
     by-test false is = is
 
-pub coarse-determined : (number : Shard → ℕ) (s s' : State) (e : Event) → AgreeOn (λ shard. is_among (numbers_of number s e) (number shard)) s s' → ComeToSame s s' (step s e) (step s' e)
+pub coarse-determined : (number : Shard → ℕ) (s s' : State) (e : Event) → AgreeOn (λ shard. list_any (nat_eq (number shard)) (numbers_of number s e)) s s' → ComeToSame s s' (step s e) (step s' e)
 coarse-determined number s s' e agree =
     determined s s' e (record { limits = agree.limits; parts = λ shard is. agree.parts shard (numbered number s e shard is) })
 
-pub coarse-owner : (number : Shard → ℕ) (s : State) (e : Event) → is_among (numbers_of number s e) (number (shards.Posts (owner_of e))) ≡ true
+pub coarse-owner : (number : Shard → ℕ) (s : State) (e : Event) → list_any (nat_eq (number (shards.Posts (owner_of e)))) (numbers_of number s e) ≡ true
 coarse-owner number s e = numbered number s e (shards.Posts (owner_of e)) (owner-among s e)
