@@ -1,5 +1,5 @@
 -- The steps on the journal word keep the rule: the history is seen, and an event is added behind it.
-use Rattle.std.proofs.Common.{◌≡◌, ◌≢◌, ℕ, zero, suc, ◌+◌, ◌%◌, ◌^◌, ◌<◌, ◌≤◌, ◌⊎◌, inl, inr, ⊎_elim, Bool, true, false, cond, eq-eqb, ne_eqb, List, [], ◌∷◌, ◌++◌, length, get_or, set, All, Option, None, Some, refl, ap, sym, subst, ◌∙◌, arith, append-nil, length-append}
+use Rattle.std.proofs.Common.{eqb, ◌≡◌, ◌≢◌, ℕ, zero, suc, ◌+◌, ◌%◌, ◌^◌, ◌<◌, ◌≤◌, ◌⊎◌, inl, inr, ⊎_elim, Bool, true, false, cond, eq-eqb, ne_eqb, List, [], ◌∷◌, ◌++◌, length, get_or, set, All, Option, None, Some, refl, ap, sym, subst, ◌∙◌, arith, append-nil, length-append}
 use mathlib.Core.Logic.{dite}
 use mathlib.Core.Option.{some, none}
 use mathlib.Core.List.{IsPrefix}
@@ -9,11 +9,12 @@ use Rattle.std.proofs.lemmas.List.{get_or-set_same, get_or-set_other}
 use Rattle.std.proofs.Math.Nat.{mod-eq_of_lt}
 use Rattle.std.proofs.lemmas.List.Elements.{All-append}
 use Rattle.std.proofs.Math.ListN.{length-set}
+use Rattle.std.specs.List.{list_any}
 use Rattle.atomic_table.specs.Table.{State, Me, keeps, Allows, step}
 use Rattle.atomic_table.proofs.Lists.{at_set, set_else}
 use Rattle.commit_table.specs.declared.views.Known.{Known}
 use Rattle.commit_table.specs.declared.views.View.{View}
-use Rattle.commit_table.specs.Machine.{Machine, Laws, is_among, is_party, events_by}
+use Rattle.commit_table.specs.Machine.{Machine, Laws, is_party, events_by}
 use Rattle.commit_table.specs.Views.{held_at, mine_after, looked, committed, at_rest, hearing}
 use Rattle.commit_table.specs.Rule.{Held, IsShard, Answers, IsParty, Fits, Rule}
 use Rattle.commit_table.specs.Steps.{Sees, Adds, looks, adds}
@@ -144,14 +145,14 @@ module _ {S X E : Type 0} (of : S → Machine X E) (laws : (s : S) → Laws (of 
 
   -- a history that agrees with what was seen on the shards of an event that may follow that
   agrees_there : (s : State (Option X) (View S E)) (r : Rule (of start) start n s) (id : ℕ) (v : Known S E) (e : E) → get_elem? s.views id ≡ some (at_rest v)
-      → ((i : ℕ) → is_among ((of start).shards_of v.seen e) i ≡ true → (g : List E) × (held_at v.held i ≡ Some g) × (of start).Agree i v.seen g)
-      → (i : ℕ) → is_among ((of start).shards_of v.seen e) i ≡ true → (of start).Agree i v.seen r.history
+      → ((i : ℕ) → list_any (eqb i) ((of start).shards_of v.seen e) ≡ true → (g : List E) × (held_at v.held i ≡ Some g) × (of start).Agree i v.seen g)
+      → (i : ℕ) → list_any (eqb i) ((of start).shards_of v.seen e) ≡ true → (of start).Agree i v.seen r.history
   agrees_there s r id v e at holds i among = let a = holds i among in let own = own_shard of laws start n s r id (at_rest v) at i a.0 a.1 in (laws start).agree_through i v.seen a.0 r.history a.2 own.3
 
   add_rest : (slots id : ℕ) (v : Known S E) (e : E) (p : ℕ) → v.party ≡ Some p
       → ((q : ℕ) → (of start).party e ≡ Some q → v.party ≡ Some q)
       → (of start).Legal (v.seen ++ e ∷ [])
-      → ((i : ℕ) → is_among ((of start).shards_of v.seen e) i ≡ true → (g : List E) × (held_at v.held i ≡ Some g) × (of start).Agree i v.seen g)
+      → ((i : ℕ) → list_any (eqb i) ((of start).shards_of v.seen e) ≡ true → (g : List E) × (held_at v.held i ≡ Some g) × (of start).Agree i v.seen g)
       → Allows (Rule (of start) start n) slots id (at_rest v, []) 0 (λ x. (x + 1) % 2 ^ 64) (adds of (e ∷ []) (step slots 0 1 0 none) (at_rest v, []))
   add_rest slots id v e p party may follows holds s r wide at _ =
       let m = of start in
@@ -185,14 +186,14 @@ module _ {S X E : Type 0} (of : S → Machine X E) (laws : (s : S) → Laws (of 
       (λ j g its. ⊎_elim
       (λ on. let a = holds j on in f.held j a.0 a.1)
       (λ off. f.held j g (sym (held_apart is h' v.held j off) ∙ its))
-      (either_way (is_among is j)))
+      (either_way (list_any (eqb j) is)))
       (λ none. absurd cc) in
       let held : (j : ℕ) (g : List E) → held_at w'.held j ≡ Some g → IsPrefix g h' × m.Agree j g h' = λ j g its. ⊎_elim
       (λ on. let there = held_among is h' v.held j on in let whole : h' ≡ g = cc in subst (λ z. IsPrefix z h' × m.Agree j z h') whole (prefix_self h', l.agree_self j h'))
       (λ off.
       let own_j = own_shard of laws start n s r id (at_rest v) at j g (sym (held_apart is h' v.held j off) ∙ its) in
-      (prefix_more g h (e ∷ []) own_j.2, l.agree_through j g h h' own_j.3 (l.frame h e j legal (subst (λ z. is_among z j ≡ false) same off))))
-      (either_way (is_among is j)) in
+      (prefix_more g h (e ∷ []) own_j.2, l.agree_through j g h h' own_j.3 (l.frame h e j legal (subst (λ z. list_any (eqb j) z ≡ false) same off))))
+      (either_way (list_any (eqb j) is)) in
       let rule : Rule m start n (with_view m start n s ws s.homes id w) = record {
         history = h';
         holder = r.holder;
@@ -217,8 +218,8 @@ module _ {S X E : Type 0} (of : S → Machine X E) (laws : (s : S) → Laws (of 
             } in
             subst (λ o. IsShard m start n (with_view m start n s ws s.homes id w) h' j o) (sym own_j.1) there)
             (λ off. shard_apart s h e ws id (at_rest v) w j at (get_or-set_other s.words 0 (suc j) ((x + 1) % 2 ^ 64) 0 (λ z. absurd (omega arith)))
-            (l.frame h e j legal (subst (λ z. is_among z j ≡ false) same off)) (held_apart is h' v.held j off) refl (r.holder j) (r.shards j lt))
-            (either_way (is_among is j));
+            (l.frame h e j legal (subst (λ z. list_any (eqb j) z ≡ false) same off)) (held_apart is h' v.held j off) refl (r.holder j) (r.shards j lt))
+            (either_way (list_any (eqb j) is));
         parties = λ q. party_added s h e ws id (at_rest v) w q r.seat at (λ a. a) (λ z its. ap r.seat (by z its) ∙ own.1) (r.seat q) refl (r.parties q);
         views = λ k u there. ⊎_elim
             (λ t. subst (λ (z : ℕ). Fits m start n h' r.holder r.seat z u) (sym t.0) (subst (λ (z : View S E). Fits m start n h' r.holder r.seat id z) t.1 fits))
@@ -236,7 +237,7 @@ module _ {S X E : Type 0} (of : S → Machine X E) (laws : (s : S) → Laws (of 
   pub add_allowed : (slots id : ℕ) (me : Me (Option X) (View S E)) (told : List E) (e : E) → me ≡ (at_rest me.0.known, []) → told ≡ e ∷ [] → (p : ℕ) → me.0.known.party ≡ Some p
       → ((q : ℕ) → (of start).party e ≡ Some q → me.0.known.party ≡ Some q)
       → (of start).Legal (me.0.known.seen ++ e ∷ [])
-      → ((i : ℕ) → is_among ((of start).shards_of me.0.known.seen e) i ≡ true → (g : List E) × (held_at me.0.known.held i ≡ Some g) × (of start).Agree i me.0.known.seen g)
+      → ((i : ℕ) → list_any (eqb i) ((of start).shards_of me.0.known.seen e) ≡ true → (g : List E) × (held_at me.0.known.held i ≡ Some g) × (of start).Agree i me.0.known.seen g)
       → Allows (Rule (of start) start n) slots id me 0 (λ x. (x + 1) % 2 ^ 64) (adds of told (step slots 0 1 0 none) me)
   add_allowed slots id me told e ready is p party may follows holds =
       subst (λ t. Allows (Rule (of start) start n) slots id me 0 (λ x. (x + 1) % 2 ^ 64) (adds of t (step slots 0 1 0 none) me)) (sym is)

@@ -1,12 +1,13 @@
 -- Beginnings of one history, the events of a party, what is held of a shard, and lists read by `get_elem?`.
-use Rattle.std.proofs.Common.{◌≡◌, ◌≢◌, ℕ, zero, suc, ◌+◌, ◌<◌, ◌≤◌, ◌⊎◌, inl, inr, ⊎_elim, Bool, true, false, cond, eq-eqb, ne_eqb, List, [], ◌∷◌, ◌++◌, length, set, Option, Some, refl, ap, sym, subst, ◌∙◌, arith, append_assoc, append-nil, length-append, map, get_or, slice_get}
+use Rattle.std.proofs.Common.{eqb, ◌≡◌, ◌≢◌, ℕ, zero, suc, ◌+◌, ◌<◌, ◌≤◌, ◌⊎◌, inl, inr, ⊎_elim, Bool, true, false, cond, eq-eqb, ne_eqb, List, [], ◌∷◌, ◌++◌, length, set, Option, Some, refl, ap, sym, subst, ◌∙◌, arith, append_assoc, append-nil, length-append, map, get_or, slice_get}
 use Rattle.std.proofs.lemmas.List.{map-append, get_or-set_other}
+use Rattle.std.specs.List.{list_any}
 use mathlib.Core.Logic.{dite}
 use mathlib.Core.Option.{some, some-injective, some-ne-none}
 use mathlib.Core.List.{IsPrefix}
 use native.Mathlib.Decide.{ℕ_discrete}
 use lib.ListN.{get_elem?}
-use Rattle.commit_table.specs.Machine.{is_among, is_party, events_by}
+use Rattle.commit_table.specs.Machine.{is_party, events_by}
 use Rattle.commit_table.specs.Views.{held_at, holds_all}
 
 module _ {A : Type 0} where
@@ -70,13 +71,13 @@ module _ {E : Type 0} where
   pub held_else : (held : List (ℕ × Option (List E))) (i j : ℕ) (g : Option (List E)) → j ≢ i → held_at ((i, g) ∷ held) j ≡ held_at held j
   held_else held i j g ne = subst (λ b. cond b g (held_at held j) ≡ held_at held j) (sym (ne_eqb j i ne)) refl
 
-  pub held_among : (is : List ℕ) (g : List E) (held : List (ℕ × Option (List E))) (j : ℕ) → is_among is j ≡ true → held_at (holds_all is g held) j ≡ Some g
+  pub held_among : (is : List ℕ) (g : List E) (held : List (ℕ × Option (List E))) (j : ℕ) → list_any (eqb j) is ≡ true → held_at (holds_all is g held) j ≡ Some g
   held_among [] g held j e = absurd (cc)
   held_among (i ∷ is) g held j e = dite (ℕ_discrete j i)
       (λ same. subst (λ b. cond b (Some g) (held_at (holds_all is g held) j) ≡ Some g) (sym (eq-eqb j i same)) refl)
       (λ ne. subst (λ b. cond b (Some g) (held_at (holds_all is g held) j) ≡ Some g) (sym (ne_eqb j i ne)) (held_among is g held j (simp (ne_eqb j i ne) at e)))
 
-  pub held_apart : (is : List ℕ) (g : List E) (held : List (ℕ × Option (List E))) (j : ℕ) → is_among is j ≡ false → held_at (holds_all is g held) j ≡ held_at held j
+  pub held_apart : (is : List ℕ) (g : List E) (held : List (ℕ × Option (List E))) (j : ℕ) → list_any (eqb j) is ≡ false → held_at (holds_all is g held) j ≡ held_at held j
   held_apart [] g held j e = refl
   held_apart (i ∷ is) g held j e = dite (ℕ_discrete j i)
       (λ same. absurd (let b = eq-eqb j i same in cc (simp b at e)))

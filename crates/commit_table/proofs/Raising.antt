@@ -1,15 +1,16 @@
 -- A counter that is held may be raised, and its new value then stands for the history.
-use Rattle.std.proofs.Common.{◌≡◌, ◌≢◌, ℕ, zero, suc, ◌+◌, ◌-◌, ◌<◌, Bool, true, false, cond, ltb, eq-eqb, ne_eqb, ◌&&◌, ◌||◌, List, [], ◌∷◌, ◌++◌, length, Option, None, Some, refl, ap, sym, subst, ◌∙◌, arith}
+use Rattle.std.proofs.Common.{eqb, ◌≡◌, ◌≢◌, ℕ, zero, suc, ◌+◌, ◌-◌, ◌<◌, Bool, true, false, cond, ltb, eq-eqb, ne_eqb, ◌&&◌, ◌||◌, List, [], ◌∷◌, ◌++◌, length, Option, None, Some, refl, ap, sym, subst, ◌∙◌, arith}
 use mathlib.Core.Logic.{dite}
 use mathlib.Core.List.{IsPrefix}
 use native.Mathlib.Decide.{ℕ_discrete}
 use Rattle.std.proofs.lemmas.Bool.{lt-ltb, ltb-true}
+use Rattle.std.specs.List.{list_any}
 use Rattle.commit_table.specs.declared.views.Known.{Known}
 use Rattle.commit_table.specs.declared.views.LockOp.{LockOp}
 use Rattle.commit_table.specs.declared.counters.Counters.{Counters}
 use Rattle.commit_table.specs.declared.counters.Deal.{Deal}
 use Rattle.commit_table.specs.declared.counters.Deal.TheVariants.{Raise, Carry}
-use Rattle.commit_table.specs.Machine.{Machine, is_among, IsOwn}
+use Rattle.commit_table.specs.Machine.{Machine, IsOwn}
 use Rattle.commit_table.specs.Views.{held_at, took, looked, committed, gave_back}
 use Rattle.commit_table.specs.Parts.{part_of, peers_of}
 use Rattle.commit_table.specs.PartLaws.{may_follow, new_own, new_peers, parts_there, last_did, part_there}
@@ -25,10 +26,10 @@ K = Known Counters Deal
 pub part_value : (c x : ℕ) (g : List Deal) → counters.Stands c x g → part_of counter_parts c g ≡ Some x
 part_value c x g s = s.1 ∙ ap Some (sym s.2)
 
-only_one : (c i : ℕ) → is_among (c ∷ []) i ≡ true → i ≡ c
+only_one : (c i : ℕ) → list_any (eqb i) (c ∷ []) ≡ true → i ≡ c
 only_one c i e = dite (ℕ_discrete i c) (λ same. same) (λ ne. absurd (let b = ne_eqb i c ne in cc (simp b at e)))
 
-eq_one : (c : ℕ) → is_among (c ∷ []) c ≡ true
+eq_one : (c : ℕ) → list_any (eqb c) (c ∷ []) ≡ true
 eq_one c = ap (λ b. b || false) (eq-eqb c c refl)
 
 raise_acts : (n p c x : ℕ) → x < most → counter_parts.act n (Raise p c) x [] ≡ Some (x + 1, [])
@@ -43,7 +44,7 @@ may_raise v c x p g party legal held agree stands lt =
     record {
       party = λ q e. party ∙ e;
       legal = may_follow counter_parts v.seen (Raise p c) x [] (x + 1, []) legal here (λ ps e. refl) (raise_acts 0 p c x lt);
-      held = λ i among. let is : i ≡ c = only_one c i (subst (λ z. is_among z i ≡ true) (one_shard p c x v.seen here) among) in
+      held = λ i among. let is : i ≡ c = only_one c i (subst (λ z. list_any (eqb i) z ≡ true) (one_shard p c x v.seen here) among) in
           subst (λ z. (g : List Deal) × (held_at v.held z ≡ Some g) × counters.Agree z v.seen g) (sym is) (g, held, sym agree);
     }
 
@@ -51,7 +52,7 @@ pub raised_stands : (v w : K) (c x p place : ℕ) (h : List Deal) → part_of co
     → (g : List Deal) × (held_at w.held c ≡ Some g) × counters.Stands c (x + 1) g
 raised_stands v w c x p place h here lt t =
     let e : Deal = Raise p c in
-    let among : is_among (counters.shards_of v.seen e) c ≡ true = subst (λ z. is_among z c ≡ true) (sym (one_shard p c x v.seen here)) (eq_one c) in
+    let among : list_any (eqb c) (counters.shards_of v.seen e) ≡ true = subst (λ z. list_any (eqb c) z ≡ true) (sym (one_shard p c x v.seen here)) (eq_one c) in
     let there : part_of counter_parts c h ≡ Some x = sym (t.agrees c among) ∙ here in (
       h ++ e ∷ [],
       ap (λ z. held_at z.held c) t.is ∙ held_among (counters.shards_of v.seen e) (h ++ e ∷ []) v.held c among,
@@ -93,7 +94,7 @@ may_after v u number c x p h g l party held stands lt =
 -- what is held of the other counter stays
 pub other_held : (v u w z : K) (number place c p i : ℕ) (h k : List Deal) (x : ℕ) → Looked counters v number h u → part_of counter_parts c u.seen ≡ Some x → Committed counters u (Raise p c) place k w → z ≡ gave_back w c → i ≢ c → held_at z.held i ≡ held_at v.held i
 other_held v u w z number place c p i h k x l here t is ne =
-    let off : is_among (counters.shards_of u.seen (Raise p c)) i ≡ false = subst (λ y. is_among y i ≡ false) (sym (one_shard p c x u.seen here)) (ap (λ b. b || false) (ne_eqb i c ne)) in
+    let off : list_any (eqb i) (counters.shards_of u.seen (Raise p c)) ≡ false = subst (λ y. list_any (eqb i) y ≡ false) (sym (one_shard p c x u.seen here)) (ap (λ b. b || false) (ne_eqb i c ne)) in
     ap (λ y. held_at y.held i) is ∙ (held_else w.held c i None ne ∙ (ap (λ y. held_at y.held i) t.is ∙ (held_apart (counters.shards_of u.seen (Raise p c)) (k ++ Raise p c ∷ []) u.held i off ∙ ap (λ y. held_at y.held i) l.is)))
 
 pub given : (w z : K) (c : ℕ) → z ≡ gave_back w c → held_at z.held c ≡ None
@@ -107,7 +108,7 @@ carry_acts n a b la lb = subst (λ x. cond {A = Option (ℕ × List ℕ)} (x && 
 two_shards : (a : ℕ) (h : List Deal) → part_of counter_parts 0 h ≡ Some a → counters.shards_of h Carry ≡ 0 ∷ 1 ∷ []
 two_shards a h e = ap (λ o. 0 ∷ peers_of counter_parts o Carry) e
 
-one_of_two : (i : ℕ) (P : ℕ → Type 0) → P 0 → P 1 → is_among (0 ∷ 1 ∷ []) i ≡ true → P i
+one_of_two : (i : ℕ) (P : ℕ → Type 0) → P 0 → P 1 → list_any (eqb i) (0 ∷ 1 ∷ []) ≡ true → P i
 one_of_two zero P z o e = z
 one_of_two (suc zero) P z o e = o
 one_of_two (suc (suc i)) P z o e = absurd (let a = ne_eqb (suc (suc i)) 0 (λ q. absurd (omega arith)) in let b = ne_eqb (suc (suc i)) 1 (λ q. absurd (omega arith)) in cc (simp (a, b) at e))
@@ -133,7 +134,7 @@ may_carry v u number a b h l t =
       held = λ i among. one_of_two i (λ z. (g : List Deal) × (held_at u.held z ≡ Some g) × counters.Agree z u.seen g)
           (t.first, ap (λ y. held_at y.held 0) l.is ∙ t.first_held, here ∙ sym (part_value 0 a t.first t.first_stands))
           (t.second, ap (λ y. held_at y.held 1) l.is ∙ t.second_held, there ∙ sym (part_value 1 b t.second t.second_stands))
-          (subst (λ z. is_among z i ≡ true) (two_shards a u.seen here) among);
+          (subst (λ z. list_any (eqb i) z ≡ true) (two_shards a u.seen here) among);
     }
 
 pub carried_first : (v u w : K) (number place a b : ℕ) (h k : List Deal) → Looked counters v number h u → Both v a b → Committed counters u Carry place k w → (g : List Deal) × (held_at w.held 0 ≡ Some g) × counters.Stands 0 (a - 1) g
@@ -141,7 +142,7 @@ carried_first v u w number place a b h k l t c =
     let here = seen_value v u number 0 a h t.first l t.first_held t.first_stands in
     let there = seen_value v u number 1 b h t.second l t.second_held t.second_stands in
     let shards = two_shards a u.seen here in
-    let among : (i : ℕ) → is_among (0 ∷ 1 ∷ []) i ≡ true → is_among (counters.shards_of u.seen Carry) i ≡ true = λ i e. subst (λ z. is_among z i ≡ true) (sym shards) e in
+    let among : (i : ℕ) → list_any (eqb i) (0 ∷ 1 ∷ []) ≡ true → list_any (eqb i) (counters.shards_of u.seen Carry) ≡ true = λ i e. subst (λ z. list_any (eqb i) z ≡ true) (sym shards) e in
     let own : part_of counter_parts 0 k ≡ Some a = sym (c.agrees 0 (among 0 refl)) ∙ here in
     let peer : part_of counter_parts 1 k ≡ Some b = sym (c.agrees 1 (among 1 refl)) ∙ there in (
       k ++ Carry ∷ [],
@@ -154,7 +155,7 @@ carried_second v u w number place a b h k l t c =
     let here = seen_value v u number 0 a h t.first l t.first_held t.first_stands in
     let there = seen_value v u number 1 b h t.second l t.second_held t.second_stands in
     let shards = two_shards a u.seen here in
-    let among : (i : ℕ) → is_among (0 ∷ 1 ∷ []) i ≡ true → is_among (counters.shards_of u.seen Carry) i ≡ true = λ i e. subst (λ z. is_among z i ≡ true) (sym shards) e in
+    let among : (i : ℕ) → list_any (eqb i) (0 ∷ 1 ∷ []) ≡ true → list_any (eqb i) (counters.shards_of u.seen Carry) ≡ true = λ i e. subst (λ z. list_any (eqb i) z ≡ true) (sym shards) e in
     let own : part_of counter_parts 0 k ≡ Some a = sym (c.agrees 0 (among 0 refl)) ∙ here in
     let peer : part_of counter_parts 1 k ≡ Some b = sym (c.agrees 1 (among 1 refl)) ∙ there in (
       k ++ Carry ∷ [],
@@ -288,7 +289,7 @@ raised_both v u w z w' z' number place place' p h k k' l t is t' is' =
 -- what is held of other counters stays where the second is raised and given back
 next_held : (z w' z' : K) (place p x i : ℕ) (k : List Deal) → part_of counter_parts 1 z.seen ≡ Some x → Committed counters z (Raise p 1) place k w' → z' ≡ gave_back w' 1 → i ≢ 1 → held_at z'.held i ≡ held_at z.held i
 next_held z w' z' place p x i k here t is ne =
-    let off : is_among (counters.shards_of z.seen (Raise p 1)) i ≡ false = subst (λ y. is_among y i ≡ false) (sym (one_shard p 1 x z.seen here)) (ap (λ b. b || false) (ne_eqb i 1 ne)) in
+    let off : list_any (eqb i) (counters.shards_of z.seen (Raise p 1)) ≡ false = subst (λ y. list_any (eqb i) y ≡ false) (sym (one_shard p 1 x z.seen here)) (ap (λ b. b || false) (ne_eqb i 1 ne)) in
     ap (λ y. held_at y.held i) is ∙ (held_else w'.held 1 i None ne ∙ (ap (λ y. held_at y.held i) t.is ∙ held_apart (counters.shards_of z.seen (Raise p 1)) (k ++ Raise p 1 ∷ []) z.held i off))
 
 pub both_given : (v u w z w' z' : K) (number place place' p a b : ℕ) (h k k' : List Deal) → Looked counters v number h u → part_of counter_parts 0 u.seen ≡ Some a → Committed counters u (Raise p 0) place k w → z ≡ gave_back w 0

@@ -1,12 +1,13 @@
 -- What the calls of a commit table ask and tell.
 use Rattle.std.specs.Prelude.{◌≡◌, ℕ, ◌+◌, ◌-◌, ◌^◌, ◌<◌, true, eqb, List, [], ◌∷◌, ◌++◌, length, min, slice_get, slice_index, count_by, Option, None, Some}
+use Rattle.std.specs.List.{list_any}
 use mathlib.Core.List.{IsPrefix}
 use Rattle.atomic_table.specs.Seated.{TableId}
 use Rattle.commit_table.specs.declared.views.Known.{Known}
 use Rattle.commit_table.specs.declared.views.Turn.{Turn}
 use Rattle.commit_table.specs.declared.views.LockOp.TheVariants as lock_op
 use Rattle.commit_table.specs.Turns.{holder_in, turns_by, GoOn}
-use Rattle.commit_table.specs.Machine.{Machine, is_among, events_by, IsOwn}
+use Rattle.commit_table.specs.Machine.{Machine, events_by, IsOwn}
 use Rattle.commit_table.specs.Views.{held_at, looked, committed}
 
 -- a table: which one it is, the start that it was told, and how many passes it made
@@ -90,7 +91,7 @@ module _ {S X E : Type 0} (m : Machine X E) where
   pub record MayCommit (v : Known S E) (e : E) : Type 0 where
     pub party : (p : ℕ) → m.party e ≡ Some p → v.party ≡ Some p
     pub legal : m.Legal (v.seen ++ e ∷ [])
-    pub held : (i : ℕ) → is_among (m.shards_of v.seen e) i ≡ true → (g : List E) × (held_at v.held i ≡ Some g) × m.Agree i v.seen g
+    pub held : (i : ℕ) → list_any (eqb i) (m.shards_of v.seen e) ≡ true → (g : List E) × (held_at v.held i ≡ Some g) × m.Agree i v.seen g
 
   -- the event was committed at a place, behind the history h, which goes on from what was seen and agrees with it on the
   -- event's shards. The pass has seen all that, and the events of its party there are its own. On each shard that it holds,
@@ -100,7 +101,7 @@ module _ {S X E : Type 0} (m : Machine X E) where
     pub place_is : place ≡ length h
     pub legal : m.Legal (h ++ e ∷ [])
     pub seen : IsPrefix v.seen h
-    pub agrees : (i : ℕ) → is_among (m.shards_of v.seen e) i ≡ true → m.Agree i v.seen h
+    pub agrees : (i : ℕ) → list_any (eqb i) (m.shards_of v.seen e) ≡ true → m.Agree i v.seen h
     pub own : IsOwn m v.party (h ++ e ∷ []) w.mine
     pub held : (i : ℕ) (g : List E) → held_at w.held i ≡ Some g → IsPrefix g (h ++ e ∷ []) × m.Agree i g (h ++ e ∷ [])
 

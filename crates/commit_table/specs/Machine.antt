@@ -1,10 +1,6 @@
 -- What a commit table asks of the machine whose events its threads commit.
-use Rattle.std.specs.Prelude.{◌≡◌, ℕ, ◌^◌, ◌<◌, ◌≤◌, Bool, true, false, cond, ◌||◌, eqb, List, [], ◌∷◌, ◌++◌, length, Option, None, Some}
-
--- whether a number is in the list
-abbrev pub is_among : List ℕ → ℕ → Bool
-is_among [] i = false
-is_among (j ∷ js) i = eqb i j || is_among js i
+use Rattle.std.specs.Prelude.{◌≡◌, ℕ, ◌^◌, ◌<◌, ◌≤◌, Bool, true, false, cond, eqb, List, [], ◌∷◌, ◌++◌, length, Option, None, Some}
+use Rattle.std.specs.List.{list_any}
 
 -- A machine whose state lies in shards. X is what a shard's value is, E an event; a history is a list of events
 pub record Machine (X E : Type 0) : Type 1 where
@@ -34,12 +30,12 @@ pub record Laws {X E : Type 0} (m : Machine X E) : Type 0 where
   pub agree_through : (i : ℕ) (h k l : List E) → m.Agree i h k → m.Agree i k l → m.Agree i h l
   pub stands : (i : ℕ) (x : X) (h k : List E) → m.Stands i x h → m.Agree i h k → m.Stands i x k
   -- an event leaves every shard as it is but its own
-  pub frame : (h : List E) (e : E) (i : ℕ) → m.Legal (h ++ e ∷ []) → is_among (m.shards_of h e) i ≡ false → m.Agree i h (h ++ e ∷ [])
+  pub frame : (h : List E) (e : E) (i : ℕ) → m.Legal (h ++ e ∷ []) → list_any (eqb i) (m.shards_of h e) ≡ false → m.Agree i h (h ++ e ∷ [])
   -- whether an event may follow depends on its shards alone
   pub follows : (h k : List E) (e : E) → m.Legal (h ++ e ∷ []) → m.Legal k → length h ≤ length k
-      → ((i : ℕ) → is_among (m.shards_of h e) i ≡ true → m.Agree i h k) → m.Legal (k ++ e ∷ [])
+      → ((i : ℕ) → list_any (eqb i) (m.shards_of h e) ≡ true → m.Agree i h k) → m.Legal (k ++ e ∷ [])
   -- an event's owner is among its shards, and which these are depends on the owner's shard alone
-  pub owned : (h : List E) (e : E) → m.Legal h → is_among (m.shards_of h e) (m.owner e) ≡ true
+  pub owned : (h : List E) (e : E) → m.Legal h → list_any (eqb (m.owner e)) (m.shards_of h e) ≡ true
   pub same_shards : (h k : List E) (e : E) → m.Legal h → m.Legal k → m.Agree (m.owner e) h k → m.shards_of h e ≡ m.shards_of k e
 
 -- whether an event is the party's

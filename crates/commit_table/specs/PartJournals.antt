@@ -1,8 +1,8 @@
 -- Where each event is noted in its owner's part, in a list that nothing else changes, the parts' lists are the history cut by owner.
 use Rattle.std.proofs.Common.{◌≡◌, ◌≢◌, ℕ, zero, suc, Bool, true, false, cond, eqb, eq-eqb, ne_eqb, List, [], ◌∷◌, ◌++◌, append_assoc, append-nil, set, slice_get, Option, Some, refl, ap, sym, subst, ◌∙◌}
+use Rattle.std.specs.List.{list_any}
 use mathlib.Core.Logic.{dite}
 use native.Mathlib.Decide.{ℕ_discrete}
-use Rattle.commit_table.specs.Machine.{is_among}
 use Rattle.commit_table.specs.Parts.{Parts, with_parts, stepped, run, parts_of}
 use Rattle.commit_table.specs.PartLaws.{chained, get_set_here, get_set_else, among_at, parts_found, did}
 
@@ -20,7 +20,7 @@ module _ {P X E : Type 0} (a : Parts P X E) (list : P → List (ℕ × E)) where
     pub others : (place : ℕ) (e : E) (own : P) (others : List P) (new : P × List P) → a.act place e own others ≡ Some new
         → (k : ℕ) (q : P) → slice_get new.1 k ≡ Some q → (p : P) × (slice_get others k ≡ Some p) × (list q ≡ list p)
     -- no event has its owner as a peer
-    pub apart : (own : P) (e : E) → is_among (a.peers own e) (a.owner e) ≡ false
+    pub apart : (own : P) (e : E) → list_any (eqb (a.owner e)) (a.peers own e) ≡ false
 
   -- new parts of some shards have the lists that the old ones had
   abbrev Same : List P → List ℕ → List P → Type 0
@@ -54,7 +54,7 @@ module _ {P X E : Type 0} (a : Parts P X E) (list : P → List (ℕ × E)) where
       let same : Same one (a.peers d.own e) d.new.1 = λ k j q peer part.
       let x = l.others place e d.own d.others d.new d.acts k q part in
       let was = parts_found ps (a.peers d.own e) d.others k j d.others_there peer in
-      let ne : j ≢ o = λ is. absurd (let b = among_at (a.peers d.own e) k j peer in let c = l.apart d.own e in let f = ap (λ z. is_among (a.peers d.own e) z) is in cc) in
+      let ne : j ≢ o = λ is. absurd (let b = among_at (a.peers d.own e) k j peer in let c = l.apart d.own e in let f = ap (λ z. list_any (eqb z) (a.peers d.own e)) is in cc) in
       (was.0, get_set_else ps o j noted ne ∙ was.2, x.2 ∙ ap list (one_part d.others k x.0 was.0 x.1 was.1)) in
       let now : (z : P) × (slice_get one i ≡ Some z) × (list z ≡ list p ++ cond (eqb i o) ((place, e) ∷ []) []) = dite (ℕ_discrete i o)
       (λ is.

@@ -4,7 +4,8 @@ use mathlib.Core.Logic.{dite}
 use native.Mathlib.Decide.{ℕ_discrete}
 use Rattle.std.specs.Prelude.{option_and_then}
 use Rattle.std.proofs.Math.Bool.{or-true}
-use Rattle.commit_table.specs.Machine.{Machine, Laws, is_among}
+use Rattle.std.specs.List.{list_any}
+use Rattle.commit_table.specs.Machine.{Machine, Laws}
 use Rattle.commit_table.specs.Parts.{Parts, parts_at, with_parts, acted, stepped, run, parts_of, part_of, peers_of, machine_of, Lasts, ArePartsOf, AreApart}
 
 module _ {A B : Type 0} where
@@ -28,33 +29,33 @@ module _ {A : Type 0} where
   get_set_else (x ∷ xs) (suc i) zero a ne = refl
   get_set_else (x ∷ xs) (suc i) (suc j) a ne = get_set_else xs i j a (λ e. ne (ap suc e))
 
-apart_here : (i j : ℕ) (is : List ℕ) → is_among (j ∷ is) i ≡ false → (i ≢ j) × (is_among is i ≡ false)
+apart_here : (i j : ℕ) (is : List ℕ) → list_any (eqb i) (j ∷ is) ≡ false → (i ≢ j) × (list_any (eqb i) is ≡ false)
 apart_here i j is e = dite (ℕ_discrete i j)
     (λ same. absurd (let b = eq-eqb i j same in cc (simp b at e)))
     (λ ne. (ne, let b = ne_eqb i j ne in simp b at e))
 
-among_later : (i j : ℕ) (is : List ℕ) → is_among is i ≡ true → is_among (j ∷ is) i ≡ true
+among_later : (i j : ℕ) (is : List ℕ) → list_any (eqb i) is ≡ true → list_any (eqb i) (j ∷ is) ≡ true
 among_later i j is e = ap (λ b. eqb i j || b) e ∙ or-true (eqb i j)
 
-among_first : (j : ℕ) (is : List ℕ) → is_among (j ∷ is) j ≡ true
-among_first j is = ap (λ b. b || is_among is j) (eq-eqb j j refl)
+among_first : (j : ℕ) (is : List ℕ) → list_any (eqb j) (j ∷ is) ≡ true
+among_first j is = ap (λ b. b || list_any (eqb j) is) (eq-eqb j j refl)
 
 module _ {P : Type 0} where
-  pub with_apart : (ps : List P) (is : List ℕ) (qs : List P) (i : ℕ) → is_among is i ≡ false → slice_get (with_parts ps is qs) i ≡ slice_get ps i
+  pub with_apart : (ps : List P) (is : List ℕ) (qs : List P) (i : ℕ) → list_any (eqb i) is ≡ false → slice_get (with_parts ps is qs) i ≡ slice_get ps i
   with_apart ps [] qs i off = refl
   with_apart ps (j ∷ is) [] i off = refl
   with_apart ps (j ∷ is) (q ∷ qs) i off = let a = apart_here i j is off in with_apart (set ps j q) is qs i a.1 ∙ get_set_else ps j i q a.0
 
-  pub parts_same : (ps ks : List P) (is : List ℕ) → ((j : ℕ) → is_among is j ≡ true → slice_get ps j ≡ slice_get ks j) → parts_at ps is ≡ parts_at ks is
+  pub parts_same : (ps ks : List P) (is : List ℕ) → ((j : ℕ) → list_any (eqb j) is ≡ true → slice_get ps j ≡ slice_get ks j) → parts_at ps is ≡ parts_at ks is
   parts_same ps ks [] same = refl
   parts_same ps ks (i ∷ is) same =
       let here = same i (among_first i is) in
       let rest = parts_same ps ks is (λ j e. same j (among_later j i is e)) in
       ap (λ z. option_and_then (λ p. option_and_then (λ qs. Some (p ∷ qs)) (parts_at ps is)) z) here ∙ ap (λ z. option_and_then (λ p. option_and_then (λ qs. Some (p ∷ qs)) z) (slice_get ks i)) rest
 
-pub among_at : (is : List ℕ) (k j : ℕ) → slice_get is k ≡ Some j → is_among is j ≡ true
+pub among_at : (is : List ℕ) (k j : ℕ) → slice_get is k ≡ Some j → list_any (eqb j) is ≡ true
 among_at [] k j e = absurd cc
-among_at (i ∷ is) zero j e = let here : i ≡ j = cc in subst (λ z. is_among (i ∷ is) z ≡ true) here (among_first i is)
+among_at (i ∷ is) zero j e = let here : i ≡ j = cc in subst (λ z. list_any (eqb z) (i ∷ is) ≡ true) here (among_first i is)
 among_at (i ∷ is) (suc k) j e = among_later j i is (among_at is k j e)
 
 module _ {P : Type 0} where
@@ -84,7 +85,7 @@ module _ {P : Type 0} where
       subst (λ z. slice_get (with_parts (set ps i q) is qs) z ≡ Some p) same
       (with_apart (set ps i q) is qs i once.0 ∙ (get_set_here ps i was q (subst (λ z. slice_get ps z ≡ Some was) (sym same) there) ∙ ap (λ z. Some z) new))
   with_there ps (i ∷ is) (q ∷ qs) (suc k) j p was once at part there =
-      let ne : j ≢ i = λ same. absurd (let x = among_at is k j at in let y = once.0 in let z = ap (λ z. is_among is z) same in cc) in
+      let ne : j ≢ i = λ same. absurd (let x = among_at is k j at in let y = once.0 in let z = ap (λ z. list_any (eqb z) is) same in cc) in
       with_there (set ps i q) is qs k j p was once.1 at part (get_set_else ps i j q ne ∙ there)
 
 module _ {P X E : Type 0} (a : Parts P X E) where
@@ -140,24 +141,24 @@ module _ {P X E : Type 0} (a : Parts P X E) where
   pub part_there : (h : List E) (ps : List P) (i : ℕ) → parts_of a h ≡ Some ps → part_of a i h ≡ slice_get ps i
   part_there h ps i e = chain_at (λ (ps : List P). slice_get ps i) (parts_of a h) ps e
 
-  frame : (h : List E) (e : E) (i : ℕ) → M.Legal (h ++ e ∷ []) → is_among (M.shards_of h e) i ≡ false → M.Agree i h (h ++ e ∷ [])
+  frame : (h : List E) (e : E) (i : ℕ) → M.Legal (h ++ e ∷ []) → list_any (eqb i) (M.shards_of h e) ≡ false → M.Agree i h (h ++ e ∷ [])
   frame h e i legal off =
       let d = last_did h e legal.0 legal.1 in
       let r = d.2 in
       let own : part_of a (a.owner e) h ≡ Some r.own = part_there h d.0 (a.owner e) d.1 ∙ r.own_there in
       let far = apart_here i (a.owner e) (peers_of a (part_of a (a.owner e) h) e) off in
-      let beside : is_among (a.peers r.own e) i ≡ false = subst (λ o. is_among (peers_of a o e) i ≡ false) own far.1 in
+      let beside : list_any (eqb i) (a.peers r.own e) ≡ false = subst (λ o. list_any (eqb i) (peers_of a o e) ≡ false) own far.1 in
       let same : slice_get legal.0 i ≡ slice_get d.0 i = ap (λ z. slice_get z i) r.is ∙ (with_apart (set d.0 (a.owner e) (a.noted (zero + length h) e r.new.0)) (a.peers r.own e) r.new.1 i beside ∙ get_set_else d.0 (a.owner e) i (a.noted (zero + length h) e r.new.0) far.0) in
       part_there h d.0 i d.1 ∙ (sym same ∙ sym (part_there (h ++ e ∷ []) legal.0 i legal.1))
 
-  follows : Lasts a → (h k : List E) (e : E) → M.Legal (h ++ e ∷ []) → M.Legal k → length h ≤ length k → ((i : ℕ) → is_among (M.shards_of h e) i ≡ true → M.Agree i h k) → M.Legal (k ++ e ∷ [])
+  follows : Lasts a → (h k : List E) (e : E) → M.Legal (h ++ e ∷ []) → M.Legal k → length h ≤ length k → ((i : ℕ) → list_any (eqb i) (M.shards_of h e) ≡ true → M.Agree i h k) → M.Legal (k ++ e ∷ [])
   follows lasts h k e legal there longer agree =
       let d = last_did h e legal.0 legal.1 in
       let r = d.2 in
       let own : part_of a (a.owner e) h ≡ Some r.own = part_there h d.0 (a.owner e) d.1 ∙ r.own_there in
-      let to : (i : ℕ) → is_among (M.shards_of h e) i ≡ true → slice_get d.0 i ≡ slice_get there.0 i = λ i among. sym (part_there h d.0 i d.1) ∙ (agree i among ∙ part_there k there.0 i there.1) in
+      let to : (i : ℕ) → list_any (eqb i) (M.shards_of h e) ≡ true → slice_get d.0 i ≡ slice_get there.0 i = λ i among. sym (part_there h d.0 i d.1) ∙ (agree i among ∙ part_there k there.0 i there.1) in
       let here : slice_get there.0 (a.owner e) ≡ Some r.own = sym (to (a.owner e) (among_first (a.owner e) (peers_of a (part_of a (a.owner e) h) e))) ∙ r.own_there in
-      let peers : parts_at there.0 (a.peers r.own e) ≡ Some r.others = sym (parts_same d.0 there.0 (a.peers r.own e) (λ j among. to j (among_later j (a.owner e) (peers_of a (part_of a (a.owner e) h) e) (subst (λ o. is_among (peers_of a o e) j ≡ true) (sym own) among)))) ∙ r.others_there in
+      let peers : parts_at there.0 (a.peers r.own e) ≡ Some r.others = sym (parts_same d.0 there.0 (a.peers r.own e) (λ j among. to j (among_later j (a.owner e) (peers_of a (part_of a (a.owner e) h) e) (subst (λ o. list_any (eqb j) (peers_of a o e) ≡ true) (sym own) among)))) ∙ r.others_there in
       let later = lasts (zero + length h) (zero + length k) e r.own r.others r.new (omega arith) r.acts in
       let s = may (zero + length k) there.0 e r.own r.others later.0 here peers later.1 in
       (s.0, run_last zero a.first k e ∙ (chain_at (λ qs. stepped a (zero + length k) qs e) (parts_of a k) there.0 there.1 ∙ s.1))
@@ -190,7 +191,7 @@ module _ {P X E : Type 0} (a : Parts P X E) where
 
   -- after an event, its owner's part and those of its peers are the new ones
   pub new_own : (h : List E) (e : E) (own : P) (others : List P) (new : P × List P) → M.Legal (h ++ e ∷ []) → part_of a (a.owner e) h ≡ Some own
-      → ((ps : List P) → parts_of a h ≡ Some ps → parts_at ps (a.peers own e) ≡ Some others) → a.act (zero + length h) e own others ≡ Some new → is_among (a.peers own e) (a.owner e) ≡ false
+      → ((ps : List P) → parts_of a h ≡ Some ps → parts_at ps (a.peers own e) ≡ Some others) → a.act (zero + length h) e own others ≡ Some new → list_any (eqb (a.owner e)) (a.peers own e) ≡ false
       → part_of a (a.owner e) (h ++ e ∷ []) ≡ Some (a.noted (zero + length h) e new.0)
   new_own h e own others new legal here there acts apart =
       let d = last_did h e legal.0 legal.1 in
@@ -199,7 +200,7 @@ module _ {P X E : Type 0} (a : Parts P X E) where
       let peers : a.peers r.own e ≡ a.peers own e = ap (λ z. a.peers z e) same in
       let all : r.others ≡ others = (let x = r.others_there in let y = there d.0 d.1 in let z = ap (λ z. parts_at d.0 z) peers in cc) in
       let is : r.new ≡ new = (let x = r.acts in let y : a.act (zero + length h) e r.own r.others ≡ a.act (zero + length h) e own others = ap (λ z. a.act (zero + length h) e z r.others) same ∙ ap (λ z. a.act (zero + length h) e own z) all in cc) in
-      let off : is_among (a.peers r.own e) (a.owner e) ≡ false = ap (λ z. is_among z (a.owner e)) peers ∙ apart in
+      let off : list_any (eqb (a.owner e)) (a.peers r.own e) ≡ false = ap (λ z. list_any (eqb (a.owner e)) z) peers ∙ apart in
       part_there (h ++ e ∷ []) legal.0 (a.owner e) legal.1
       ∙ (ap (λ z. slice_get z (a.owner e)) r.is
       ∙ (with_apart (set d.0 (a.owner e) (a.noted (zero + length h) e r.new.0)) (a.peers r.own e) r.new.1 (a.owner e) off
@@ -215,7 +216,7 @@ module _ {P X E : Type 0} (a : Parts P X E) where
       ap (λ o. option_and_then (λ p. option_and_then (λ qs. Some (p ∷ qs)) (parts_at ps is)) o) here ∙ ap (λ o. option_and_then (λ qs. Some (q ∷ qs)) o) (parts_there h ps is others at there.1)
 
   pub new_peers : (h : List E) (e : E) (own : P) (others : List P) (new : P × List P) → M.Legal (h ++ e ∷ []) → part_of a (a.owner e) h ≡ Some own → ArePartsOf a h (a.peers own e) others
-      → a.act (zero + length h) e own others ≡ Some new → is_among (a.peers own e) (a.owner e) ≡ false → AreApart (a.peers own e)
+      → a.act (zero + length h) e own others ≡ Some new → list_any (eqb (a.owner e)) (a.peers own e) ≡ false → AreApart (a.peers own e)
       → (k j : ℕ) (p : P) → slice_get (a.peers own e) k ≡ Some j → slice_get new.1 k ≡ Some p → part_of a j (h ++ e ∷ []) ≡ Some p
   new_peers h e own others new legal here there acts apart once k j p peer part =
       let d = last_did h e legal.0 legal.1 in
@@ -226,7 +227,7 @@ module _ {P X E : Type 0} (a : Parts P X E) where
       let all : r.others ≡ others = (let x = r.others_there in let z = ap (λ z. parts_at d.0 z) peers in cc) in
       let is : r.new ≡ new = (let x = r.acts in let y : a.act (zero + length h) e r.own r.others ≡ a.act (zero + length h) e own others = ap (λ z. a.act (zero + length h) e z r.others) same ∙ ap (λ z. a.act (zero + length h) e own z) all in cc) in
       let ps' : List P = set d.0 (a.owner e) (a.noted (zero + length h) e r.new.0) in
-      let off : (i : ℕ) → is_among (a.peers own e) i ≡ true → i ≢ a.owner e = λ i among same. absurd (let x = ap (λ z. is_among (a.peers own e) z) same in cc) in
+      let off : (i : ℕ) → list_any (eqb i) (a.peers own e) ≡ true → i ≢ a.owner e = λ i among same. absurd (let x = ap (λ z. list_any (eqb z) (a.peers own e)) same in cc) in
       let was = parts_found d.0 (a.peers own e) others k j found peer in
       let kept : slice_get ps' j ≡ Some was.0 = get_set_else d.0 (a.owner e) j (a.noted (zero + length h) e r.new.0) (off j (among_at (a.peers own e) k j peer)) ∙ was.2 in
       part_there (h ++ e ∷ []) legal.0 j legal.1

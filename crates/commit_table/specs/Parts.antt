@@ -1,6 +1,7 @@
 -- A machine whose state is a list of parts, one for each shard, and whose events act on the parts of their shards alone.
-use Rattle.std.specs.Prelude.{◌≡◌, ℕ, zero, suc, ◌≤◌, false, List, [], ◌∷◌, length, slice_get, slice_set, option_and_then, Option, None, Some}
-use Rattle.commit_table.specs.Machine.{Machine, is_among}
+use Rattle.std.specs.Prelude.{eqb, ◌≡◌, ℕ, zero, suc, ◌≤◌, false, List, [], ◌∷◌, length, slice_get, slice_set, option_and_then, Option, None, Some}
+use Rattle.std.specs.List.{list_any}
+use Rattle.commit_table.specs.Machine.{Machine}
 
 -- P is a part, X what lies in a shard, E an event. An event has an owner, and peers that follow from the owner's part.
 pub record Parts (P X E : Type 0) : Type 1 where
@@ -80,4 +81,4 @@ module _ {P X E : Type 0} (a : Parts P X E) where
 -- no shard is named twice
 abbrev pub AreApart : List ℕ → Type 0
 AreApart [] = Unit {0}
-AreApart (i ∷ is) = (is_among is i ≡ false) × AreApart is
+AreApart (i ∷ is) = (list_any (eqb i) is ≡ false) × AreApart is

@@ -1,9 +1,10 @@
 -- The two ranks are a lawful machine: each event is one more in its owner's part of the journal, and there it has room.
-use Rattle.std.proofs.Common.{◌≡◌, ℕ, zero, suc, ◌+◌, ◌^◌, ◌<◌, ◌≤◌, Bool, true, false, cond, ltb, ◌||◌, ne_eqb, List, [], ◌∷◌, length, map, slice_get, Option, None, Some, refl, ap, sym, subst, ◌∙◌, arith, length-append}
+use Rattle.std.proofs.Common.{eqb, ◌≡◌, ℕ, zero, suc, ◌+◌, ◌^◌, ◌<◌, ◌≤◌, Bool, true, false, cond, ltb, ◌||◌, ne_eqb, List, [], ◌∷◌, length, map, slice_get, Option, None, Some, refl, ap, sym, subst, ◌∙◌, arith, length-append}
 use Rattle.std.proofs.lemmas.List.{map-append}
 use Rattle.std.specs.Prelude.{option_and_then}
 use Rattle.std.proofs.lemmas.Bool.{ltb-true, lt-ltb}
-use Rattle.commit_table.specs.Machine.{Laws, is_among}
+use Rattle.std.specs.List.{list_any}
+use Rattle.commit_table.specs.Machine.{Laws}
 use Rattle.commit_table.specs.Parts.{stepped, parts_at, parts_of, with_parts, Lasts}
 use Rattle.commit_table.specs.declared.ranks.Act.{Act}
 use Rattle.commit_table.specs.declared.ranks.Act.TheVariants.{Link, Post}
@@ -129,16 +130,16 @@ others_noted place (Post rank) own (other ∷ []) new acts k q at =
     (ap (λ (z : RankPart × List RankPart). z.1) (sym (made_of (ltb (count own) most_events) (own, (record other { messages = other.messages + 1; latest = place }) ∷ []) new acts))) refl k q at
 others_noted place (Post rank) own (other ∷ (more ∷ rest)) new acts k q at = absurd cc
 
-not_itself : (rank : ℕ) (b : Bool) → b ≡ ltb 0 rank → is_among (cond b (0 ∷ []) (1 ∷ [])) rank ≡ false
+not_itself : (rank : ℕ) (b : Bool) → b ≡ ltb 0 rank → list_any (eqb rank) (cond b (0 ∷ []) (1 ∷ [])) ≡ false
 not_itself rank true e = ap (λ z. z || false) (ne_eqb rank 0 (λ is. absurd (let lt = ltb-true 0 rank (sym e) in omega arith)))
 not_itself zero false e = refl
 not_itself (suc rank) false e = absurd (let lt = lt-ltb 0 (suc rank) (omega arith) in cc)
 
-not_other : (linked : Bool) (rank : ℕ) → is_among (cond linked (other_rank rank) []) rank ≡ false
+not_other : (linked : Bool) (rank : ℕ) → list_any (eqb rank) (cond linked (other_rank rank) []) ≡ false
 not_other true rank = not_itself rank (ltb 0 rank) refl
 not_other false rank = refl
 
-rank_apart : (own : RankPart) (e : Act) → is_among (act_peers own e) (act_owner e) ≡ false
+rank_apart : (own : RankPart) (e : Act) → list_any (eqb (act_owner e)) (act_peers own e) ≡ false
 rank_apart own (Link rank) = refl
 rank_apart own (Post rank) = not_other own.linked rank
 

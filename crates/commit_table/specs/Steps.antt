@@ -1,6 +1,7 @@
 -- What each step on the table tells: of the step, the seat before, the number found, and the seat after.
 -- `of` is the machine of a start.
-use Rattle.std.specs.Prelude.{◌≡◌, ℕ, ◌+◌, ◌<◌, ◌⊎◌, true, List, [], ◌∷◌, ◌++◌, length, Option, Some}
+use Rattle.std.specs.Prelude.{eqb, ◌≡◌, ℕ, ◌+◌, ◌<◌, ◌⊎◌, true, List, [], ◌∷◌, ◌++◌, length, Option, Some}
+use Rattle.std.specs.List.{list_any}
 use mathlib.Core.Option.{some}
 use mathlib.Core.List.{IsPrefix}
 use lib.ListN.{get_elem?}
@@ -8,7 +9,7 @@ use Rattle.atomic_table.specs.Table.{Me, Step}
 use Rattle.commit_table.specs.declared.views.Known.{Known}
 use Rattle.commit_table.specs.declared.views.View.{View}
 use Rattle.commit_table.specs.declared.views.Turn.{Turn}
-use Rattle.commit_table.specs.Machine.{Machine, is_among, events_by, IsOwn}
+use Rattle.commit_table.specs.Machine.{Machine, events_by, IsOwn}
 use Rattle.commit_table.specs.Calls.{IsSound, Met}
 use Rattle.commit_table.specs.Views.{held_at, took, missed, gave_back, looked, committed, at_rest, reaching, closer}
 
@@ -47,7 +48,7 @@ module _ {S X E : Type 0} (of : S → Machine X E) where
     pub number : found ≡ length h
     pub legal : m.Legal (h ++ e ∷ [])
     pub seen : IsPrefix v.seen h
-    pub agrees : (i : ℕ) → is_among (m.shards_of v.seen e) i ≡ true → m.Agree i v.seen h
+    pub agrees : (i : ℕ) → list_any (eqb i) (m.shards_of v.seen e) ≡ true → m.Agree i v.seen h
     pub own : IsOwn m v.party (h ++ e ∷ []) w.mine
     -- on each shard that is held then, the event's and others, the history is as the seat holds it
     pub held : (i : ℕ) (g : List E) → held_at w.held i ≡ Some g → IsPrefix g (h ++ e ∷ []) × m.Agree i g (h ++ e ∷ [])

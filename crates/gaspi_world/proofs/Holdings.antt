@@ -1,6 +1,6 @@
 -- What a pass that holds the shard of its world knows.
 use Rattle.std.proofs.Common.{◌≡◌, ℕ, suc, ◌+◌, ◌-◌, ◌*◌, ◌<◌, ◌≤◌, Bool, true, false, eqb, List, [], ◌∷◌, ◌++◌, map, length, length-append, Option, None, Some, Ok, refl, sym, ap, ◌∙◌, subst, arith}
-use Rattle.std.specs.List.{All}
+use Rattle.std.specs.List.{All, list_any}
 use Rattle.std.proofs.Math.Bridge.{le_prop}
 use Rattle.std.proofs.Math.Logic.{∥∥₁_elim}
 use Rattle.std.proofs.lemmas.Bool.{eqb-true, eq-eqb}
@@ -17,7 +17,7 @@ use Rattle.gaspi_model.specs.declared.states.Posts.{Posts}
 use Rattle.gaspi_model.specs.declared.states.State.{State}
 use Rattle.gaspi_model.proofs.Histories.{after-joined, after-both}
 use Rattle.gaspi_model.proofs.Sound.Opening.{opens}
-use Rattle.commit_table.specs.Machine.{is_among, events_by, IsOwn}
+use Rattle.commit_table.specs.Machine.{events_by, IsOwn}
 use Rattle.commit_table.specs.Attempts.{Missed, LookedOnly}
 use Rattle.commit_table.specs.Calls.{IsSound, HoldsNone, Met, Taken, Looked, Committed, MayCommit}
 use Rattle.commit_table.specs.Parts.{parts_of, part_of, peers_of}
@@ -169,7 +169,7 @@ module _ {S : Type 0} (w : World) where
     held = λ i among. held-there i (zero-among i among);
   }
     where
-      zero-among : (i : ℕ) → is_among ((world_machine shard_part w).shards_of v.seen e) i ≡ true → i ≡ 0
+      zero-among : (i : ℕ) → list_any (eqb i) ((world_machine shard_part w).shards_of v.seen e) ≡ true → i ≡ 0
       zero-among i among = go (eqb i 0) refl
         where
           go : (b : Bool) → eqb i 0 ≡ b → i ≡ 0
