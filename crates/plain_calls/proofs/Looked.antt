@@ -129,6 +129,3 @@ less-freed after freed total result all is = omega (arith, all, is)
 
 pub freed-within : (after freed total result : ℕ) → after + freed ≡ total → result ≡ freed → result ≤ total
 freed-within after freed total result all is = omega (arith, all, is)
-
-pub charged : (t t' : ThreadState) (call : Call) (ready : Ready) (n : ℕ) → t ≡ t' → n ≡ charge t call (recorded_reply ready) → n ≡ charge t' call (recorded_reply ready)
-charged t t' call ready n state is = is ∙ ap (λ (t : ThreadState). charge t call (recorded_reply ready)) state

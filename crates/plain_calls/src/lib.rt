@@ -32,6 +32,6 @@ pub use lanes::{is_carried, is_posted, is_read, is_write, may_put, may_take, pla
 pub use looks::Finding;
 pub use memories::{bytes_of, new_slots, segment_at, set_slot};
 pub use queue_calls::purged_queue;
-pub use recording::{charge, record};
+pub use recording::{Recorded, charge, record};
 pub use segment_calls::News;
 pub use threads::{is_running, is_there, thread_at};

@@ -92,38 +92,39 @@ fn record_found(
     Ok(recorded_reply(ready))
 }
 
-/// Records a look at a call: the step by the call with what the look found. It gives the reply with which the call was
-/// recorded. The look is one of this very call on these very posts and this memory, and the rank has room for its event, so
-/// nothing is looked for or tested again. `taken` is the room that the rank has taken, before and after. Only a post, a segment
-/// that is made and a message take memory, and without it nothing changes.
+/// A recorded call: the reply with which it was recorded, and the used room of its rank then.
+#[derive(Debug, Drop)]
+pub struct Recorded {
+    pub reply: Reply,
+    pub used: u32,
+}
+
+/// Records a look at a call: the step by the call with what the look found. The look is one of this very call on these very
+/// posts and this memory, and the rank has room for its event, so nothing is looked for or tested again. `used` is the rank's
+/// used room with the event's charge. Only a post, a segment that is made and a message take memory, and without it nothing
+/// changes.
 pub fn record(
     alloc: Global,
     limits: &Limits,
     invocation: &Invocation<'_>,
     posts: &mut Posts,
     memory: &mut Memory,
-    taken: &mut u32,
+    used: u32,
     look: Finding,
-) -> Result<Reply, NoMemory>
+) -> Result<Recorded, NoMemory>
     requires limits { are_limits limits.now ≡ true }
     requires sound { IsSoundPosts limits.now posts.old }
-    requires taken { taken.old ≡ posts.old.events + owed posts.old }
+    requires taken { used ≡ posts.old.events + owed posts.old + charge (thread_at posts.old invocation.now.caller.thread) invocation.now.call.now (recorded_reply look.ready) }
     requires there { is_there (thread_at posts.old invocation.now.caller.thread) ≡ true }
     requires look { IsFinding look limits.now invocation.now.caller.rank posts.old memory.old invocation.now.caller.thread invocation.now.call.now }
     requires room { posts.old.events + owed posts.old + charge (thread_at posts.old invocation.now.caller.thread) invocation.now.call.now (recorded_reply look.ready) ≤ limits.now.events }
-    ensures reply { IfOk result (λ reply. reply ≡ recorded_reply look.ready) }
+    ensures reply { IfOk result (λ recorded. recorded.reply ≡ recorded_reply look.ready) }
     ensures step { Steps {S = Worked} (recorded_of result) (record { posts = posts.old; memory = memory.old }) (record { posts = posts.new; memory = memory.new }) (called limits.now invocation.now.caller.rank posts.old look.message memory.old invocation.now.caller.thread invocation.now.call.now (recorded_reply look.ready)) }
-    ensures taken { taken.new ≡ posts.new.events + owed posts.new }
+    ensures taken { IfOk result (λ recorded. recorded.used ≡ posts.new.events + owed posts.new) }
     ensures ample { keeps_memory invocation.now.call.now ≡ false → IsOk result }
 {
-    let room = *taken
-        + charge(
-            thread_at(posts, invocation.caller.thread),
-            invocation,
-            &look.ready,
-        );
     let freed = freed(posts, invocation.call, &look);
     let reply = record_found(alloc, limits, invocation, posts, memory, look)?;
-    *taken = room - freed;
-    Ok(reply)
+    let used = used - freed;
+    Ok(Recorded { reply, used })
 }

@@ -1,16 +1,18 @@
 -- A look at a call in the whole state.
-use Rattle.std.specs.Prelude.{◌≡◌, ℕ, ◌+◌, ◌≤◌, List, true, Option, Some, slice_get, None, if◌then◌else◌}
+use Rattle.std.specs.Prelude.{◌≡◌, ℕ, ◌+◌, ◌≤◌, List, true, false, Option, Some, slice_get, None, IsOk, if◌then◌else◌}
 use Rattle.gaspi_types.specs.CallRows.{row_of}
 use Rattle.gaspi_types.specs.declared.calls.Call.{Call}
+use Rattle.gaspi_types.specs.declared.events.Event.TheVariants.{Called}
 use Rattle.gaspi_types.specs.declared.groups.Args.{Args}
 use Rattle.gaspi_types.specs.declared.replies.Ready.{Ready}
+use Rattle.gaspi_types.specs.declared.replies.Ready.TheVariants.{Join}
 use Rattle.gaspi_types.specs.declared.shapes.CallerId.{CallerId}
 use Rattle.gaspi_types.specs.declared.shapes.Limits.{Limits}
 use Rattle.gaspi_types.specs.Replies.{is_idle}
 use Rattle.gaspi_model.specs.Calls.{charge, recorded_reply}
-use Rattle.gaspi_model.specs.CollectiveCalls.{collective_answer, is_join_of, joining_call}
+use Rattle.gaspi_model.specs.CollectiveCalls.{collective_answer, is_join_of, is_joining, join_event, joining_call}
 use Rattle.gaspi_model.specs.State.{owed, thread_at}
-use Rattle.gaspi_model.specs.Step.{call_memory, call_brought, group_in, is_there}
+use Rattle.gaspi_model.specs.Step.{answer_in, call_memory, call_brought, group_in, is_declared, is_there, step}
 use Rattle.gaspi_model.specs.declared.states.Posts.{Posts}
 use Rattle.gaspi_model.specs.declared.states.Memory.{Memory}
 use Rattle.gaspi_model.specs.declared.states.State.{State}
@@ -45,6 +47,10 @@ abbrev pub MayJoin : State → CallerId → ℕ → Args → Type 0
 MayJoin s c id args =
     (posts : Posts) → slice_get s.posts c.rank ≡ Some posts → is_join_of (collective_answer posts (group_in s id) c.rank c.thread id (joining_call id args)) args ≡ true
 
+-- so much the event that records what a look found takes of its rank's room
+abbrev pub IsCharge : ℕ → List Posts → CallerId → Call → Ready → Type 0
+IsCharge amount all c call ready = (posts : Posts) → slice_get all c.rank ≡ Some posts → amount ≡ charge (thread_at posts c.thread) call (recorded_reply ready)
+
 -- the rank of a caller has room for the event that records what a look found
 abbrev pub HasEventRoom : Limits → List Posts → CallerId → Call → Ready → Type 0
 HasEventRoom limits all c call ready =
@@ -53,3 +59,24 @@ HasEventRoom limits all c call ready =
 -- a rank has room for the event of a join
 abbrev pub HasJoinRoom : Limits → List Posts → ℕ → Type 0
 HasJoinRoom limits all rank = (posts : Posts) → slice_get all rank ≡ Some posts → posts.events + owed posts + 1 ≤ limits.events
+
+-- This is what a look at this call of this caller finds in this state, its caller has a section, and its rank has room for the event that
+-- records it, which takes so much of it.
+pub record IsFindingWithRoom (look : Finding) (s : State) (c : CallerId) (call : Call) (amount : ℕ) : Type 0 where
+  pub declared : is_declared s c.rank c.thread ≡ true
+  pub finds : IsFindingIn look s c call
+  pub charge : IsCharge amount s.posts c call look.ready
+  pub room : HasEventRoom s.limits s.posts c call look.ready
+
+-- It may be recorded: it is what a look at this call of this caller finds in this state, it is no join, and its event is a step.
+pub record MayRecord (look : Finding) (s : State) (c : CallerId) (call : Call) : Type 0 where
+  pub declared : is_declared s c.rank c.thread ≡ true
+  pub finds : IsFindingIn look s c call
+  pub unjoined : is_joining look.ready ≡ false
+  pub steps : IsOk (step s (Called c call (recorded_reply look.ready)))
+
+-- A collective of a caller may join with these arguments: a look at it finds that in this state, and the join is a step.
+pub record MayJoinWith (args : Args) (s : State) (c : CallerId) (call : Call) : Type 0 where
+  pub declared : is_declared s c.rank c.thread ≡ true
+  pub joins : answer_in s c.rank c.thread call ≡ Some (Join args)
+  pub steps : IsOk (step s (join_event c call args))

@@ -1,5 +1,5 @@
 -- The machine: a sound state, the room that each rank has taken, and the lanes that have an entry.
-use Rattle.std.specs.Prelude.{◌≡◌, ℕ, ◌+◌, ◌≤◌, Bool, ◌&&◌, List, map, length, slice_get, Option, None, Some, is_none, true, false}
+use Rattle.std.specs.Prelude.{◌≡◌, ℕ, ◌+◌, ◌≤◌, Bool, ◌&&◌, List, map, length, slice_get, Option, None, Some, Result, is_none, true, false}
 use Rattle.gaspi_types.specs.CallRows.{row_of}
 use Rattle.gaspi_types.specs.declared.calls.Call.{Call}
 use Rattle.gaspi_types.specs.declared.shapes.Limits.{Limits}
@@ -8,12 +8,13 @@ use Rattle.gaspi_types.specs.declared.events.Event.TheVariants.{Take, Put}
 use Rattle.gaspi_types.specs.declared.events.Outcome.{Outcome}
 use Rattle.gaspi_model.specs.State.{owed}
 use Rattle.gaspi_model.specs.Sound.{IsSound}
-use Rattle.gaspi_model.specs.Step.{transfer_event}
+use Rattle.gaspi_model.specs.Step.{Steps, step, transfer_event}
 use Rattle.gaspi_model.specs.Transfers.{transfers}
 use Rattle.gaspi_types.specs.declared.groups.Group.{Group}
 use Rattle.gaspi_model.specs.declared.states.Posts.{Posts}
 use Rattle.gaspi_model.specs.declared.states.Memory.{Memory}
 use Rattle.gaspi_model.specs.declared.states.State.{State}
+use Rattle.gaspi_model.specs.declared.states.StepFault.{StepFault}
 use Rattle.plain_calls.specs.Room.{purged_queue}
 use Rattle.plain_machine.specs.Standing.{standing_lanes}
 use Rattle.plain_machine.specs.declared.ranks.Ranks.{Ranks}
@@ -48,6 +49,10 @@ pub record IsMachine (s : State) (rooms : List ℕ) (standing : List LaneId) : T
   pub fitting : IsFitting s
   pub taken : rooms ≡ map taken_of s.posts
   pub named : standing ≡ standing_lanes s.posts
+
+-- what a function that steps by an event has done
+abbrev pub StepsBy : Result (Unit {0}) StepFault → State → State → Event → Type 0
+StepsBy result s t e = Steps result s t (step s e)
 
 -- the event of an entry's take, and of its put: with the outcome that is given, or else the machine's
 abbrev pub take_event : State → LaneId → ℕ → Option Outcome → Event

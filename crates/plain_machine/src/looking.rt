@@ -4,20 +4,18 @@ ghost use Rattle.std.specs.Prelude.{◌≡◌, ◌≢◌, ◌+◌, ◌<◌, ◌�
 ghost use Rattle.gaspi_types.specs.CallRows.{row_of};
 ghost use Rattle.gaspi_types.specs.Replies.{is_idle};
 ghost use Rattle.gaspi_types.specs.Tables.{entry_at};
-ghost use Rattle.gaspi_types.specs.World.{are_limits};
 ghost use Rattle.gaspi_types.specs.declared.events.Event.TheVariants.{Called, Joined};
 ghost use Rattle.gaspi_types.specs.declared.replies.Ready.{Ready};
-ghost use Rattle.gaspi_types.specs.declared.replies.Ready.TheVariants.{Join};
-ghost use Rattle.gaspi_model.specs.Calls.{charge, recorded_reply};
+ghost use Rattle.gaspi_model.specs.Calls.{recorded_reply};
 ghost use Rattle.gaspi_model.specs.CollectiveCalls.{collective_answer, is_join_of, joining_call, is_joining, join_event};
-ghost use Rattle.gaspi_model.specs.State.{owed, thread_at};
+ghost use Rattle.gaspi_model.specs.State.{owed};
 ghost use Rattle.gaspi_model.specs.Step.{answer_in, step, Steps, is_declared, is_pending, is_pending_of};
 ghost use Rattle.gaspi_model.specs.declared.states.Memory.{Memory};
 ghost use Rattle.gaspi_model.specs.declared.states.Posts.{Posts};
 ghost use Rattle.plain_calls.specs.Looks.{recorded_of};
 ghost use Rattle.plain_calls.specs.Memory.{is_send, is_allreduce, looks_with_memory, keeps_memory};
-ghost use Rattle.plain_machine.specs.Looking.{IsFindingIn, IsFindingOn, MayJoin, HasEventRoom, HasJoinRoom, look_purge};
-ghost use Rattle.plain_machine.specs.Machine.{AreWhole, IsMachine, state_in, taken_of};
+ghost use Rattle.plain_machine.specs.Looking.{IsFindingIn, IsFindingOn, IsFindingWithRoom, IsCharge, MayJoin, MayJoinWith, HasEventRoom, HasJoinRoom, look_purge};
+ghost use Rattle.plain_machine.specs.Machine.{AreWhole, IsMachine, StepsBy, state_in, taken_of};
 ghost use Rattle.plain_machine.specs.Reaching.{Lent, call_lent, group_at, AreRanks};
 ghost use Rattle.plain_machine.specs.Standing.{standing_lanes};
 
@@ -152,11 +150,13 @@ fn record_on(
     alloc: Global,
     invocation: &Invocation<'_>,
     look: Finding,
+    charge: u32,
 ) -> Result<Reply, NoMemory>
     requires ranks { AreRanks ranks.old.limits ranks.old.posts }
     requires taken { ranks.old.taken ≡ map taken_of ranks.old.posts }
     requires there { invocation.now.caller.rank < length ranks.old.posts }
     requires look { (posts : Posts) → slice_get ranks.old.posts invocation.now.caller.rank ≡ Some posts → IsFindingOn look ranks.old.limits posts memory.old invocation.now.caller invocation.now.call.now }
+    requires charge { IsCharge charge ranks.old.posts invocation.now.caller invocation.now.call.now look.ready }
     requires room { HasEventRoom ranks.old.limits ranks.old.posts invocation.now.caller invocation.now.call.now look.ready }
     ensures reply { IfOk result (λ reply. reply ≡ recorded_reply look.ready) }
     ensures step { Steps {S = Lent} (recorded_of result) (record { posts = ranks.old.posts; memory = memory.old }) (record { posts = ranks.new.posts; memory = memory.new }) (call_lent ranks.old.limits ranks.old.posts look.message memory.old invocation.now.caller invocation.now.call.now (recorded_reply look.ready)) }
@@ -167,15 +167,19 @@ fn record_on(
     ensures ample { keeps_memory invocation.now.call.now ≡ false → IsOk result }
 {
     let rank = invocation.caller.rank.index();
-    record(
+    let taken = *ranks.taken.at(rank);
+    let used = taken + charge;
+    let recorded = record(
         alloc,
         &ranks.limits,
         invocation,
         ranks.posts.at_mut(rank),
         memory,
-        ranks.taken.at_mut(rank),
+        used,
         look,
-    )
+    )?;
+    *ranks.taken.at_mut(rank) = recorded.used;
+    Ok(recorded.reply)
 }
 
 /// Records a look at a call that is no collective.
@@ -186,14 +190,13 @@ fn record_plain(
     alloc: Global,
     invocation: &Invocation<'_>,
     look: Finding,
+    charge: u32,
 ) -> Result<Reply, NoMemory>
     requires whole { AreWhole ranks.old memories.old }
-    requires declared { is_declared (state_in ranks.old memories.old) invocation.now.caller.rank invocation.now.caller.thread ≡ true }
-    requires look { IsFindingIn look (state_in ranks.old memories.old) invocation.now.caller invocation.now.call.now }
+    requires found { IsFindingWithRoom look (state_in ranks.old memories.old) invocation.now.caller invocation.now.call.now charge }
     requires plain { (row_of invocation.now.call.now).group ≡ None }
-    requires room { HasEventRoom ranks.old.limits ranks.old.posts invocation.now.caller invocation.now.call.now look.ready }
     ensures reply { IfOk result (λ reply. reply ≡ recorded_reply look.ready) }
-    ensures step { Steps (recorded_of result) (state_in ranks.old memories.old) (state_in ranks.new memories.new) (step (state_in ranks.old memories.old) (Called invocation.now.caller invocation.now.call.now (recorded_reply look.ready))) }
+    ensures step { StepsBy (recorded_of result) (state_in ranks.old memories.old) (state_in ranks.new memories.new) (Called invocation.now.caller invocation.now.call.now (recorded_reply look.ready)) }
     ensures taken { ranks.new.taken ≡ map taken_of ranks.new.posts }
     ensures ample { keeps_memory invocation.now.call.now ≡ false → IsOk result }
 {
@@ -201,33 +204,33 @@ fn record_plain(
     match call_reach(&ranks.limits, invocation) {
         Reach::Alone => {
             let mut none = no_memory(alloc);
-            record_on(ranks, &mut none, alloc, invocation, look)
+            record_on(ranks, &mut none, alloc, invocation, look, charge)
         }
         Reach::OwnMemory => {
             let memory = memories.at_mut(rank.index());
-            record_on(ranks, memory, alloc, invocation, look)
+            record_on(ranks, memory, alloc, invocation, look, charge)
         }
         Reach::PeerMemory(peer) => {
             let memory = memories.at_mut(peer.index());
-            record_on(ranks, memory, alloc, invocation, look)
+            record_on(ranks, memory, alloc, invocation, look, charge)
         }
         Reach::BothMemories(peer) => {
             let target = memories.at_mut(peer.index());
-            record_on(ranks, target, alloc, invocation, look)
+            record_on(ranks, target, alloc, invocation, look, charge)
         }
         Reach::Group(_) => {
             let mut none = no_memory(alloc);
-            record_on(ranks, &mut none, alloc, invocation, look)
+            record_on(ranks, &mut none, alloc, invocation, look, charge)
         }
         Reach::GroupAndMemory(_) => {
             let memory = memories.at_mut(rank.index());
-            record_on(ranks, memory, alloc, invocation, look)
+            record_on(ranks, memory, alloc, invocation, look, charge)
         }
         Reach::PeerPosts(peer) => {
             let own = ranks.posts.at(rank.index());
             let news = news(rank, own, invocation.call, &look);
             let mut none = no_memory(alloc);
-            let reply = record_on(ranks, &mut none, alloc, invocation, look)?;
+            let reply = record_on(ranks, &mut none, alloc, invocation, look, charge)?;
             tell(ranks.posts.at_mut(peer.index()), news);
             Ok(reply)
         }
@@ -284,29 +287,28 @@ fn record_posting(
     alloc: Global,
     invocation: &Invocation<'_>,
     look: Finding,
+    charge: u32,
 ) -> Result<Reply, NoMemory>
     requires machine { IsMachine (state_in ranks.old memories.old) ranks.old.taken standing.old.items }
-    requires declared { is_declared (state_in ranks.old memories.old) invocation.now.caller.rank invocation.now.caller.thread ≡ true }
-    requires look { IsFindingIn look (state_in ranks.old memories.old) invocation.now.caller invocation.now.call.now }
+    requires found { IsFindingWithRoom look (state_in ranks.old memories.old) invocation.now.caller invocation.now.call.now charge }
     requires plain { (row_of invocation.now.call.now).group ≡ None }
     requires unpurged { look_purge invocation.now.call.now look ≡ None }
-    requires room { HasEventRoom ranks.old.limits ranks.old.posts invocation.now.caller invocation.now.call.now look.ready }
     ensures reply { IfOk result (λ reply. reply ≡ recorded_reply look.ready) }
-    ensures step { Steps (recorded_of result) (state_in ranks.old memories.old) (state_in ranks.new memories.new) (step (state_in ranks.old memories.old) (Called invocation.now.caller invocation.now.call.now (recorded_reply look.ready))) }
+    ensures step { StepsBy (recorded_of result) (state_in ranks.old memories.old) (state_in ranks.new memories.new) (Called invocation.now.caller invocation.now.call.now (recorded_reply look.ready)) }
     ensures taken { ranks.new.taken ≡ map taken_of ranks.new.posts }
     ensures named { standing.new.items ≡ standing_lanes ranks.new.posts }
     ensures ample { keeps_memory invocation.now.call.now ≡ false → IsOk result }
 {
     let Some(id) = look_lane(invocation, &look) else {
-        return record_plain(ranks, memories, alloc, invocation, look);
+        return record_plain(ranks, memories, alloc, invocation, look, charge);
     };
     if has_entry(&ranks.posts, &id) {
-        return record_plain(ranks, memories, alloc, invocation, look);
+        return record_plain(ranks, memories, alloc, invocation, look, charge);
     }
     if standing.reserve(1).is_err() {
         return Err(NoMemory);
     }
-    let reply = record_plain(ranks, memories, alloc, invocation, look)?;
+    let reply = record_plain(ranks, memories, alloc, invocation, look, charge)?;
     name_lane(standing, id);
     Ok(reply)
 }
@@ -322,14 +324,13 @@ pub fn record_named(
     alloc: Global,
     invocation: &Invocation<'_>,
     look: Finding,
+    charge: u32,
 ) -> Result<Reply, NoMemory>
     requires machine { IsMachine (state_in ranks.old memories.old) ranks.old.taken standing.old.items }
-    requires declared { is_declared (state_in ranks.old memories.old) invocation.now.caller.rank invocation.now.caller.thread ≡ true }
-    requires look { IsFindingIn look (state_in ranks.old memories.old) invocation.now.caller invocation.now.call.now }
+    requires found { IsFindingWithRoom look (state_in ranks.old memories.old) invocation.now.caller invocation.now.call.now charge }
     requires unjoined { is_joining look.ready ≡ false }
-    requires room { HasEventRoom ranks.old.limits ranks.old.posts invocation.now.caller invocation.now.call.now look.ready }
     ensures reply { IfOk result (λ reply. reply ≡ recorded_reply look.ready) }
-    ensures step { Steps (recorded_of result) (state_in ranks.old memories.old) (state_in ranks.new memories.new) (step (state_in ranks.old memories.old) (Called invocation.now.caller invocation.now.call.now (recorded_reply look.ready))) }
+    ensures step { StepsBy (recorded_of result) (state_in ranks.old memories.old) (state_in ranks.new memories.new) (Called invocation.now.caller invocation.now.call.now (recorded_reply look.ready)) }
     ensures taken { ranks.new.taken ≡ map taken_of ranks.new.posts }
     ensures named { standing.new.items ≡ standing_lanes ranks.new.posts }
     ensures ample { keeps_memory invocation.now.call.now ≡ false → IsOk result }
@@ -339,27 +340,33 @@ pub fn record_named(
         return Ok(reply);
     }
     let Some(queue) = look_purge(invocation.call, &look) else {
-        return record_posting(ranks, memories, standing, alloc, invocation, look);
+        return record_posting(ranks, memories, standing, alloc, invocation, look, charge);
     };
-    let reply = record_plain(ranks, memories, alloc, invocation, look)?;
+    let reply = record_plain(ranks, memories, alloc, invocation, look, charge)?;
     unname_queue(standing, invocation.caller.rank, queue);
     Ok(reply)
 }
 
-/// Whether the rank of a caller has room for the event that records what a look found.
-fn has_event_room(ranks: &Ranks, invocation: &Invocation<'_>, ready: &Ready) -> bool
-    requires limits { are_limits ranks.now.limits ≡ true }
-    requires room { (posts : Posts) → slice_get ranks.now.posts invocation.now.caller.rank ≡ Some posts → posts.events + owed posts ≤ ranks.now.limits.events }
-    requires taken { ranks.now.taken ≡ map taken_of ranks.now.posts }
-    requires there { invocation.now.caller.rank < length ranks.now.posts }
-    ensures { (posts : Posts) → slice_get ranks.now.posts invocation.now.caller.rank ≡ Some posts
-        → result ≡ nat_le (posts.events + owed posts + charge (thread_at posts invocation.now.caller.thread) invocation.now.call.now (recorded_reply ready.now)) ranks.now.limits.events }
+/// What the event that records what a look found takes of its rank's room.
+pub fn event_charge(ranks: &Ranks, invocation: &Invocation<'_>, ready: &Ready) -> u32
+    requires { invocation.now.caller.rank < length ranks.now.posts }
+    ensures charge { IsCharge result ranks.now.posts invocation.now.caller invocation.now.call.now ready.now }
+    ensures bound { result ≤ 515 }
 {
-    let rank = invocation.caller.rank.index();
-    let posts = ranks.posts.at(rank);
-    let taken = *ranks.taken.at(rank);
+    let posts = ranks.posts.at(invocation.caller.rank.index());
     let state = thread_at(posts, invocation.caller.thread);
-    taken + charge(state, invocation, ready) <= ranks.limits.events
+    charge(state, invocation, ready)
+}
+
+/// Whether a rank has room for an event that takes so much of it.
+fn has_room(ranks: &Ranks, rank: RankId, charge: u32) -> bool
+    requires whole { (memories : List Memory) × AreWhole ranks.now memories }
+    requires there { rank < length ranks.now.posts }
+    requires charge { charge ≤ 515 }
+    ensures { (posts : Posts) → slice_get ranks.now.posts rank ≡ Some posts → result ≡ nat_le (posts.events + owed posts + charge) ranks.now.limits.events }
+{
+    let taken = *ranks.taken.at(rank.index());
+    taken + charge <= ranks.limits.events
 }
 
 /// Steps by a call with its reply: its caller has a section, the reply is the one that may be recorded, and its rank has
@@ -373,7 +380,7 @@ pub fn step_called(
     reply: &Reply,
 ) -> Result<(), StepFault>
     requires { IsMachine (state_in ranks.old memories.old) ranks.old.taken standing.old.items }
-    ensures step { Steps result (state_in ranks.old memories.old) (state_in ranks.new memories.new) (step (state_in ranks.old memories.old) (Called invocation.now.caller invocation.now.call.now reply.now)) }
+    ensures step { StepsBy result (state_in ranks.old memories.old) (state_in ranks.new memories.new) (Called invocation.now.caller invocation.now.call.now reply.now) }
     ensures taken { ranks.new.taken ≡ map taken_of ranks.new.posts }
     ensures named { standing.new.items ≡ standing_lanes ranks.new.posts }
     ensures ample { (looks_with_memory invocation.now.call.now || keeps_memory invocation.now.call.now) ≡ false → result ≢ Err StepFault.NoMemory }
@@ -388,10 +395,11 @@ pub fn step_called(
     if !look.is_recorded_with(reply) {
         return Err(StepFault::Illegal(Why::Reply));
     }
-    if !has_event_room(ranks, invocation, &look.ready) {
+    let charge = event_charge(ranks, invocation, &look.ready);
+    if !has_room(ranks, invocation.caller.rank, charge) {
         return Err(StepFault::Illegal(Why::Limit));
     }
-    match record_named(ranks, memories, standing, alloc, invocation, look) {
+    match record_named(ranks, memories, standing, alloc, invocation, look, charge) {
         Ok(_) => Ok(()),
         Err(NoMemory) => Err(StepFault::NoMemory),
     }
@@ -427,7 +435,7 @@ fn join_in(
     requires there { joining.now.caller.rank < length ranks.old.posts }
     requires joins { MayJoin (state_in ranks.old memories.old) joining.now.caller joining.now.group joining.now.args.now }
     requires room { HasJoinRoom ranks.old.limits ranks.old.posts joining.now.caller.rank }
-    ensures step { Steps (recorded_of result) (state_in ranks.old memories.old) (state_in ranks.new memories.new) (step (state_in ranks.old memories.old) (Joined joining.now.caller joining.now.group joining.now.args.now)) }
+    ensures step { StepsBy (recorded_of result) (state_in ranks.old memories.old) (state_in ranks.new memories.new) (Joined joining.now.caller joining.now.group joining.now.args.now) }
     ensures taken { ranks.new.taken ≡ map taken_of ranks.new.posts }
 {
     let rank = joining.caller.rank.index();
@@ -442,20 +450,6 @@ fn join_in(
     )
 }
 
-/// Whether the rank of a caller has room for the event of a join.
-fn has_join_room(ranks: &Ranks, rank: RankId) -> bool
-    requires limits { are_limits ranks.now.limits ≡ true }
-    requires room { (posts : Posts) → slice_get ranks.now.posts rank ≡ Some posts → posts.events + owed posts ≤ ranks.now.limits.events }
-    requires taken { ranks.now.taken ≡ map taken_of ranks.now.posts }
-    requires there { rank < length ranks.now.posts }
-    ensures { (posts : Posts) → slice_get ranks.now.posts rank ≡ Some posts → result ≡ nat_le (posts.events + owed posts + 1) ranks.now.limits.events }
-{
-    let place = rank.index();
-    let _posts = ranks.posts.at(place);
-    let taken = *ranks.taken.at(place);
-    taken + 1 <= ranks.limits.events
-}
-
 /// Steps by a join: its caller has a section, its collective may join with these arguments, and its rank has room.
 pub fn step_joined(
     ranks: &mut Ranks,
@@ -464,7 +458,7 @@ pub fn step_joined(
     joining: &Joining<'_>,
 ) -> Result<(), StepFault>
     requires { AreWhole ranks.old memories.old }
-    ensures step { Steps result (state_in ranks.old memories.old) (state_in ranks.new memories.new) (step (state_in ranks.old memories.old) (Joined joining.now.caller joining.now.group joining.now.args.now)) }
+    ensures step { StepsBy result (state_in ranks.old memories.old) (state_in ranks.new memories.new) (Joined joining.now.caller joining.now.group joining.now.args.now) }
     ensures taken { ranks.new.taken ≡ map taken_of ranks.new.posts }
 {
     if !has_section(ranks, &joining.caller) {
@@ -477,7 +471,7 @@ pub fn step_joined(
     if !may_join {
         return Err(StepFault::Illegal(Why::Join));
     }
-    if !has_join_room(ranks, joining.caller.rank) {
+    if !has_room(ranks, joining.caller.rank, 1) {
         return Err(StepFault::Illegal(Why::Limit));
     }
     match join_in(ranks, memories, alloc, joining) {
@@ -495,11 +489,9 @@ pub fn join_found(
     args: Args,
 ) -> Result<Event, NoMemory>
     requires whole { AreWhole ranks.old memories.old }
-    requires declared { is_declared (state_in ranks.old memories.old) invocation.now.caller.rank invocation.now.caller.thread ≡ true }
-    requires joins { answer_in (state_in ranks.old memories.old) invocation.now.caller.rank invocation.now.caller.thread invocation.now.call.now ≡ Some (Join args) }
-    requires steps { IsOk (step (state_in ranks.old memories.old) (join_event invocation.now.caller invocation.now.call.now args)) }
+    requires joins { MayJoinWith args (state_in ranks.old memories.old) invocation.now.caller invocation.now.call.now }
     ensures event { IfOk result (λ event. event ≡ join_event invocation.now.caller invocation.now.call.now args) }
-    ensures step { Steps (recorded_of result) (state_in ranks.old memories.old) (state_in ranks.new memories.new) (step (state_in ranks.old memories.old) (join_event invocation.now.caller invocation.now.call.now args)) }
+    ensures step { StepsBy (recorded_of result) (state_in ranks.old memories.old) (state_in ranks.new memories.new) (join_event invocation.now.caller invocation.now.call.now args) }
     ensures taken { ranks.new.taken ≡ map taken_of ranks.new.posts }
 {
     let id = GroupId::of(invocation.row.group.unwrap_or(0) as u32);

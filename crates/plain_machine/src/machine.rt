@@ -20,7 +20,9 @@ ghost use Rattle.plain_machine.specs.Machine.{is_still};
 ghost use Rattle.plain_machine.specs.Words.{word_in};
 
 use crate::listing::{first_transfer, transfer_at, transfer_count, transfers};
-use crate::looking::{has_section, is_pending_in, join_found, look_in, record_named};
+use crate::looking::{
+    event_charge, has_section, is_pending_in, join_found, look_in, record_named,
+};
 use crate::opening::{all_groups, all_memories, all_posts, all_taken};
 use crate::ranks::Ranks;
 use crate::standing::LaneId;
@@ -153,6 +155,7 @@ impl Machine {
     {
         soundness();
         self.counted = kept_count(self.counted, invocation.call);
+        let charge = event_charge(&self.ranks, invocation, &look.ready);
         record_named(
             &mut self.ranks,
             &mut self.memories,
@@ -160,6 +163,7 @@ impl Machine {
             alloc,
             invocation,
             look,
+            charge,
         )
     }
 

@@ -3,11 +3,11 @@
 ghost use Rattle.std.specs.Prelude.{◌≡◌, ◌≢◌, ◌<◌, ℕ, List, length, map, IfOk, Err, true, false};
 ghost use Rattle.gaspi_types.specs.declared.events.Event.TheVariants.{Take, Put};
 ghost use Rattle.gaspi_types.specs.declared.touches.Reach.TheVariants.{PeerMemory, BothMemories};
-ghost use Rattle.gaspi_model.specs.Step.{step, Steps, transfer_event};
+ghost use Rattle.gaspi_model.specs.Step.{Steps, transfer_event};
 ghost use Rattle.gaspi_model.specs.declared.states.Memory.{Memory};
 ghost use Rattle.plain_calls.specs.Looks.{made_of};
 ghost use Rattle.plain_calls.specs.Memory.{takes_memory};
-ghost use Rattle.plain_machine.specs.Machine.{AreWhole, IsMachine, state_in, taken_of, take_event, put_event};
+ghost use Rattle.plain_machine.specs.Machine.{AreWhole, IsMachine, StepsBy, state_in, taken_of, take_event, put_event};
 ghost use Rattle.plain_machine.specs.Entries.{found_at, reached_outcome, memories_after_put, spared};
 ghost use Rattle.plain_machine.specs.Standing.{standing_lanes};
 
@@ -43,7 +43,7 @@ fn step_take(
 ) -> Result<Outcome, StepFault>
     requires { AreWhole ranks.old memories.now }
     ensures outcome { IfOk result (λ outcome. take_event (state_in ranks.old memories.now) id.now number given ≡ Take id.now.origin id.now.queue id.now.target number outcome) }
-    ensures step { Steps (made_of result) (state_in ranks.old memories.now) (state_in ranks.new memories.now) (step (state_in ranks.old memories.now) (take_event (state_in ranks.old memories.now) id.now number given)) }
+    ensures step { StepsBy (made_of result) (state_in ranks.old memories.now) (state_in ranks.new memories.now) (take_event (state_in ranks.old memories.now) id.now number given) }
     ensures taken { ranks.new.taken ≡ map taken_of ranks.new.posts }
 {
     let rank = id.origin.index();
@@ -114,7 +114,7 @@ fn step_put(
 ) -> Result<Outcome, StepFault>
     requires { AreWhole ranks.old memories.old }
     ensures outcome { IfOk result (λ outcome. put_event (state_in ranks.old memories.old) id.now number given ≡ Put id.now.origin id.now.queue id.now.target number outcome) }
-    ensures step { Steps (made_of result) (state_in ranks.old memories.old) (state_in ranks.new memories.new) (step (state_in ranks.old memories.old) (put_event (state_in ranks.old memories.old) id.now number given)) }
+    ensures step { StepsBy (made_of result) (state_in ranks.old memories.old) (state_in ranks.new memories.new) (put_event (state_in ranks.old memories.old) id.now number given) }
     ensures taken { ranks.new.taken ≡ map taken_of ranks.new.posts }
     ensures ample { result ≢ Err StepFault.NoMemory }
 {
@@ -154,7 +154,7 @@ fn step_leaving(
 ) -> Result<Outcome, StepFault>
     requires { IsMachine (state_in ranks.old memories.old) ranks.old.taken standing.old.items }
     ensures outcome { IfOk result (λ outcome. put_event (state_in ranks.old memories.old) id.now number given ≡ Put id.now.origin id.now.queue id.now.target number outcome) }
-    ensures step { Steps (made_of result) (state_in ranks.old memories.old) (state_in ranks.new memories.new) (step (state_in ranks.old memories.old) (put_event (state_in ranks.old memories.old) id.now number given)) }
+    ensures step { StepsBy (made_of result) (state_in ranks.old memories.old) (state_in ranks.new memories.new) (put_event (state_in ranks.old memories.old) id.now number given) }
     ensures taken { ranks.new.taken ≡ map taken_of ranks.new.posts }
     ensures named { standing.new.items ≡ standing_lanes ranks.new.posts }
     ensures ample { result ≢ Err StepFault.NoMemory }
@@ -176,7 +176,7 @@ pub fn step(
     event: &Event,
 ) -> Result<(), StepFault>
     requires { IsMachine (state_in ranks.old memories.old) ranks.old.taken standing.old.items }
-    ensures step { Steps result (state_in ranks.old memories.old) (state_in ranks.new memories.new) (step (state_in ranks.old memories.old) event.now) }
+    ensures step { StepsBy result (state_in ranks.old memories.old) (state_in ranks.new memories.new) event.now }
     ensures taken { ranks.new.taken ≡ map taken_of ranks.new.posts }
     ensures named { standing.new.items ≡ standing_lanes ranks.new.posts }
     ensures ample { takes_memory event.now ≡ false → result ≢ Err StepFault.NoMemory }
@@ -201,7 +201,7 @@ pub fn step(
                 target: *target,
             };
             let given = Some(*outcome);
-            let _outcome = step_take(ranks, memories, alloc, &id, *number, given)?;
+            step_take(ranks, memories, alloc, &id, *number, given)?;
             Ok(())
         }
         Event::Put(origin, queue, target, number, outcome) => {
@@ -211,7 +211,7 @@ pub fn step(
                 target: *target,
             };
             let given = Some(*outcome);
-            let _outcome = step_leaving(ranks, memories, standing, alloc, &id, *number, given)?;
+            step_leaving(ranks, memories, standing, alloc, &id, *number, given)?;
             Ok(())
         }
     }
@@ -227,7 +227,7 @@ pub fn make(
 ) -> Result<Event, StepFault>
     requires { IsMachine (state_in ranks.old memories.old) ranks.old.taken standing.old.items }
     ensures event { IfOk result (λ event. event ≡ transfer_event (state_in ranks.old memories.old) transfer.now) }
-    ensures step { Steps (made_of result) (state_in ranks.old memories.old) (state_in ranks.new memories.new) (step (state_in ranks.old memories.old) (transfer_event (state_in ranks.old memories.old) transfer.now)) }
+    ensures step { StepsBy (made_of result) (state_in ranks.old memories.old) (state_in ranks.new memories.new) (transfer_event (state_in ranks.old memories.old) transfer.now) }
     ensures taken { ranks.new.taken ≡ map taken_of ranks.new.posts }
     ensures named { standing.new.items ≡ standing_lanes ranks.new.posts }
     ensures ample { transfer.now.put ≡ true → result ≢ Err StepFault.NoMemory }

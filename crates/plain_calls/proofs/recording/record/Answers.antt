@@ -1,7 +1,7 @@
 use Rattle.std.proofs.Common.{arith}
 use Rattle.std.proofs.lemmas.Bool.{le-leb}
 use Rattle.std.proofs.lemmas.Bool.Decides.{nat_tests}
-use Rattle.plain_calls.proofs.Looked.{look_room, look_steps, look_taken, less-freed, freed-within, charged}
+use Rattle.plain_calls.proofs.Looked.{look_room, look_steps, look_taken, less-freed, freed-within}
 use Rattle.plain_calls.proofs.CallRoom.{freed-part}
 use Rattle.gaspi_model.specs.Calls.{recorded_reply}
 use Rattle.plain_calls.proofs.recording.record.Goals as goal
@@ -22,15 +22,12 @@ freed-freed-requires c =
     let limited = c.requires.limits in
     grind (arith, nat_tests, part, room, limited)
 
-pub overflow_sub-taken : goal.overflow_sub-taken
-overflow_sub-taken c =
-    let charge = charged _ _ c.args.invocation.now.call.now c.args.look.ready _ c.thread_at.ensures c.charge.ensures.value in
+pub overflow_sub-used : goal.overflow_sub-used
+overflow_sub-used c =
     let taken = look_taken c.args.look c.args.limits.now c.args.invocation.now.caller.rank c.args.posts.now c.args.memory.now c.args.invocation.now.caller.thread c.args.invocation.now.call.now c.requires.sound c.requires.look in
-    rw (c.requires.taken, charge) (freed-within _ _ _ _ taken c.freed-freed.ensures)
+    rw c.requires.taken (freed-within _ _ _ _ taken c.freed-freed.ensures)
 
 pub returns-clause-taken : goal.returns-clause-taken
 returns-clause-taken c =
-    let charge = charged _ _ c.args.invocation.now.call.now c.args.look.ready _ c.thread_at.ensures c.charge.ensures.value in
     let taken = look_taken c.args.look c.args.limits.now c.args.invocation.now.caller.rank c.args.posts.now c.args.memory.now c.args.invocation.now.caller.thread c.args.invocation.now.call.now c.requires.sound c.requires.look in
-    rw c.in_ok-reply.ensures.posts
-    rw (c.requires.taken, charge) (less-freed _ _ _ _ taken c.freed-freed.ensures)
+    rw (c.in_ok-reply.ensures.posts, c.requires.taken) (less-freed _ _ _ _ taken c.freed-freed.ensures)

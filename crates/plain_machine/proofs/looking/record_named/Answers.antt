@@ -18,7 +18,7 @@ returns-clause-named c =
     (sym c.look_purge.ensures ∙ c.in-Some-look_purge.is) c.in_ok-reply.ensures.step)))
 
 pub record_collective-reply-requires-clause-there : goal.record_collective-reply-requires-clause-there
-record_collective-reply-requires-clause-there c = (declared_there (state_in c.args.ranks.now c.args.memories.now) c.args.invocation.now.caller.rank c.args.invocation.now.caller.thread c.requires.declared).within
+record_collective-reply-requires-clause-there c = (declared_there (state_in c.args.ranks.now c.args.memories.now) c.args.invocation.now.caller.rank c.args.invocation.now.caller.thread c.requires.found.declared).within
 
 pub returns-in-Some-clause-named : goal.returns-in-Some-clause-named
 returns-in-Some-clause-named c =

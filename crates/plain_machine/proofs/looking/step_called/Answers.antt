@@ -1,8 +1,9 @@
-use Rattle.std.proofs.Common.{◌≡◌, Result, refl, sym, subst, ◌∙◌}
+use Rattle.std.proofs.Common.{◌≡◌, ℕ, ◌+◌, ◌≤◌, false, nat_le, Result, refl, sym, subst, ◌∙◌}
 use Rattle.std.proofs.lemmas.Bool.{leb-true}
 use Rattle.gaspi_types.specs.declared.events.Event.TheVariants.{Called}
 use Rattle.gaspi_types.specs.declared.replies.Reply.{Reply}
 use Rattle.gaspi_model.specs.Calls.{recorded_reply}
+use Rattle.gaspi_model.specs.State.{owed}
 use Rattle.gaspi_model.specs.Step.{step, Steps}
 use Rattle.gaspi_model.specs.declared.states.StepFault.{StepFault}
 use Rattle.plain_calls.specs.Looks.{recorded_of}
@@ -27,14 +28,28 @@ returns-then-not-is_recorded_with-clause-step c = (
   refl,
 )
 
-pub record_named-requires-clause-declared : goal.record_named-requires-clause-declared
-record_named-requires-clause-declared c = sym (c.has_section.ensures c.args.memories.now) ∙ c.if-not-has_section.false
-
 pub record_named-requires-clause-unjoined : goal.record_named-requires-clause-unjoined
 record_named-requires-clause-unjoined c = (recorded_by c.in-Ok.look.ready c.args.reply.now (sym c.is_recorded_with.ensures ∙ c.if-not-is_recorded_with.false)).0
 
-pub record_named-requires-clause-room : goal.record_named-requires-clause-room
-record_named-requires-clause-room c = λ posts at. leb-true _ _ (sym (c.has_event_room.ensures posts at) ∙ c.if-not-has_event_room.false)
+pub event_charge-charge-requires : goal.event_charge-charge-requires
+event_charge-charge-requires c =
+    (declared_there (state_in c.args.ranks.now c.args.memories.now) c.args.invocation.now.caller.rank c.args.invocation.now.caller.thread (sym (c.has_section.ensures c.args.memories.now) ∙ c.if-not-has_section.false)).within
+
+pub has_room-requires-clause-whole : goal.has_room-requires-clause-whole
+has_room-requires-clause-whole c = (c.args.memories.now, record { sound = c.requires.sound; fitting = c.requires.fitting; taken = c.requires.taken })
+
+pub has_room-requires-clause-there : goal.has_room-requires-clause-there
+has_room-requires-clause-there c =
+    (declared_there (state_in c.args.ranks.now c.args.memories.now) c.args.invocation.now.caller.rank c.args.invocation.now.caller.thread (sym (c.has_section.ensures c.args.memories.now) ∙ c.if-not-has_section.false)).within
+
+pub record_named-requires-clause-found : goal.record_named-requires-clause-found
+record_named-requires-clause-found c = record {
+  declared = sym (c.has_section.ensures c.args.memories.now) ∙ c.if-not-has_section.false;
+  finds = c.in-Ok.ensures.look;
+  charge = c.event_charge-charge.ensures.charge;
+  room = λ posts at. subst (λ (n : ℕ). posts.events + owed posts + n ≤ c.args.ranks.now.limits.events) (c.event_charge-charge.ensures.charge posts at)
+      (leb-true _ _ (sym (c.has_room.ensures posts at) ∙ c.if-not-has_room.false));
+}
 
 pub returns-clause-step : goal.returns-clause-step
 returns-clause-step c =
@@ -45,22 +60,13 @@ returns-clause-step c =
     subst (λ (m : Result (Unit {0}) StepFault). Steps m s (state_in c.record_named.new.ranks c.record_named.new.memories) (step s (Called c.args.invocation.now.caller c.args.invocation.now.call.now c.args.reply.now))) stepped
     (subst (λ (r : Reply). Steps (recorded_of c.record_named.result) s (state_in c.record_named.new.ranks c.record_named.new.memories) (step s (Called c.args.invocation.now.caller c.args.invocation.now.call.now r))) (sym same) c.record_named.ensures.step)
 
-pub returns-then-not-has_event_room-clause-step : goal.returns-then-not-has_event_room-clause-step
-returns-then-not-has_event_room-clause-step c =
+pub returns-then-not-has_room-clause-step : goal.returns-then-not-has_room-clause-step
+returns-then-not-has_room-clause-step c =
     let s = state_in c.args.ranks.now c.args.memories.now in
     let declared = sym (c.has_section.ensures c.args.memories.now) ∙ c.if-not-has_section.false in
     let d = declared_there s c.args.invocation.now.caller.rank c.args.invocation.now.caller.thread declared in
-    let by = recorded_by c.in-Ok.look.ready c.args.reply.now (sym c.is_recorded_with.ensures ∙ c.if-not-is_recorded_with.false) in (
-      rw by.1 (full_step s c.args.invocation.now.caller c.args.invocation.now.call.now c.in-Ok.look d.posts declared c.in-Ok.ensures.look by.0 d.item (sym (c.has_event_room.ensures d.posts d.item) ∙ c.if-not-has_event_room.true)),
+    let by = recorded_by c.in-Ok.look.ready c.args.reply.now (sym c.is_recorded_with.ensures ∙ c.if-not-is_recorded_with.false) in
+    let full = subst (λ (n : ℕ). nat_le (d.posts.events + owed d.posts + n) s.limits.events ≡ false) (c.event_charge-charge.ensures.charge d.posts d.item) (sym (c.has_room.ensures d.posts d.item) ∙ c.if-not-has_room.true) in (
+      rw by.1 (full_step s c.args.invocation.now.caller c.args.invocation.now.call.now c.in-Ok.look d.posts declared c.in-Ok.ensures.look by.0 d.item full),
       refl,
     )
-
-pub has_event_room-requires-clause-limits : goal.has_event_room-requires-clause-limits
-has_event_room-requires-clause-limits c = c.requires.sound.limits
-
-pub has_event_room-requires-clause-room : goal.has_event_room-requires-clause-room
-has_event_room-requires-clause-room c = λ posts at. (c.requires.sound.posts _ _ at).room
-
-pub has_event_room-requires-clause-there : goal.has_event_room-requires-clause-there
-has_event_room-requires-clause-there c =
-    (declared_there (state_in c.args.ranks.now c.args.memories.now) c.args.invocation.now.caller.rank c.args.invocation.now.caller.thread (sym (c.has_section.ensures c.args.memories.now) ∙ c.if-not-has_section.false)).within

@@ -28,24 +28,18 @@ returns-then-not-may_join-clause-step c = (
   refl,
 )
 
-pub has_join_room-requires-clause-limits : goal.has_join_room-requires-clause-limits
-has_join_room-requires-clause-limits c = c.requires.sound.limits
-
-pub has_join_room-requires-clause-room : goal.has_join_room-requires-clause-room
-has_join_room-requires-clause-room c = λ posts at. (c.requires.sound.posts _ _ at).room
-
-pub has_join_room-requires-clause-there : goal.has_join_room-requires-clause-there
-has_join_room-requires-clause-there c =
+pub has_room-requires-clause-there : goal.has_room-requires-clause-there
+has_room-requires-clause-there c =
     (declared_there (state_in c.args.ranks.now c.args.memories.now) c.args.joining.now.caller.rank c.args.joining.now.caller.thread (sym (c.has_section.ensures c.args.memories.now) ∙ c.if-not-has_section.false)).within
 
-pub returns-then-not-has_join_room-clause-step : goal.returns-then-not-has_join_room-clause-step
-returns-then-not-has_join_room-clause-step c =
+pub returns-then-not-has_room-clause-step : goal.returns-then-not-has_room-clause-step
+returns-then-not-has_room-clause-step c =
     let s = state_in c.args.ranks.now c.args.memories.now in
     let declared = sym (c.has_section.ensures c.args.memories.now) ∙ c.if-not-has_section.false in
     let d = declared_there s c.args.joining.now.caller.rank c.args.joining.now.caller.thread declared in (
-      full_join s c.args.joining.now.caller c.args.joining.now.group c.args.joining.now.args.now d.posts declared d.item (sym (c.in-Ok.ensures d.posts d.item) ∙ c.if-not-may_join.false) (sym (c.has_join_room.ensures d.posts d.item) ∙ c.if-not-has_join_room.true),
+      full_join s c.args.joining.now.caller c.args.joining.now.group c.args.joining.now.args.now d.posts declared d.item (sym (c.in-Ok.ensures d.posts d.item) ∙ c.if-not-may_join.false) (sym (c.has_room.ensures d.posts d.item) ∙ c.if-not-has_room.true),
       refl,
     )
 
 pub join_in-requires-clause-room : goal.join_in-requires-clause-room
-join_in-requires-clause-room c = λ posts at. leb-true _ _ (sym (c.has_join_room.ensures posts at) ∙ c.if-not-has_join_room.false)
+join_in-requires-clause-room c = λ posts at. leb-true _ _ (sym (c.has_room.ensures posts at) ∙ c.if-not-has_room.false)

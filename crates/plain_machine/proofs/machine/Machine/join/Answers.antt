@@ -18,3 +18,10 @@ invariant_of-self c =
       stepped old new event _ _ _ _ (recorded_of c.join_found.result) c.soundness.ensures.steps c.self.invariant.0 c.join_found.ensures.step c.join_found.ensures.taken named,
       count_joined c.self.inside.counted old new c.args.invocation.now.caller (group_of c.args.invocation.now.call.now) c.args.args (recorded_of c.join_found.result) c.soundness.ensures.limits c.self.invariant.1 c.join_found.ensures.step,
     )
+
+pub join_found-requires-clause-joins : goal.join_found-requires-clause-joins
+join_found-requires-clause-joins c = record {
+  declared = rw (← c.self.view_is) at c.requires.declared;
+  joins = rw (← c.self.view_is) at c.requires.joins;
+  steps = rw (← c.self.view_is) at c.requires.steps;
+}

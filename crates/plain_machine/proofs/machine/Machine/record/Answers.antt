@@ -3,6 +3,7 @@ use Rattle.gaspi_model.specs.Calls.{recorded_reply}
 use Rattle.plain_calls.specs.Looks.{recorded_of}
 use Rattle.plain_machine.proofs.Counted.{count_kept}
 use Rattle.plain_machine.proofs.EventRooms.{room_of_step}
+use Rattle.plain_machine.proofs.Recorded.{declared_there}
 use Rattle.plain_machine.proofs.Running.{stepped}
 use Rattle.plain_machine.specs.Machine.{state_in}
 use Rattle.plain_machine.proofs.machine.Machine.record.Goals as goal
@@ -16,6 +17,14 @@ invariant_of-self c = (
       c.soundness.ensures.limits c.self.invariant.1 c.record_named.ensures.step),
 )
 
-pub record_named-requires-clause-room : goal.record_named-requires-clause-room
-record_named-requires-clause-room c =
-    room_of_step (state_in c.self.inside.ranks c.self.inside.memories) c.args.invocation.now.caller c.args.invocation.now.call.now c.args.look.ready (rw (← c.self.view_is) at c.requires.steps)
+pub event_charge-charge-requires : goal.event_charge-charge-requires
+event_charge-charge-requires c =
+    (declared_there (state_in c.self.inside.ranks c.self.inside.memories) c.args.invocation.now.caller.rank c.args.invocation.now.caller.thread (rw (← c.self.view_is) at c.requires.declared)).within
+
+pub record_named-requires-clause-found : goal.record_named-requires-clause-found
+record_named-requires-clause-found c = record {
+  declared = rw (← c.self.view_is) at c.requires.declared;
+  finds = rw (← c.self.view_is) at c.requires.look;
+  charge = c.event_charge-charge.ensures.charge;
+  room = room_of_step (state_in c.self.inside.ranks c.self.inside.memories) c.args.invocation.now.caller c.args.invocation.now.call.now c.args.look.ready (rw (← c.self.view_is) at c.requires.steps);
+}
