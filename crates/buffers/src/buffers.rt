@@ -91,9 +91,10 @@ impl<T> Buffer<T> {
         self.held.remove(place)
     }
 
-    /// The same items as a list, without taking memory.
+    /// The same items as a list, at most as many as the room, without taking memory.
     pub fn into_rows(self) -> Rows<T>
-        ensures { result ≡ self.items }
+        ensures items { result ≡ self.items }
+        ensures bound { length self.items ≤ self.room }
     {
         let Buffer { held, .. } = self;
         Rows::from_vec(held)

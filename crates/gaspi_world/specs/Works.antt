@@ -12,11 +12,16 @@ use Rattle.gaspi_types.specs.declared.shapes.CallerId.{CallerId}
 use Rattle.gaspi_model.specs.Calls.{recorded_reply}
 use Rattle.timeout_state.specs.declared.budget.Look.{Look}
 use Rattle.timeout_state.specs.declared.budget.Look.TheVariants.{More, Final}
+use Rattle.commit_table.specs.Calls.{IsOf, PassValue, TableValue}
 use Rattle.commit_table.specs.declared.views.Known.{Known}
 use Rattle.gaspi_world.specs.Attempts.{is_waiting, found_after, is_full_after, MayHaveJoined, HasCommitted}
-use Rattle.gaspi_world.specs.Holds.{Added}
+use Rattle.gaspi_world.specs.Callers.{IsPassOf}
+use Rattle.gaspi_world.specs.Holds.{Holds, Added}
+use Rattle.gaspi_world.specs.Shards.{shard_part}
 use Rattle.gaspi_world.specs.declared.attempts.Halt.{Halt}
 use Rattle.gaspi_world.specs.declared.attempts.Halt.TheVariants.{Busy, NotYet, NoMemory, EventLimit}
+use Rattle.gaspi_world.specs.declared.shards.WorldShard.{WorldShard}
+use Rattle.gaspi_world.specs.declared.starts.Start.{Start}
 
 -- a call that is not ready waits for another look where there may be one
 abbrev pub is_early : Ready → Look → Bool
@@ -24,6 +29,12 @@ is_early ready.NotReady More = true
 is_early ready.NotReady Final = false
 is_early (ready.Reply reply) look = false
 is_early (ready.Join args) look = false
+
+-- A pass of this table is that of a caller, and holds the shard, with this value.
+pub record IsHolder (t : TableValue Start) (c : CallerId) (x : WorldShard) (p : PassValue Start Event) : Type 0 where
+  pub of_table : IsOf t p
+  pub caller : IsPassOf t.start.shape c p.known
+  pub held : Holds t.start.shape (shard_part x) p.known
 
 module _ {S : Type 0} (w : World) (c : CallerId) (call : Call) where
   -- a call was recorded as a look found it, or it is early, or there was no memory

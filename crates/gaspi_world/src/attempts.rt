@@ -1,6 +1,6 @@
 //! One attempt to make a call, which never waits.
 
-ghost use Rattle.std.specs.Prelude.{◌≡◌, ◌≢◌, ◌<◌, ◌+◌, false, true, Some, Err, Ok, IfOk, IfErr, IsOk};
+ghost use Rattle.std.specs.Prelude.{◌≡◌, ◌≢◌, false, true, Some, Err, Ok, IfOk, IfErr, IsOk};
 ghost use Rattle.gaspi_types.specs.Copies.{is_listless_reply};
 ghost use Rattle.gaspi_types.specs.World.{IsWorld};
 ghost use Rattle.gaspi_types.specs.declared.calls.Call.TheVariants.{End};
@@ -8,14 +8,14 @@ ghost use Rattle.gaspi_types.specs.declared.events.Event.TheVariants.{Called};
 ghost use Rattle.gaspi_types.specs.declared.replies.Ready.TheVariants.{Join};
 ghost use Rattle.gaspi_model.specs.Calls.{recorded_reply};
 ghost use Rattle.gaspi_model.specs.CollectiveCalls.{is_joining, join_event};
-ghost use Rattle.gaspi_model.specs.Step.{step, answer_in, is_declared, is_full_in};
-ghost use Rattle.plain_machine.specs.Looking.{IsFindingIn};
+ghost use Rattle.gaspi_model.specs.Step.{step, answer_in, is_full_in};
+ghost use Rattle.plain_machine.specs.Looking.{MayJoinWith, MayRecord};
 ghost use Rattle.commit_table.specs.Calls.{IsOf, HoldsNone};
-ghost use Rattle.gaspi_world.specs.Attempts.{is_full_after, Attempted};
+ghost use Rattle.gaspi_world.specs.Attempts.{Attempted};
 ghost use Rattle.gaspi_world.specs.Callers.{IsPassOf};
 ghost use Rattle.gaspi_world.specs.Holds.{Holds, Added};
 ghost use Rattle.gaspi_world.specs.Shards.{shard_part};
-ghost use Rattle.gaspi_world.specs.Works.{is_early, Settled, WorkedOut};
+ghost use Rattle.gaspi_world.specs.Works.{is_early, IsHolder, Settled, WorkedOut};
 ghost use Rattle.gaspi_world.specs.declared.attempts.Halt.TheVariants.{NoMemory};
 
 use crate::holding::{advance, leave, open};
@@ -91,14 +91,8 @@ fn record(
     invocation: &Invocation<'_>,
     found: Finding,
 ) -> Result<Reply, Halt>
-    requires pass { IsOf table.now pass.old }
-    requires caller { IsPassOf table.now.start.shape invocation.now.caller pass.old.known }
-    requires held { Holds table.now.start.shape (shard_part shard.old) pass.old.known }
-    requires declared { is_declared shard.old.machine invocation.now.caller.rank invocation.now.caller.thread ≡ true }
-    requires look { IsFindingIn found shard.old.machine invocation.now.caller invocation.now.call.now }
-    requires answer { answer_in shard.old.machine invocation.now.caller.rank invocation.now.caller.thread invocation.now.call.now ≡ Some found.ready }
-    requires unjoined { is_joining found.ready ≡ false }
-    requires step { IsOk (step shard.old.machine (Called invocation.now.caller invocation.now.call.now (recorded_reply found.ready))) }
+    requires holder { IsHolder table.now invocation.now.caller shard.old pass.old }
+    requires found { MayRecord found shard.old.machine invocation.now.caller invocation.now.call.now }
     ensures table { pass.new.table ≡ pass.old.table }
     ensures held { Holds table.now.start.shape (shard_part shard.new) pass.new.known }
     ensures reply { IfOk result (λ reply. reply ≡ recorded_reply found.ready) }
@@ -129,14 +123,8 @@ fn settle(
     look: Look,
     found: Finding,
 ) -> Result<Reply, Halt>
-    requires pass { IsOf table.now pass.old }
-    requires caller { IsPassOf table.now.start.shape invocation.now.caller pass.old.known }
-    requires held { Holds table.now.start.shape (shard_part shard.old) pass.old.known }
-    requires declared { is_declared shard.old.machine invocation.now.caller.rank invocation.now.caller.thread ≡ true }
-    requires look { IsFindingIn found shard.old.machine invocation.now.caller invocation.now.call.now }
-    requires answer { answer_in shard.old.machine invocation.now.caller.rank invocation.now.caller.thread invocation.now.call.now ≡ Some found.ready }
-    requires unjoined { is_joining found.ready ≡ false }
-    requires step { IsOk (step shard.old.machine (Called invocation.now.caller invocation.now.call.now (recorded_reply found.ready))) }
+    requires holder { IsHolder table.now invocation.now.caller shard.old pass.old }
+    requires found { MayRecord found shard.old.machine invocation.now.caller invocation.now.call.now }
     ensures table { pass.new.table ≡ pass.old.table }
     ensures held { Holds table.now.start.shape (shard_part shard.new) pass.new.known }
     ensures settled { Settled table.now.start.shape invocation.now.caller invocation.now.call.now found.ready look pass.old.known result pass.new.known }
@@ -157,12 +145,8 @@ fn join(
     invocation: &Invocation<'_>,
     args: Args,
 ) -> Result<(), Halt>
-    requires pass { IsOf table.now pass.old }
-    requires caller { IsPassOf table.now.start.shape invocation.now.caller pass.old.known }
-    requires held { Holds table.now.start.shape (shard_part shard.old) pass.old.known }
-    requires declared { is_declared shard.old.machine invocation.now.caller.rank invocation.now.caller.thread ≡ true }
-    requires joins { answer_in shard.old.machine invocation.now.caller.rank invocation.now.caller.thread invocation.now.call.now ≡ Some (Join args) }
-    requires step { IsOk (step shard.old.machine (join_event invocation.now.caller invocation.now.call.now args)) }
+    requires holder { IsHolder table.now invocation.now.caller shard.old pass.old }
+    requires joins { MayJoinWith args shard.old.machine invocation.now.caller invocation.now.call.now }
     ensures table { pass.new.table ≡ pass.old.table }
     ensures held { Holds table.now.start.shape (shard_part shard.new) pass.new.known }
     ensures joined { IfOk result (λ done. step shard.old.machine (join_event invocation.now.caller invocation.now.call.now args) ≡ Ok shard.new.machine) }
@@ -189,9 +173,7 @@ fn join_first(
     args: Args,
 ) -> Result<Reply, Halt>
     requires world { IsWorld table.now.start.shape }
-    requires pass { IsOf table.now pass.old }
-    requires caller { IsPassOf table.now.start.shape invocation.now.caller pass.old.known }
-    requires held { Holds table.now.start.shape (shard_part shard.old) pass.old.known }
+    requires holder { IsHolder table.now invocation.now.caller shard.old pass.old }
     requires room { is_full_in shard.old.machine invocation.now.caller invocation.now.call.now ≡ false }
     requires joins { answer_in shard.old.machine invocation.now.caller.rank invocation.now.caller.thread invocation.now.call.now ≡ Some (Join args) }
     ensures table { pass.new.table ≡ pass.old.table }
@@ -216,9 +198,7 @@ fn work(
     look: Look,
 ) -> Result<Reply, Halt>
     requires world { IsWorld table.now.start.shape }
-    requires pass { IsOf table.now pass.old }
-    requires caller { IsPassOf table.now.start.shape invocation.now.caller pass.old.known }
-    requires held { Holds table.now.start.shape (shard_part shard.old) pass.old.known }
+    requires holder { IsHolder table.now invocation.now.caller shard.old pass.old }
     ensures table { pass.new.table ≡ pass.old.table }
     ensures held { Holds table.now.start.shape (shard_part shard.new) pass.new.known }
     ensures worked { WorkedOut table.now.start.shape invocation.now.caller invocation.now.call.now look pass.old.known result pass.new.known }

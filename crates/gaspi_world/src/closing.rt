@@ -29,7 +29,6 @@ fn move_events(placed: Buffer<Placed>, mut room: ReservedJournal) -> Journal
     requires room { placed.room ≤ room.room }
     ensures { result ≡ map (λ p. p.event) placed.items }
 {
-    let _count = placed.len();
     for one in placed.into_rows().into_vec() {
         room.push(one.event);
     }

@@ -2,6 +2,7 @@
 
 ghost use Rattle.std.specs.Prelude.{◌≡◌, ℕ, ◌+◌, ◌<◌, ◌≤◌, IfOk, IsTrue, ◌↔◌, Some, [], length, slice_get};
 ghost use Rattle.commit_table.specs.Views.{new_pass};
+ghost use Rattle.gaspi_types.specs.World.{IsWorld};
 ghost use Rattle.gaspi_types.specs.declared.events.Event.{Event};
 ghost use Rattle.gaspi_types.specs.declared.shapes.CallerId.{CallerId};
 ghost use Rattle.gaspi_world.specs.Callers.{IsPassOf};
@@ -74,6 +75,7 @@ impl World {
     /// The world of a shape, with so many workers. All memory that is wanted for what the ranks record is taken here.
     pub fn start(alloc: Global, shape: &Shape, workers: u32) -> Result<Started, NoMemory>
         requires { workers ≤ 4 }
+        ensures world { IsWorld shape.now }
         ensures start { IfOk result (λ started. started.world.start.shape ≡ shape.now) }
         ensures all { IfOk result (λ started. started.world.passes ≡ length shape.now.callers + workers) }
         ensures count { IfOk result (λ started. length started.passes.items ≡ length shape.now.callers + workers) }

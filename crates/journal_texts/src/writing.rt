@@ -54,7 +54,7 @@ pub fn write(text: &mut Bytes, journal: &Journal) -> Result<(), NoMemory>
     ensures only { (other : List Event) → AreInRange other → journal_text other ≡ journal_text journal.now → other ≡ journal.now }
 {
     journals_differ_in_text();
-    journal_is_in_range(journal);
+    prove!(journal_is_in_range(journal));
     let count = text.len();
     let written = append_journal(text, journal);
     if written.is_err() {

@@ -8,51 +8,56 @@ use Rattle.gaspi_world.proofs.Sections.{reached-declared}
 use Rattle.gaspi_world.proofs.Working.{has-room, full-in, found-in, worked-joined, settled-worked}
 use Rattle.gaspi_world.proofs.attempts.join_first.Goals as goal
 
-pub join-requires-clause-declared : goal.join-requires-clause-declared
-join-requires-clause-declared c = reached-declared c.args.table.now.start.shape c.args.pass.now.known.seen c.args.shard.now.machine c.args.invocation.now.caller c.requires.world c.requires.caller.0 c.requires.held.state
-
-pub join-requires-clause-step : goal.join-requires-clause-step
-join-requires-clause-step c =
-    let sound = reached-sound c.args.table.now.start.shape c.args.pass.now.known.seen c.args.shard.now.machine c.requires.world c.requires.held.state in
-    joined-is_step c.args.shard.now.machine c.args.invocation.now.caller c.args.invocation.now.call.now c.args.args sound (has-room c.args.shard.now.machine c.args.invocation.now.caller c.args.invocation.now.call.now c.requires.room) c.requires.joins
+pub join-requires-clause-joins : goal.join-requires-clause-joins
+join-requires-clause-joins c =
+    let sound = reached-sound c.args.table.now.start.shape c.args.pass.now.known.seen c.args.shard.now.machine c.requires.world c.requires.holder.held.state in
+    record {
+      declared = reached-declared c.args.table.now.start.shape c.args.pass.now.known.seen c.args.shard.now.machine c.args.invocation.now.caller c.requires.world c.requires.holder.caller.0 c.requires.holder.held.state;
+      joins = c.requires.joins;
+      steps = joined-is_step c.args.shard.now.machine c.args.invocation.now.caller c.args.invocation.now.call.now c.args.args sound (has-room c.args.shard.now.machine c.args.invocation.now.caller c.args.invocation.now.call.now c.requires.room) c.requires.joins;
+    }
 
 pub look-requires : goal.look-requires
-look-requires c = reached-declared c.args.table.now.start.shape c.join.new.pass.known.seen c.join.new.shard.machine c.args.invocation.now.caller c.requires.world c.requires.caller.0 c.join.ensures.held.state
+look-requires c = reached-declared c.args.table.now.start.shape c.join.new.pass.known.seen c.join.new.shard.machine c.args.invocation.now.caller c.requires.world c.requires.holder.caller.0 c.join.ensures.held.state
 
-pub settle-requires-clause-declared : goal.settle-requires-clause-declared
-settle-requires-clause-declared c = reached-declared c.args.table.now.start.shape c.join.new.pass.known.seen c.join.new.shard.machine c.args.invocation.now.caller c.requires.world c.requires.caller.0 c.join.ensures.held.state
+pub settle-requires-clause-holder : goal.settle-requires-clause-holder
+settle-requires-clause-holder c = record {
+  of_table = (c.join.ensures.table ∙ c.requires.holder.of_table.0, c.in_ok-join.ensures.added.start ∙ c.requires.holder.of_table.1);
+  caller = (c.requires.holder.caller.0, c.in_ok-join.ensures.added.party ∙ c.requires.holder.caller.1);
+  held = c.join.ensures.held;
+}
 
-pub settle-requires-clause-unjoined : goal.settle-requires-clause-unjoined
-settle-requires-clause-unjoined c =
-    let sound = reached-sound c.args.table.now.start.shape c.args.pass.now.known.seen c.args.shard.now.machine c.requires.world c.requires.held.state in
+pub settle-requires-clause-found : goal.settle-requires-clause-found
+settle-requires-clause-found c =
+    let sound = reached-sound c.args.table.now.start.shape c.args.pass.now.known.seen c.args.shard.now.machine c.requires.world c.requires.holder.held.state in
     let room = has-room c.args.shard.now.machine c.args.invocation.now.caller c.args.invocation.now.call.now c.requires.room in
-    (joined-goes-on c.args.shard.now.machine c.join.new.shard.machine c.args.invocation.now.caller c.args.invocation.now.call.now c.args.args c.in-Ok.found.ready sound room c.requires.joins c.in_ok-join.ensures.joined c.in-Ok.ensures.answer).0
-
-pub settle-requires-clause-step : goal.settle-requires-clause-step
-settle-requires-clause-step c =
-    let sound = reached-sound c.args.table.now.start.shape c.args.pass.now.known.seen c.args.shard.now.machine c.requires.world c.requires.held.state in
-    let room = has-room c.args.shard.now.machine c.args.invocation.now.caller c.args.invocation.now.call.now c.requires.room in
-    (joined-goes-on c.args.shard.now.machine c.join.new.shard.machine c.args.invocation.now.caller c.args.invocation.now.call.now c.args.args c.in-Ok.found.ready sound room c.requires.joins c.in_ok-join.ensures.joined c.in-Ok.ensures.answer).1
+    let on = joined-goes-on c.args.shard.now.machine c.join.new.shard.machine c.args.invocation.now.caller c.args.invocation.now.call.now c.args.args c.in-Ok.found.ready sound room c.requires.joins c.in_ok-join.ensures.joined c.in-Ok.ensures.answer in
+    record {
+      declared = reached-declared c.args.table.now.start.shape c.join.new.pass.known.seen c.join.new.shard.machine c.args.invocation.now.caller c.requires.world c.requires.holder.caller.0 c.join.ensures.held.state;
+      finds = c.in-Ok.ensures.look;
+      unjoined = on.0;
+      steps = on.1;
+    }
 
 pub returns-in_default-clause-worked : goal.returns-in_default-clause-worked
 returns-in_default-clause-worked c =
     let w = c.args.table.now.start.shape in (
       join_event c.args.invocation.now.caller c.args.invocation.now.call.now c.args.args ∷ [],
-      worked-joined w c.args.invocation.now.caller c.args.invocation.now.call.now c.args.pass.now.known c.join.new.pass.known c.args.args c.requires.caller (found-in w c.args.invocation.now.caller c.args.invocation.now.call.now _ c.args.pass.now.known c.requires.held ∙ c.requires.joins) c.in_ok-join.ensures.added,
-      full-in w c.args.invocation.now.caller c.args.invocation.now.call.now _ c.args.pass.now.known c.requires.held ∙ c.requires.room,
+      worked-joined w c.args.invocation.now.caller c.args.invocation.now.call.now c.args.pass.now.known c.join.new.pass.known c.args.args c.requires.holder.caller (found-in w c.args.invocation.now.caller c.args.invocation.now.call.now _ c.args.pass.now.known c.requires.holder.held ∙ c.requires.joins) c.in_ok-join.ensures.added,
+      full-in w c.args.invocation.now.caller c.args.invocation.now.call.now _ c.args.pass.now.known c.requires.holder.held ∙ c.requires.room,
     )
 
 pub returns-clause-worked : goal.returns-clause-worked
 returns-clause-worked c =
     let w = c.args.table.now.start.shape in
-    let found = found-in w c.args.invocation.now.caller c.args.invocation.now.call.now _ c.args.pass.now.known c.requires.held ∙ c.requires.joins in
-    let joined = worked-joined w c.args.invocation.now.caller c.args.invocation.now.call.now c.args.pass.now.known c.join.new.pass.known c.args.args c.requires.caller found c.in_ok-join.ensures.added in
-    let full = full-in w c.args.invocation.now.caller c.args.invocation.now.call.now _ c.args.pass.now.known c.requires.held ∙ c.requires.room in
-    let sound = reached-sound w c.args.pass.now.known.seen c.args.shard.now.machine c.requires.world c.requires.held.state in
+    let found = found-in w c.args.invocation.now.caller c.args.invocation.now.call.now _ c.args.pass.now.known c.requires.holder.held ∙ c.requires.joins in
+    let joined = worked-joined w c.args.invocation.now.caller c.args.invocation.now.call.now c.args.pass.now.known c.join.new.pass.known c.args.args c.requires.holder.caller found c.in_ok-join.ensures.added in
+    let full = full-in w c.args.invocation.now.caller c.args.invocation.now.call.now _ c.args.pass.now.known c.requires.holder.held ∙ c.requires.room in
+    let sound = reached-sound w c.args.pass.now.known.seen c.args.shard.now.machine c.requires.world c.requires.holder.held.state in
     let room = has-room c.args.shard.now.machine c.args.invocation.now.caller c.args.invocation.now.call.now c.requires.room in
     let on = joined-goes-on c.args.shard.now.machine c.join.new.shard.machine c.args.invocation.now.caller c.args.invocation.now.call.now c.args.args c.in-Ok.found.ready sound room c.requires.joins c.in_ok-join.ensures.joined c.in-Ok.ensures.answer in
     settled-worked w c.args.invocation.now.caller c.args.invocation.now.call.now _ (join_event c.args.invocation.now.caller c.args.invocation.now.call.now c.args.args ∷ []) c.args.look c.in-Ok.found.ready c.args.pass.now.known c.join.new.pass.known c.settle.new.pass.known c.settle.result
-    c.requires.caller c.join.ensures.held joined full c.in-Ok.ensures.answer on.0 (λ is. ap is_waiting found) c.settle.ensures.settled
+    c.requires.holder.caller c.join.ensures.held joined full c.in-Ok.ensures.answer on.0 (λ is. ap is_waiting found) c.settle.ensures.settled
 
 pub returns-clause-ends : goal.returns-clause-ends
 returns-clause-ends c = λ is.

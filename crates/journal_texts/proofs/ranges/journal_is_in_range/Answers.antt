@@ -16,7 +16,7 @@ loop-event-preserved c =
     one-more IsInEventRange c.args.journal.now c.loop-event.event-index c.event-item.result (rw (sym c.as_slice-event-items.ensures) c.loop-event-test.true) (rw (sym c.as_slice-event-items.ensures) c.event-item.is)
     c.event_is_in_range.ensures c.loop-event.invariant
 
-pub returns : goal.returns
-returns c =
+pub returns-clause-ranges : goal.returns-clause-ranges
+returns-clause-ranges c =
     let past = rw c.as_slice-event-items.ensures at c.loop-event-test.false in
     λ k d less. c.loop-event.invariant k d (omega (arith, past))
