@@ -117,7 +117,7 @@ pub fn schedule(
         finished,
         journal,
     } = turns;
-    journal_is_in_range(&journal);
+    prove!(journal_is_in_range(&journal));
     Ok(Ran {
         journal,
         outcomes: finished,

@@ -4,6 +4,7 @@ ghost use Rattle.std.specs.Prelude.{◌≡◌, ◌+◌, ◌<◌, ◌≤◌, IfOk
 ghost use Rattle.std.specs.List.{All};
 ghost use Rattle.gaspi_types.specs.declared.shapes.CallerId.{CallerId};
 ghost use Rattle.gaspi_world.specs.Callers.{IsPassOf};
+ghost use Rattle.rank_script.specs.PlainScripts.{ArePlain};
 ghost use Rattle.rank_script.specs.WorldText.{AreScriptsOf};
 ghost use Rattle.gaspi_run.specs.Parts.{made_pass, AreCallersThere, EachAt, NeedsOf, IsPartOf, IsReady, HaveAllRun, IsDone, HaveRun, finished_of, finished_in};
 
@@ -156,12 +157,16 @@ fn finished_of(part: &Part<'_>) -> Result<Option<Finished>, NoMemory>
     }
 }
 
-/// How the callers ended, in the order of the tasks.
-fn outcomes_of(alloc: Global, tasks: &[Task<Part<'_>>]) -> Result<Rows<Finished>, NoMemory>
+/// How the callers ended, of whom there are so many, in the order of the tasks.
+fn outcomes_of(
+    alloc: Global,
+    callers: usize,
+    tasks: &[Task<Part<'_>>],
+) -> Result<Rows<Finished>, NoMemory>
     ensures finished { IfOk result (λ finished. finished ≡ finished_in tasks.now) }
     ensures told { OnOk result (All (λ t. IsDone t.body) tasks.now) }
 {
-    let mut outcomes = Rows::with_room(alloc, tasks.len())?;
+    let mut outcomes = Rows::with_room(alloc, callers)?;
     for task in tasks {
         if let Some(finished) = finished_of(&task.body)? {
             outcomes.push(finished)?;
@@ -196,12 +201,13 @@ pub(crate) fn run_parts<R: Threads + Wait + Sync>(
     requires count { length passes.items ≡ world.now.passes }
     requires callers { AreCallersThere world.now }
     requires scripts { AreScriptsOf world.now.start.shape scripts.now }
-    ensures { IfOk result (λ ran. HaveRun world.now scripts.now limit ran.passes.items ran.outcomes) }
+    ensures ran { IfOk result (λ ran. HaveRun world.now scripts.now limit ran.passes.items ran.outcomes) }
+    ensures plain { ArePlain scripts.now }
 {
-    scripts.len();
+    let callers = scripts.len();
     let mut tasks = tasks_of(alloc, world, scripts, passes, limit)?;
     run_tasks(rt, alloc, world, &mut tasks);
-    let outcomes = outcomes_of(alloc, tasks.as_slice())?;
+    let outcomes = outcomes_of(alloc, callers, tasks.as_slice())?;
     let passes = passes_of(alloc, tasks)?;
     Ok(RanParts { passes, outcomes })
 }

@@ -61,12 +61,10 @@ pub fn run_on_threads<R: Threads + Wait + Sync>(
     settling();
     notification_order();
     waits_last();
-    shape.limits();
-    scripts.len();
     let Started { world, passes } = World::start(alloc, shape, workers)?;
     let RanParts { passes, outcomes } = run_parts(rt, alloc, &world, scripts, passes, limit)?;
     let (journal, tally) = closed(alloc, world, passes)?;
-    journal_is_in_range(&journal);
+    prove!(journal_is_in_range(&journal));
     Ok(RanOnThreads {
         journal,
         tally,

@@ -8,10 +8,10 @@ use Rattle.gaspi_run.proofs.tasks.run_parts.Goals as goal
 
 pub run_tasks-requires-after_bounds : goal.run_tasks-requires-after_bounds
 run_tasks-requires-after_bounds g c κs within =
-    all-need c.args.world.now c.args.scripts.now c.args.limit c.in_ok-tasks.tasks.items c.in_ok-tasks.ensures.ready c.requires.limit c.len.ensures.plain c.len.ensures.looks
+    all-need c.args.world.now c.args.scripts.now c.args.limit c.in_ok-tasks.tasks.items c.in_ok-tasks.ensures.ready c.requires.limit c.len-callers.ensures.plain c.len-callers.ensures.looks
 
-pub returns : goal.returns
-returns g c = record {
+pub returns-clause-ran : goal.returns-clause-ran
+returns-clause-ran g c = record {
   tasks = c.run_tasks.new.tasks.items;
   ran = all-ran c.args.world.now c.args.scripts.now c.args.limit c.in_ok-tasks.tasks.items c.run_tasks.new.tasks.items c.in_ok-tasks.ensures.ready c.run_tasks.ensures.ran;
   told = subst (All (λ (t : Task Part). IsDone t.body)) c.as_slice.ensures.value c.in_ok-outcomes.ensures.told;

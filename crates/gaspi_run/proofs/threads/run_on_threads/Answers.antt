@@ -20,7 +20,7 @@ run_parts-requires-clause-callers g c κs within = λ place less.
     (there.0, subst (λ (w : World). IsPassOf w there.0 (new_pass {E = Event} world.start (Some place) [])) (sym start) there.1)
 
 pub closed-requires : goal.closed-requires
-closed-requires g c = whole c.in_ok-world.field-0.world c.args.scripts.now c.args.limit c.in_ok-passes.field-0.passes.items c.in_ok-passes.field-0.outcomes c.in_ok-passes.ensures
+closed-requires g c = whole c.in_ok-world.field-0.world c.args.scripts.now c.args.limit c.in_ok-passes.field-0.passes.items c.in_ok-passes.field-0.outcomes c.in_ok-passes.ensures.ran
 
 pub journal_is_in_range-requires : goal.journal_is_in_range-requires
 journal_is_in_range-requires g c = legal-has-own c.in_ok-world.field-0.world.start.shape c.in_ok-journal.journal c.in_ok-journal.ensures.legal
@@ -28,7 +28,7 @@ journal_is_in_range-requires g c = legal-has-own c.in_ok-world.field-0.world.sta
 pub returns-clause-ran : goal.returns-clause-ran
 returns-clause-ran g c =
     let all = known c.in_ok-world.field-0.world c.args.scripts.now c.args.limit c.args.workers c.in_ok-passes.field-0.passes.items c.in_ok-passes.field-0.outcomes c.args.shape.now c.in_ok-journal.journal c.in_ok-journal.tally
-    c.in_ok-world.ensures.start c.in_ok-world.ensures.all c.requires.workers.0 c.limits.ensures.world c.requires.scripts c.len.ensures.plain c.in_ok-passes.ensures
+    c.in_ok-world.ensures.start c.in_ok-world.ensures.all c.requires.workers.0 c.in_ok-world.ensures.world c.requires.scripts c.in_ok-passes.ensures.plain c.in_ok-passes.ensures.ran
     c.in_ok-journal.ensures.tally c.in_ok-journal.ensures.passes c.in_ok-journal.ensures.legal c.in_ok-journal.ensures.seen c.in_ok-journal.ensures.done c.settling.ensures.stays c.waits_last.ensures in
     let legal = subst (λ (w : World). is_legal w c.in_ok-journal.journal ≡ true) c.in_ok-world.ensures.start c.in_ok-journal.ensures.legal in
     record {
@@ -40,5 +40,5 @@ returns-clause-ran g c =
       settled = all.2;
       notified = λ earlier later rest origin queue target m n is standing note less none.
           c.notification_order.ensures.order c.args.shape.now earlier later rest origin queue target m n (ap (is_legal c.args.shape.now) is ∙ legal) standing note less none;
-      ranges = c.journal_is_in_range.ensures;
+      ranges = c.journal_is_in_range.ensures.ranges;
     }
