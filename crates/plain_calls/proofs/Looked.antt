@@ -18,7 +18,6 @@ use Rattle.gaspi_types.specs.declared.inboxes.Message.{Message}
 use Rattle.gaspi_model.specs.PassiveCalls.{brought_by}
 use Rattle.gaspi_model.specs.declared.states.Posts.{Posts}
 use Rattle.gaspi_model.specs.declared.states.Memory.{Memory}
-use Rattle.gaspi_model.specs.declared.states.ThreadState.{ThreadState}
 use Rattle.gaspi_model.specs.declared.states.Why.TheVariants as whys
 use Rattle.gaspi_model.proofs.Listed.Enabled.{same_reply-refl}
 use Rattle.segment_tables.specs.PostKinds.{kinds_of}

@@ -20,9 +20,7 @@ ghost use Rattle.plain_machine.specs.Machine.{is_still};
 ghost use Rattle.plain_machine.specs.Words.{word_in};
 
 use crate::listing::{first_transfer, transfer_at, transfer_count, transfers};
-use crate::looking::{
-    event_charge, has_section, is_pending_in, join_found, look_in, record_named,
-};
+use crate::looking::{event_charge, has_section, is_pending_in, join_found, look_in, record_named};
 use crate::opening::{all_groups, all_memories, all_posts, all_taken};
 use crate::ranks::Ranks;
 use crate::standing::LaneId;
