@@ -2,7 +2,9 @@
 
 ghost use Rattle.std.specs.Prelude.{◌≡◌, ℕ, ◌<◌, ◌≤◌, ◌++◌, OnOk, IfOk, true};
 ghost use Rattle.journal_texts.specs.JournalText.{AreInRange, HaveOwnValues};
+ghost use Rattle.gaspi_types.specs.World.{IsWorld};
 ghost use Rattle.gaspi_model.specs.Step.{is_legal};
+ghost use Rattle.rank_script.specs.PlainScripts.{ArePlain};
 ghost use Rattle.rank_script.specs.WorldText.{AreScriptsOf};
 ghost use Rattle.gaspi_run.specs.Endings.{HasSettled, HaveEnded};
 ghost use Rattle.gaspi_run.specs.Schedule.{starts, rank_starts, thread_starts, started, IsScheduled};
@@ -60,16 +62,18 @@ fn add_starts<'a>(
     Ok(())
 }
 
-/// All callers at their start, by rank and thread.
+/// All callers at their start, by rank and thread. The shape is a world, and no script makes an end by itself.
 fn starts<'a>(
     alloc: Global,
     shape: &Shape,
     scripts: &'a Scripts,
 ) -> Result<Rows<Waiting<'a>>, NoMemory>
-    ensures { IfOk result (λ waiting. waiting ≡ starts shape.now scripts.now) }
+    ensures waiting { IfOk result (λ waiting. waiting ≡ starts shape.now scripts.now) }
+    ensures world { IsWorld shape.now }
+    ensures plain { ArePlain scripts.now }
 {
     let limits = shape.limits();
-    let mut waiting = Rows::new(alloc);
+    let mut waiting = Rows::with_room(alloc, scripts.len())?;
     for rank in 0..limits.ranks {
         add_starts(&mut waiting, rank, scripts)?;
     }
@@ -99,9 +103,6 @@ pub fn schedule(
     settling();
     endings();
     runs();
-    // Say that the shape is a world, and that no script makes an end by itself.
-    let _limits = shape.limits();
-    let _count = scripts.len();
     let mut turns = Turns {
         x: seed,
         state: Machine::start(alloc, shape)?,

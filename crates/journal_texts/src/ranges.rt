@@ -7,7 +7,7 @@ use crate::Journal;
 use gaspi_texts::event_is_in_range;
 
 /// Whether the numbers of all events of a journal are those of their types. They always are, so no other journal has its text: it
-/// is asked in `prove!` alone, which is no part of the program that runs. What callers join has the values that it says.
+/// is asked in `prove!` alone, so that a compiler may leave it out. What callers join has the values that it says.
 pub fn journal_is_in_range(journal: &Journal) -> bool
     requires { HaveOwnValues journal.now }
     ensures always { result ≡ true }

@@ -12,7 +12,7 @@ pub turn-requires : goal.turn-requires
 turn-requires c =
     turned-active c.args.shape.now c.args.scripts.now c.args.seed c.args.limit _
     (known _ _ (laws c.soundness.ensures.steps c.soundness.ensures.limits c.soundness.ensures.active c.enabled.ensures.call (join-laws c.soundness.ensures.limits c.enabled.ensures.join c.enabled.ensures.itself c.enabled.ensures.joined c.enabled.ensures.pending c.enabled.ensures.needs) c.runs.ensures.onward c.runs.ensures.ended c.runs.ensures.stopped)
-    c.soundness.ensures.counts c.enabled.ensures.transfer c.soundness.ensures.opens c.limits-limits.ensures.world c.requires.scripts c.len-count.ensures.plain)
+    c.soundness.ensures.counts c.enabled.ensures.transfer c.soundness.ensures.opens c.in_ok-starts.ensures.world c.requires.scripts c.in_ok-starts.ensures.plain)
     c.loop-turns.invariant
 
 pub loop-turns-smaller : goal.loop-turns-smaller
@@ -21,7 +21,7 @@ loop-turns-smaller c =
     subst (λ (t : Turns). work c.args.limit t < work c.args.limit c.loop-turns.turns) (sym turned.1)
     (turned-less c.args.shape.now c.args.scripts.now c.args.seed c.args.limit c.loop-turns.turns
     (known _ _ (laws c.soundness.ensures.steps c.soundness.ensures.limits c.soundness.ensures.active c.enabled.ensures.call (join-laws c.soundness.ensures.limits c.enabled.ensures.join c.enabled.ensures.itself c.enabled.ensures.joined c.enabled.ensures.pending c.enabled.ensures.needs) c.runs.ensures.onward c.runs.ensures.ended c.runs.ensures.stopped)
-    c.soundness.ensures.counts c.enabled.ensures.transfer c.soundness.ensures.opens c.limits-limits.ensures.world c.requires.scripts c.len-count.ensures.plain)
+    c.soundness.ensures.counts c.enabled.ensures.transfer c.soundness.ensures.opens c.in_ok-starts.ensures.world c.requires.scripts c.in_ok-starts.ensures.plain)
     c.loop-turns.invariant turned.0)
 
 pub loop-turns-preserved : goal.loop-turns-preserved
@@ -34,7 +34,7 @@ returns-clause-legal c =
     subst (λ (t : Turns). is_legal c.args.shape.now t.journal ≡ true) (sym over.1)
     (over-legal c.args.shape.now c.args.scripts.now c.args.seed c.args.limit c.loop-turns.turns
     (known _ _ (laws c.soundness.ensures.steps c.soundness.ensures.limits c.soundness.ensures.active c.enabled.ensures.call (join-laws c.soundness.ensures.limits c.enabled.ensures.join c.enabled.ensures.itself c.enabled.ensures.joined c.enabled.ensures.pending c.enabled.ensures.needs) c.runs.ensures.onward c.runs.ensures.ended c.runs.ensures.stopped)
-    c.soundness.ensures.counts c.enabled.ensures.transfer c.soundness.ensures.opens c.limits-limits.ensures.world c.requires.scripts c.len-count.ensures.plain)
+    c.soundness.ensures.counts c.enabled.ensures.transfer c.soundness.ensures.opens c.in_ok-starts.ensures.world c.requires.scripts c.in_ok-starts.ensures.plain)
     c.loop-turns.invariant)
 
 pub returns-clause-runs : goal.returns-clause-runs
@@ -43,7 +43,7 @@ returns-clause-runs c =
     subst (λ (t : Turns). HaveEnded c.args.shape.now c.args.scripts.now t.journal t.finished) (sym over.1)
     (over-ended c.args.shape.now c.args.scripts.now c.args.seed c.args.limit c.loop-turns.turns
     (known _ _ (laws c.soundness.ensures.steps c.soundness.ensures.limits c.soundness.ensures.active c.enabled.ensures.call (join-laws c.soundness.ensures.limits c.enabled.ensures.join c.enabled.ensures.itself c.enabled.ensures.joined c.enabled.ensures.pending c.enabled.ensures.needs) c.runs.ensures.onward c.runs.ensures.ended c.runs.ensures.stopped)
-    c.soundness.ensures.counts c.enabled.ensures.transfer c.soundness.ensures.opens c.limits-limits.ensures.world c.requires.scripts c.len-count.ensures.plain)
+    c.soundness.ensures.counts c.enabled.ensures.transfer c.soundness.ensures.opens c.in_ok-starts.ensures.world c.requires.scripts c.in_ok-starts.ensures.plain)
     c.loop-turns.invariant over.0)
 
 pub returns-clause-settled : goal.returns-clause-settled
@@ -52,7 +52,7 @@ returns-clause-settled c =
     subst (λ (t : Turns). HasSettled c.args.shape.now t.journal) (sym over.1)
     (over-settled c.args.shape.now c.args.scripts.now c.args.seed c.args.limit c.loop-turns.turns
     (known _ _ (laws c.soundness.ensures.steps c.soundness.ensures.limits c.soundness.ensures.active c.enabled.ensures.call (join-laws c.soundness.ensures.limits c.enabled.ensures.join c.enabled.ensures.itself c.enabled.ensures.joined c.enabled.ensures.pending c.enabled.ensures.needs) c.runs.ensures.onward c.runs.ensures.ended c.runs.ensures.stopped)
-    c.soundness.ensures.counts c.enabled.ensures.transfer c.soundness.ensures.opens c.limits-limits.ensures.world c.requires.scripts c.len-count.ensures.plain)
+    c.soundness.ensures.counts c.enabled.ensures.transfer c.soundness.ensures.opens c.in_ok-starts.ensures.world c.requires.scripts c.in_ok-starts.ensures.plain)
     (end_laws c.settling.ensures.empties c.endings.ensures)
     c.loop-turns.invariant over.0)
 
@@ -62,7 +62,7 @@ journal_is_in_range-requires c =
     subst (λ (t : Turns). HaveOwnValues t.journal) (sym over.1)
     (turned-own c.args.shape.now c.args.scripts.now c.args.seed c.args.limit c.loop-turns.turns
     (known _ _ (laws c.soundness.ensures.steps c.soundness.ensures.limits c.soundness.ensures.active c.enabled.ensures.call (join-laws c.soundness.ensures.limits c.enabled.ensures.join c.enabled.ensures.itself c.enabled.ensures.joined c.enabled.ensures.pending c.enabled.ensures.needs) c.runs.ensures.onward c.runs.ensures.ended c.runs.ensures.stopped)
-    c.soundness.ensures.counts c.enabled.ensures.transfer c.soundness.ensures.opens c.limits-limits.ensures.world c.requires.scripts c.len-count.ensures.plain)
+    c.soundness.ensures.counts c.enabled.ensures.transfer c.soundness.ensures.opens c.in_ok-starts.ensures.world c.requires.scripts c.in_ok-starts.ensures.plain)
     c.loop-turns.invariant)
 
 pub returns-clause-values : goal.returns-clause-values
@@ -71,5 +71,5 @@ returns-clause-values c =
     subst (λ (t : Turns). HaveOwnValues t.journal) (sym over.1)
     (turned-own c.args.shape.now c.args.scripts.now c.args.seed c.args.limit c.loop-turns.turns
     (known _ _ (laws c.soundness.ensures.steps c.soundness.ensures.limits c.soundness.ensures.active c.enabled.ensures.call (join-laws c.soundness.ensures.limits c.enabled.ensures.join c.enabled.ensures.itself c.enabled.ensures.joined c.enabled.ensures.pending c.enabled.ensures.needs) c.runs.ensures.onward c.runs.ensures.ended c.runs.ensures.stopped)
-    c.soundness.ensures.counts c.enabled.ensures.transfer c.soundness.ensures.opens c.limits-limits.ensures.world c.requires.scripts c.len-count.ensures.plain)
+    c.soundness.ensures.counts c.enabled.ensures.transfer c.soundness.ensures.opens c.in_ok-starts.ensures.world c.requires.scripts c.in_ok-starts.ensures.plain)
     c.loop-turns.invariant)
