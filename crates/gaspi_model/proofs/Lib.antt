@@ -24,3 +24,4 @@ pub mod Settled
 pub mod Local
 pub mod OwnCalls
 pub mod HistoryLengths
+pub mod Ranges

@@ -2,10 +2,11 @@
 
 ghost use Rattle.std.specs.Prelude.{◌≡◌, ◌≤◌, true, false, length, IfOk};
 ghost use Rattle.gaspi_types.specs.CallRows.{row_of, is_post};
+ghost use Rattle.gaspi_types.specs.Posts.{call_kinds};
 ghost use Rattle.list_ops.specs.Builds.{lane_checks, build_finds, Builds, wants_memory};
 
 use crate::stops::BuildStop;
-use gaspi_types::{Call, CallerId, Posting, Refusal, SegmentTable, Shape};
+use gaspi_types::{Call, CallerId, Posting, RankId, Refusal, SegmentTable, Shape};
 use post_drafts::Entries;
 use segment_tables::call_kinds;
 use std::alloc::Global;
@@ -23,6 +24,27 @@ fn check_lane(shape: &Shape, posting: Option<Posting>) -> Result<(), Refusal>
         }
     }
     Ok(())
+}
+
+/// The entries that a call asks for which posts, in order, with room for the bytes of each; or its first refusal that hangs on no lane:
+/// a list's length, segments, sizes, ranges, its slot, its notification value. So many slots has a segment, and the table is that of
+/// the caller's rank.
+///
+/// A call whose row says so takes no memory: a notification. (GASPI: write, read, notify, write_list)
+pub fn asked_entries(
+    alloc: Global,
+    notes: u32,
+    me: RankId,
+    table: &SegmentTable,
+    call: &Call,
+) -> Result<Entries, BuildStop>
+    requires { is_post call.now ≡ true }
+    ensures found { Builds result (call_kinds notes me table.now call.now) }
+    ensures few { IfOk result (λ entries. length entries ≤ 257) }
+    ensures bare { (row_of call.now).takes_memory ≡ false → wants_memory result ≡ false }
+{
+    let kinds = call_kinds(alloc, notes, me, table, call)??;
+    Ok(Entries::new(alloc, kinds.as_slice())?)
 }
 
 /// The entries of a call that posts, in order, with room for the bytes of each; or its first refusal: its rank, its queue, a
@@ -43,6 +65,5 @@ pub fn build(
     ensures bare { (row_of call.now).takes_memory ≡ false → wants_memory result ≡ false }
 {
     check_lane(shape, call.row().posting)?;
-    let kinds = call_kinds(alloc, shape.notes(), caller.rank, table, call)??;
-    Ok(Entries::new(alloc, kinds.as_slice())?)
+    asked_entries(alloc, shape.notes(), caller.rank, table, call)
 }

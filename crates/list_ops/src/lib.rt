@@ -8,5 +8,5 @@
 mod builds;
 mod stops;
 
-pub use builds::build;
+pub use builds::{asked_entries, build};
 pub use stops::BuildStop;

@@ -50,6 +50,13 @@ impl Slots {
         self.values.len()
     }
 
+    /// The values of the slots, lent.
+    pub fn values(&self) -> &[u32]
+        ensures { result.now ≡ self.now }
+    {
+        self.values.as_slice()
+    }
+
     /// Sets a slot to a value, in place of the one that stood there. All other slots stay. (GASPI: notify)
     pub fn set(&mut self, note: u64, value: u32)
         requires { note < length self.old }

@@ -1,5 +1,5 @@
 -- What a look at a call finds, and what recording it leaves.
-use Rattle.std.specs.Prelude.{◌≡◌, ℕ, ◌≤◌, Bool, List, [], length, slice_get, Option, None, Some, Result, Ok, Err, if◌then◌else◌, true, false}
+use Rattle.std.specs.Prelude.{◌≡◌, ℕ, ◌≤◌, Bool, List, [], ◌∷◌, length, slice_get, Option, None, Some, Result, Ok, Err, if◌then◌else◌, true, false}
 use Rattle.gaspi_types.specs.CallRows.{row_of}
 use Rattle.gaspi_types.specs.Replies.{is_idle}
 use Rattle.gaspi_types.specs.declared.call_rows.Posting.{Posting}
@@ -53,6 +53,11 @@ BringsMessage look brought = is_idle (recorded_reply look.ready) ≡ false → l
 -- the messages of an inbox are no longer than messages may be
 abbrev pub AreShort : List Message → Type 0
 AreShort inbox = (place : ℕ) (m : Message) → slice_get inbox place ≡ Some m → length m.bytes ≤ 4096
+
+-- the sender and the size of the first message
+abbrev pub front_of : List Message → Option (ℕ × ℕ)
+front_of [] = None
+front_of (message ∷ messages) = Some (message.sender, length message.bytes)
 
 -- What a call that found these kinds leaves in the posts of its rank: an accepted post appends them.
 abbrev pub found_done : Posts → ℕ → Call → List Kind → Posts

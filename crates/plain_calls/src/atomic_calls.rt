@@ -2,36 +2,40 @@
 //! (GASPI: atomics)
 
 ghost use Rattle.std.specs.Prelude.{◌≡◌};
+ghost use Rattle.gaspi_types.specs.declared.shapes.Limits.{Limits};
 ghost use Rattle.gaspi_model.specs.AtomicCalls.{word_finds, fetch_add_leaves, compare_swap_leaves};
+ghost use Rattle.gaspi_model.specs.declared.states.Memory.{Memory};
+ghost use Rattle.gaspi_model.specs.declared.states.Posts.{Posts};
 
-use crate::memories::{bytes_of, segment_at};
-use gaspi_model::{Memory, Posts};
-use gaspi_types::{CompareSwap, FetchAdd, Limits, RankId, Refusal, Reply};
+use gaspi_model::Memory;
+use gaspi_types::{CompareSwap, FetchAdd, OwnSegments, RankId, Refusal, Reply, SegmentTable};
 use segment_tables::{
-    add_to_segment, check_word, is_generation, known_extent, swap_in_segment, word_at,
+    add_to_segment, bytes_of, check_word, is_generation, known_extent, segment_in, swap_in_segment,
+    word_at,
 };
 
-/// Looks at an atomic: it answers the word that stands there. (GASPI: atomic_fetch_add, atomic_compare_swap)
+/// Looks at an atomic of a rank, in a world of so many ranks: it answers the word that stands there. These are the table of the
+/// caller's rank, and the segments of the rank that the call names. (GASPI: atomic_fetch_add, atomic_compare_swap)
 pub fn word_finds(
-    limits: &Limits,
+    ranks: u32,
     me: RankId,
-    posts: &Posts,
-    memory: &Memory,
+    table: &SegmentTable,
+    segments: &OwnSegments,
     seg: u64,
     offset: u64,
     rank: u64,
 ) -> Result<Option<Reply>, Refusal>
-    ensures { result ≡ word_finds limits.now me posts.now memory.now seg offset rank }
+    ensures { (limits : Limits) (posts : Posts) (memory : Memory) → limits.ranks ≡ ranks → posts.segments ≡ table.now → memory.segments ≡ segments.now → result ≡ word_finds limits me posts memory seg offset rank }
 {
-    if rank >= u64::from(limits.ranks) {
+    if rank >= u64::from(ranks) {
         return Err(Refusal::BadRank);
     }
-    let theirs = known_extent(me, &posts.segments, rank, seg).ok_or(Refusal::Unregistered)?;
-    if !is_generation(theirs.generation, segment_at(memory, seg)) {
+    let theirs = known_extent(me, table, rank, seg).ok_or(Refusal::Unregistered)?;
+    if !is_generation(theirs.generation, segment_in(segments, seg)) {
         return Err(Refusal::Unregistered);
     }
     check_word(theirs.size, offset)?;
-    Ok(Some(Reply::Value(word_at(bytes_of(memory, seg), offset))))
+    Ok(Some(Reply::Value(word_at(bytes_of(segments, seg), offset))))
 }
 
 /// Adds to the word. (GASPI: atomic_fetch_add)

@@ -19,9 +19,12 @@ use crate::group_calls::{
     group_delete_leaves, pending_on,
 };
 use crate::looks::Finding;
+use crate::memories::slots_of;
 use crate::memory_calls::{load_finds, store_finds, store_leaves};
 use crate::notification_calls::{reset_finds, reset_leaves, waitsome_finds};
-use crate::passive_calls::{message_of, receive_finds, receive_leaves, send_finds, send_leaves};
+use crate::passive_calls::{
+    front_of, message_of, receive_finds, receive_leaves, send_finds, send_leaves,
+};
 use crate::post_calls::posting_finds;
 use crate::posting::post;
 use crate::queue_calls::{closed, purge_finds, purged, qsize_finds, state_finds, wait_finds};
@@ -55,18 +58,30 @@ fn plain_finds(
     ensures ample { is_load call.now ≡ false → IsOk result }
 {
     Ok(match call {
-        Call::Alloc(call) => alloc_finds(posts, call),
-        Call::Register(call) => register_finds(limits, posts, call),
+        Call::Alloc(call) => alloc_finds(&posts.segments.own, call),
+        Call::Register(call) => register_finds(limits.ranks, &posts.segments.own, call),
         Call::Delete(call) => delete_finds(posts, call),
-        Call::Store(call) => store_finds(posts, call),
-        Call::Load(call) => load_finds(alloc, posts, memory, call)?,
+        Call::Store(call) => store_finds(&posts.segments.own, call),
+        Call::Load(call) => load_finds(alloc, &posts.segments.own, &memory.segments, call)?,
         Call::Wait(call) => wait_finds(posts, call),
         Call::Purge(call) => purge_finds(posts, call),
         Call::Qsize(call) => qsize_finds(posts, call),
-        Call::Waitsome(call) => waitsome_finds(limits, posts, memory, call),
-        Call::Reset(call) => reset_finds(limits, posts, memory, call),
-        Call::PassiveSend(call) => send_finds(limits, posts, memory, call),
-        Call::PassiveReceive(call) => receive_finds(posts, memory, call),
+        Call::Waitsome(call) => {
+            let slots = slots_of(memory, call.seg);
+            waitsome_finds(limits.notes, &posts.segments.own, slots, call)
+        }
+        Call::Reset(call) => {
+            let slots = slots_of(memory, call.seg);
+            reset_finds(limits.notes, &posts.segments.own, slots, call)
+        }
+        Call::PassiveSend(call) => {
+            let room = memory.inbox.len() < limits.inbox as usize;
+            send_finds(limits.ranks, &posts.segments.own, room, call)
+        }
+        Call::PassiveReceive(call) => {
+            let front = front_of(&memory.inbox);
+            receive_finds(&posts.segments.own, front, call)
+        }
         Call::FetchAdd(
             FetchAdd {
                 seg,
@@ -82,7 +97,18 @@ fn plain_finds(
                 rank,
                 ..
             },
-        ) => { word_finds(limits, me, posts, memory, *seg, *offset, *rank) }
+        ) => {
+            let segments = &memory.segments;
+            word_finds(
+                limits.ranks,
+                me,
+                &posts.segments,
+                segments,
+                *seg,
+                *offset,
+                *rank,
+            )
+        }
         Call::GroupCreate => group_create_finds(&posts.groups),
         Call::GroupAdd(call) => {
             let pending = pending_on(&posts.pending, call.group);
@@ -92,7 +118,7 @@ fn plain_finds(
             let pending = pending_on(&posts.pending, call.group);
             group_delete_finds(&posts.groups, pending, call)
         }
-        Call::State => state_finds(posts),
+        Call::State => state_finds(posts.corrupt.as_slice()),
         _ => Ok(Some(Reply::Done)),
     })
 }
@@ -126,7 +152,7 @@ fn brought(
 {
     if let Call::PassiveSend(call) = call {
         if !is_idle_ready(ready) {
-            return Ok(Some(message_of(alloc, me, own, call)?));
+            return Ok(Some(message_of(alloc, me, &own.segments, call)?));
         }
     }
     Ok(None)
@@ -256,7 +282,7 @@ pub fn news(me: RankId, posts: &Posts, call: &Call, look: &Finding) -> Option<Ne
         return None;
     }
     match call {
-        Call::Register(call) => Some(register_news(me, posts, call)),
+        Call::Register(call) => Some(register_news(me, &posts.segments.own, call)),
         _ => None,
     }
 }

@@ -13,6 +13,7 @@ mod looks;
 mod memories;
 mod memory_calls;
 mod notification_calls;
+mod openings;
 mod passive_calls;
 mod post_calls;
 mod posting;
@@ -22,6 +23,7 @@ mod replies;
 mod segment_calls;
 mod threads;
 
+pub use atomic_calls::word_finds;
 pub use calls::{look, news, tell};
 pub use collective_calls::{
     Joining, args_of, called_on, check_fixed, collective_look, collective_ready, may_join,
@@ -31,7 +33,12 @@ pub use group_calls::{group_add_finds, group_create_finds, group_delete_finds, p
 pub use lanes::{is_carried, is_posted, is_read, is_write, may_put, may_take, place_of};
 pub use looks::Finding;
 pub use memories::{bytes_of, new_slots, segment_at, set_slot};
-pub use queue_calls::purged_queue;
+pub use memory_calls::{load_finds, store_finds};
+pub use notification_calls::{reset_finds, waitsome_finds};
+pub use openings::opening_segments;
+pub use passive_calls::{message_of, receive_finds, send_finds};
+pub use queue_calls::{purged_queue, state_finds};
 pub use recording::{Recorded, charge, record};
-pub use segment_calls::News;
+pub use replies::{is_idle, ready_of, recorded_reply};
+pub use segment_calls::{News, alloc_finds, register_finds, register_news};
 pub use threads::{is_running, is_there, thread_at};

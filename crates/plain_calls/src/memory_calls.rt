@@ -2,24 +2,20 @@
 
 ghost use Rattle.std.specs.Prelude.{◌≡◌, IfOk};
 ghost use Rattle.gaspi_model.specs.MemoryCalls.{store_finds, store_leaves, load_finds};
+ghost use Rattle.gaspi_model.specs.declared.states.Memory.{Memory};
+ghost use Rattle.gaspi_model.specs.declared.states.Posts.{Posts};
 ghost use Rattle.plain_calls.specs.Memory.{Loads};
 
-use crate::memories::bytes_of;
-use gaspi_model::{Memory, Posts};
-use gaspi_types::{Load, NoMemory, Refusal, Reply, Rows, Store};
-use segment_tables::{check_own_range, range_of, store_bytes};
+use gaspi_model::Memory;
+use gaspi_types::{Extents, Load, NoMemory, OwnSegments, Refusal, Reply, Rows, Store};
+use segment_tables::{bytes_of, check_own_range, range_of, store_bytes};
 use std::alloc::Global;
 
-/// Checks a store.
-pub fn store_finds(posts: &Posts, call: &Store) -> Result<Option<Reply>, Refusal>
-    ensures { result ≡ store_finds posts.now call.now }
+/// Checks a store: this is the table of the caller's own segments.
+pub fn store_finds(own: &Extents, call: &Store) -> Result<Option<Reply>, Refusal>
+    ensures { (posts : Posts) → posts.segments.own ≡ own.now → result ≡ store_finds posts call.now }
 {
-    check_own_range(
-        &posts.segments.own,
-        call.seg,
-        call.offset,
-        call.bytes.len() as u64,
-    )?;
+    check_own_range(own, call.seg, call.offset, call.bytes.len() as u64)?;
     Ok(Some(Reply::Done))
 }
 
@@ -36,27 +32,27 @@ pub fn store_leaves(memory: &mut Memory, call: &Store)
 }
 
 /// The bytes that a load reads.
-fn loaded<'a>(posts: &Posts, memory: &'a Memory, call: &Load) -> Result<&'a [u8], Refusal>
-    ensures { Loads result (load_finds posts.now memory.now call.now) }
+fn loaded<'a>(own: &Extents, segments: &'a OwnSegments, call: &Load) -> Result<&'a [u8], Refusal>
+    ensures { (posts : Posts) (memory : Memory) → posts.segments.own ≡ own.now → memory.segments ≡ segments.now → Loads result (load_finds posts memory call.now) }
 {
-    check_own_range(&posts.segments.own, call.seg, call.offset, call.size)?;
+    check_own_range(own, call.seg, call.offset, call.size)?;
     Ok(range_of(
-        bytes_of(memory, call.seg),
+        bytes_of(segments, call.seg),
         call.offset as usize,
         call.size as usize,
     ))
 }
 
-/// Checks a load, and copies the bytes that it reads.
+/// Checks a load, and copies the bytes that it reads: these are the table of the caller's own segments, and their bytes.
 pub fn load_finds(
     alloc: Global,
-    posts: &Posts,
-    memory: &Memory,
+    own: &Extents,
+    segments: &OwnSegments,
     call: &Load,
 ) -> Result<Result<Option<Reply>, Refusal>, NoMemory>
-    ensures { IfOk result (λ finds. finds ≡ load_finds posts.now memory.now call.now) }
+    ensures { IfOk result (λ finds. (posts : Posts) (memory : Memory) → posts.segments.own ≡ own.now → memory.segments ≡ segments.now → finds ≡ load_finds posts memory call.now) }
 {
-    match loaded(posts, memory, call) {
+    match loaded(own, segments, call) {
         Ok(bytes) => Ok(Ok(Some(Reply::Bytes(Rows::copied_from(alloc, bytes)?)))),
         Err(refusal) => Ok(Err(refusal)),
     }

@@ -1,47 +1,49 @@
 //! The calls on notification slots: what they find, and what they leave. (GASPI: notifications)
 
 ghost use Rattle.std.specs.Prelude.{◌≡◌};
+ghost use Rattle.gaspi_types.specs.declared.shapes.Limits.{Limits};
+ghost use Rattle.gaspi_model.specs.Memories.{slots_of};
 ghost use Rattle.gaspi_model.specs.NotificationCalls.{waitsome_finds, reset_finds, reset_leaves};
+ghost use Rattle.gaspi_model.specs.declared.states.Memory.{Memory};
+ghost use Rattle.gaspi_model.specs.declared.states.Posts.{Posts};
 
-use crate::memories::{first_set, is_slot_range, set_slot, slots_of};
-use gaspi_model::{Memory, Posts};
-use gaspi_types::{Limits, Refusal, Reply, Reset, Waitsome};
+use crate::memories::{first_set, is_slot_range, set_slot};
+use gaspi_model::Memory;
+use gaspi_types::{Extents, Refusal, Reply, Reset, Waitsome};
 use segment_tables::extent_in;
 
-/// Looks at a wait for a notification: ready where a slot of its range is set. (GASPI: notify_waitsome)
+/// Looks at a wait for a notification: ready where a slot of its range is set. So many slots has a segment, and these are the table of
+/// the caller's own segments and the slots of the one that the call names. (GASPI: notify_waitsome)
 pub fn waitsome_finds(
-    limits: &Limits,
-    posts: &Posts,
-    memory: &Memory,
+    notes: u32,
+    own: &Extents,
+    slots: &[u32],
     call: &Waitsome,
 ) -> Result<Option<Reply>, Refusal>
-    ensures { result ≡ waitsome_finds limits.now posts.now memory.now call.now }
+    ensures { (limits : Limits) (posts : Posts) (memory : Memory) → limits.notes ≡ notes → posts.segments.own ≡ own.now → slots_of memory call.now.seg ≡ slots.now → result ≡ waitsome_finds limits posts memory call.now }
 {
-    extent_in(&posts.segments.own, call.seg).ok_or(Refusal::NoSegment)?;
-    if !is_slot_range(call.begin, call.num, limits.notes) {
+    extent_in(own, call.seg).ok_or(Refusal::NoSegment)?;
+    if !is_slot_range(call.begin, call.num, notes) {
         return Err(Refusal::BadNote);
     }
-    let slots = slots_of(memory, call.seg);
     Ok(first_set(slots, call.begin as usize, call.num as usize).map(Reply::Id))
 }
 
-/// Looks at a reset: it answers the slot's value. (GASPI: notify_reset)
+/// Looks at a reset: it answers the slot's value. So many slots has a segment, and these are the table of the caller's own segments
+/// and the slots of the one that the call names. (GASPI: notify_reset)
 pub fn reset_finds(
-    limits: &Limits,
-    posts: &Posts,
-    memory: &Memory,
+    notes: u32,
+    own: &Extents,
+    slots: &[u32],
     call: &Reset,
 ) -> Result<Option<Reply>, Refusal>
-    ensures { result ≡ reset_finds limits.now posts.now memory.now call.now }
+    ensures { (limits : Limits) (posts : Posts) (memory : Memory) → limits.notes ≡ notes → posts.segments.own ≡ own.now → slots_of memory call.now.seg ≡ slots.now → result ≡ reset_finds limits posts memory call.now }
 {
-    extent_in(&posts.segments.own, call.seg).ok_or(Refusal::NoSegment)?;
-    if call.note >= u64::from(limits.notes) {
+    extent_in(own, call.seg).ok_or(Refusal::NoSegment)?;
+    if call.note >= u64::from(notes) {
         return Err(Refusal::BadNote);
     }
-    let value = slots_of(memory, call.seg)
-        .get(call.note as usize)
-        .copied()
-        .unwrap_or(0);
+    let value = slots.get(call.note as usize).copied().unwrap_or(0);
     Ok(Some(Reply::Value(u64::from(value))))
 }
 

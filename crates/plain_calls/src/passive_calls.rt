@@ -1,48 +1,53 @@
 //! The calls of passive communication: what they find, and what they leave. (GASPI: passive communication)
 
-ghost use Rattle.std.specs.Prelude.{◌≡◌, IfOk, OnOk, OnErr, IsOk, None};
+ghost use Rattle.std.specs.Prelude.{◌≡◌, ◌≤◌, ◌<◌, ◌^◌, IfOk, OnOk, OnErr, IsOk, IfSome, None};
+ghost use Rattle.gaspi_types.specs.Inboxes.{has_room};
+ghost use Rattle.gaspi_types.specs.declared.shapes.Limits.{Limits};
 ghost use Rattle.gaspi_model.specs.PassiveCalls.{send_finds, message_of, send_leaves, receive_finds, receive_leaves};
-ghost use Rattle.plain_calls.specs.Looks.{AreShort};
+ghost use Rattle.gaspi_model.specs.declared.states.Memory.{Memory};
+ghost use Rattle.gaspi_model.specs.declared.states.Posts.{Posts};
+ghost use Rattle.plain_calls.specs.Looks.{AreShort, front_of};
 
-use crate::memories::bytes_of;
-use gaspi_model::{Memory, Posts};
+use gaspi_model::Memory;
 use gaspi_types::{
-    Limits, Message, NoMemory, PassiveReceive, PassiveSend, RankId, Refusal, Reply, Rows,
+    Extents, Message, Messages, NoMemory, OwnSegments, PassiveReceive, PassiveSend, RankId,
+    Refusal, Reply, Rows,
 };
-use segment_tables::{check_message_range, range_of, store_bytes};
+use segment_tables::{bytes_of, check_message_range, range_of, store_bytes};
 use std::alloc::Global;
 
-/// Looks at a send: ready where the inbox of the memory has room. (GASPI: passive_send)
+/// Looks at a send, in a world of so many ranks: ready where the inbox of the rank that it names has room, as is said. This is the
+/// table of the caller's own segments. (GASPI: passive_send)
 pub fn send_finds(
-    limits: &Limits,
-    posts: &Posts,
-    memory: &Memory,
+    ranks: u32,
+    own: &Extents,
+    inbox_has_room: bool,
     call: &PassiveSend,
 ) -> Result<Option<Reply>, Refusal>
-    ensures { result ≡ send_finds limits.now posts.now memory.now call.now }
+    ensures { (limits : Limits) (posts : Posts) (memory : Memory) → limits.ranks ≡ ranks → posts.segments.own ≡ own.now → has_room limits.inbox memory.inbox ≡ inbox_has_room → result ≡ send_finds limits posts memory call.now }
 {
-    if call.rank >= u64::from(limits.ranks) {
+    if call.rank >= u64::from(ranks) {
         return Err(Refusal::BadRank);
     }
-    check_message_range(&posts.segments.own, call.seg, call.offset, call.size)?;
-    if memory.inbox.len() < limits.inbox as usize {
+    check_message_range(own, call.seg, call.offset, call.size)?;
+    if inbox_has_room {
         Ok(Some(Reply::Done))
     } else {
         Ok(None)
     }
 }
 
-/// The message of a send by a rank: the bytes of its range in the own memory, copied.
+/// The message of a send by a rank: the bytes of its range in the own segments, copied.
 pub fn message_of(
     alloc: Global,
     me: RankId,
-    own: &Memory,
+    segments: &OwnSegments,
     call: &PassiveSend,
 ) -> Result<Message, NoMemory>
-    ensures { IfOk result (λ message. message ≡ message_of me own.now call.now) }
+    ensures { IfOk result (λ message. (own : Memory) → own.segments ≡ segments.now → message ≡ message_of me own call.now) }
 {
     let bytes = range_of(
-        bytes_of(own, call.seg),
+        bytes_of(segments, call.seg),
         call.offset as usize,
         call.size as usize,
     );
@@ -63,28 +68,34 @@ pub fn send_leaves(memory: &mut Memory, message: Option<Message>) -> Result<(), 
     Ok(())
 }
 
-/// Looks at a receive: ready where a message is there; the first one has to be short enough. (GASPI: passive_receive)
+/// The sender and the size of the first message of an inbox; None where there is no message.
+pub fn front_of(inbox: &Messages) -> Option<(u32, u32)>
+    requires { AreShort inbox.now }
+    ensures { result ≡ front_of inbox.now }
+{
+    match inbox.as_slice() {
+        [] => None,
+        [first, ..] => Some((first.sender.number(), first.bytes.len() as u32)),
+    }
+}
+
+/// Looks at a receive: ready where a message is there; the first one has to be short enough. These are the table of the caller's own
+/// segments, and the sender and the size of the first message of its inbox. (GASPI: passive_receive)
 pub fn receive_finds(
-    posts: &Posts,
-    memory: &Memory,
+    own: &Extents,
+    front: Option<(u32, u32)>,
     call: &PassiveReceive,
 ) -> Result<Option<Reply>, Refusal>
-    requires { AreShort memory.now.inbox }
-    ensures { result ≡ receive_finds posts.now memory.now call.now }
+    ensures { (posts : Posts) (memory : Memory) → posts.segments.own ≡ own.now → front_of memory.inbox ≡ front → result ≡ receive_finds posts memory call.now }
 {
-    check_message_range(&posts.segments.own, call.seg, call.offset, call.size)?;
-    match memory.inbox.as_slice() {
-        [] => Ok(None),
-        [first, ..] => {
-            let waiting = first.bytes.len();
-            if waiting as u64 > call.size {
-                return Err(Refusal::PassiveSize {
-                    waiting: waiting as u32,
-                });
-            }
-            Ok(Some(Reply::Id(first.sender.number())))
-        }
+    check_message_range(own, call.seg, call.offset, call.size)?;
+    let Some((sender, waiting)) = front else {
+        return Ok(None);
+    };
+    if u64::from(waiting) > call.size {
+        return Err(Refusal::PassiveSize { waiting });
     }
+    Ok(Some(Reply::Id(sender)))
 }
 
 /// Takes the first message, and puts its bytes where the receive says. (GASPI: passive_receive)

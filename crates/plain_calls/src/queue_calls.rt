@@ -6,6 +6,7 @@ ghost use Rattle.std.specs.List.{list_any};
 ghost use Rattle.gaspi_types.specs.Lanes.{has_awaited};
 ghost use Rattle.gaspi_types.specs.Queues.{queue_owed};
 ghost use Rattle.gaspi_model.specs.QueueCalls.{wait_finds, purge_finds, qsize_finds, state_finds, closed, without_entries, emptied, purged};
+ghost use Rattle.gaspi_model.specs.declared.states.Posts.{Posts};
 ghost use Rattle.plain_calls.specs.Room.{purged_queue, owed_at};
 
 use crate::lanes::{has_awaited, lane_owed};
@@ -62,12 +63,12 @@ pub fn qsize_finds(posts: &Posts, call: &Qsize) -> Result<Option<Reply>, Refusal
     Ok(Some(Reply::Value(u64::from(q.open_count))))
 }
 
-/// Looks at the state vector: the ranks that are corrupt. (GASPI: state_vec_get)
-pub fn state_finds(posts: &Posts) -> Result<Option<Reply>, Refusal>
-    requires { length posts.now.corrupt ≤ 32 }
-    ensures { result ≡ state_finds posts.now }
+/// Looks at the state vector: these ranks are corrupt. (GASPI: state_vec_get)
+pub fn state_finds(corrupt: &[bool]) -> Result<Option<Reply>, Refusal>
+    requires { length corrupt.now ≤ 32 }
+    ensures { (posts : Posts) → posts.corrupt ≡ corrupt.now → result ≡ state_finds posts }
 {
-    Ok(Some(Reply::Mask(mask_of(posts.corrupt.as_slice()))))
+    Ok(Some(Reply::Mask(mask_of(corrupt))))
 }
 
 /// Clears the open count of a queue. (GASPI: wait)

@@ -9,23 +9,25 @@ ghost use Rattle.gaspi_types.specs.Queues.{user_of};
 ghost use Rattle.gaspi_types.specs.declared.shapes.Limits.{Limits};
 ghost use Rattle.plain_calls.specs.Room.{HasAllocRoom};
 ghost use Rattle.plain_calls.specs.Segments.{new_made};
+ghost use Rattle.gaspi_model.specs.declared.states.Posts.{Posts};
 
 use crate::lanes::has_user;
 use crate::memories::{new_slots, set_segment};
 use gaspi_model::{Memory, Posts};
 use gaspi_types::{
-    Alloc, Delete, Extent, Limits, NoMemory, Queue, RankId, Refusal, Register, Reply, Rows, Segment,
+    Alloc, Delete, Extent, Extents, Limits, NoMemory, Queue, RankId, Refusal, Register, Reply,
+    Rows, Segment,
 };
 use segment_tables::{
     add_own, check_alloc, extent_in, new_segment, next_generation, remove_own, set_known,
 };
 use std::alloc::Global;
 
-/// Checks a segment that is to be made. (GASPI: segment_alloc)
-pub fn alloc_finds(posts: &Posts, call: &Alloc) -> Result<Option<Reply>, Refusal>
-    ensures { result ≡ alloc_finds posts.now call.now }
+/// Checks a segment that is to be made: this is the table of the caller's own segments. (GASPI: segment_alloc)
+pub fn alloc_finds(own: &Extents, call: &Alloc) -> Result<Option<Reply>, Refusal>
+    ensures { (posts : Posts) → posts.segments.own ≡ own.now → result ≡ alloc_finds posts call.now }
 {
-    check_alloc(&posts.segments.own, call.seg, call.size)?;
+    check_alloc(own, call.seg, call.size)?;
     Ok(Some(Reply::Done))
 }
 
@@ -83,18 +85,15 @@ pub fn alloc_leaves(
     Ok(())
 }
 
-/// Checks a segment that is to be made known to a rank. (GASPI: segment_register)
-pub fn register_finds(
-    limits: &Limits,
-    posts: &Posts,
-    call: &Register,
-) -> Result<Option<Reply>, Refusal>
-    ensures { result ≡ register_finds limits.now posts.now call.now }
+/// Checks a segment that is to be made known to a rank, in a world of so many ranks: this is the table of the caller's own segments.
+/// (GASPI: segment_register)
+pub fn register_finds(ranks: u32, own: &Extents, call: &Register) -> Result<Option<Reply>, Refusal>
+    ensures { (limits : Limits) (posts : Posts) → limits.ranks ≡ ranks → posts.segments.own ≡ own.now → result ≡ register_finds limits posts call.now }
 {
-    if call.rank >= u64::from(limits.ranks) {
+    if call.rank >= u64::from(ranks) {
         return Err(Refusal::BadRank);
     }
-    extent_in(&posts.segments.own, call.seg).ok_or(Refusal::NoSegment)?;
+    extent_in(own, call.seg).ok_or(Refusal::NoSegment)?;
     Ok(Some(Reply::Done))
 }
 
@@ -107,13 +106,13 @@ pub struct News {
 }
 
 /// What a peer is told of a segment that is made known to it. (GASPI: segment_register)
-pub fn register_news(me: RankId, posts: &Posts, call: &Register) -> News
-    ensures { result ≡ record { owner = me; seg = call.now.seg; extent = extent_in posts.now.segments.own call.now.seg } }
+pub fn register_news(me: RankId, own: &Extents, call: &Register) -> News
+    ensures { result ≡ record { owner = me; seg = call.now.seg; extent = extent_in own.now call.now.seg } }
 {
     News {
         owner: me,
         seg: call.seg,
-        extent: extent_in(&posts.segments.own, call.seg),
+        extent: extent_in(own, call.seg),
     }
 }
 

@@ -10,7 +10,6 @@ pub mod OnGroups
 pub mod Moved
 pub mod Opened
 pub mod Parted
-pub mod Ranges
 pub mod Renamed
 pub mod Running
 pub mod Recorded

@@ -1,108 +1,19 @@
 //! The state at the start: the shape's segments and callers, all else zero or empty. (GASPI: segments)
 
-ghost use Rattle.std.specs.Prelude.{◌≡◌, ◌+◌, ◌<◌, ◌≤◌, IfOk, replicate, map, count_by, [], None, false};
+ghost use Rattle.std.specs.Prelude.{◌≡◌, ◌+◌, ◌<◌, ◌≤◌, IfOk, replicate, map, count_by, [], None};
 ghost use Rattle.std.specs.Option.{option_map};
-ghost use Rattle.std.specs.List.{list_any, range_with_len};
-ghost use Rattle.gaspi_types.specs.Segments.{new_segment};
-ghost use Rattle.gaspi_types.specs.World.{is_caller};
-ghost use Rattle.gaspi_model.specs.State.{declared_size, opening_extents, opening_generations, opening_thread, opening_queue, opening_table, opening_posts, opening_segments, opening_slots, opening_memory, opening_part, opening_group, new_slots, is_running};
+ghost use Rattle.std.specs.List.{range_with_len};
+ghost use Rattle.gaspi_model.specs.State.{declared_size, opening_thread, opening_queue, opening_posts, opening_slots, opening_memory, opening_part, opening_group, new_slots, is_running};
 
-use gaspi_model::{Memory, Posts, ThreadState};
-use gaspi_types::{
-    Entry, Extent, Extents, Group, Handles, NoMemory, OwnSegments, Part, Pending, Queue, Rows,
-    Segment, SegmentTable, Shape, all_below,
+use gaspi_model::{
+    Memory, Posts, declared_size, opening_corrupt, opening_table, opening_thread, opening_threads,
 };
-use plain_calls::{is_running, new_slots};
-use segment_tables::new_segment;
+use gaspi_types::{Entry, Group, Handles, NoMemory, Part, Pending, Queue, Rows, Shape, all_below};
+use plain_calls::{is_running, new_slots, opening_segments};
 use std::alloc::Global;
 
-/// The size with which a segment of a rank is declared.
-fn declared_size(shape: &Shape, rank: u32, segment: u32) -> Option<u32>
-    ensures { result ≡ declared_size shape.now rank segment }
-{
-    shape
-        .segments()
-        .iter()
-        .find(|d| d.rank.number() == rank && d.segment.number() == segment)
-        .map(|d| d.size)
-}
-
-/// The segments that a rank declares, by their numbers.
-#[tactic(auto, using(crate::proofs::Ranges::map_range_more))]
-fn opening_extents(alloc: Global, shape: &Shape, rank: u32) -> Result<Extents, NoMemory>
-    ensures { IfOk result (λ extents. extents ≡ opening_extents shape.now rank) }
-{
-    let mut extents = Rows::new(alloc);
-    for segment in 0..32 {
-        let extent = declared_size(shape, rank, segment).map(|size| Extent {
-            generation: 0,
-            size,
-        });
-        extents.push(extent)?;
-    }
-    Ok(extents)
-}
-
-/// What every rank knows of the segments of each rank.
-#[tactic(auto, using(crate::proofs::Ranges::map_range_more))]
-fn opening_known(alloc: Global, shape: &Shape) -> Result<Rows<Extents>, NoMemory>
-    ensures { IfOk result (λ known. known ≡ map (opening_extents shape.now) (range_with_len 0 shape.now.limits.ranks)) }
-{
-    let mut known = Rows::new(alloc);
-    for rank in 0..shape.ranks() {
-        known.push(opening_extents(alloc, shape, rank)?)?;
-    }
-    Ok(known)
-}
-
-/// The generation that the next segment of each number has.
-#[tactic(auto, using(crate::proofs::Ranges::map_range_more))]
-fn opening_generations(alloc: Global, shape: &Shape, rank: u32) -> Result<Rows<u32>, NoMemory>
-    ensures { IfOk result (λ generations. generations ≡ opening_generations shape.now rank) }
-{
-    let mut generations = Rows::new(alloc);
-    for segment in 0..32 {
-        let used = declared_size(shape, rank, segment).is_some();
-        generations.push(u32::from(used))?;
-    }
-    Ok(generations)
-}
-
-/// Whether a thread has a script.
-fn is_declared(shape: &Shape, rank: u32, thread: u32) -> bool
-    ensures { result ≡ list_any (is_caller rank thread) shape.now.callers }
-{
-    shape
-        .callers()
-        .iter()
-        .any(|c| c.rank.number() == rank && c.thread.number() == thread)
-}
-
-/// The state of a thread at the start.
-fn opening_thread(shape: &Shape, rank: u32, thread: u32) -> ThreadState
-    ensures { result ≡ opening_thread shape.now rank thread }
-{
-    if is_declared(shape, rank, thread) {
-        ThreadState::Running
-    } else {
-        ThreadState::Absent
-    }
-}
-
-/// The threads of a rank.
-#[tactic(auto, using(crate::proofs::Ranges::map_range_more))]
-fn opening_threads(alloc: Global, shape: &Shape, rank: u32) -> Result<Rows<ThreadState>, NoMemory>
-    ensures { IfOk result (λ threads. threads ≡ map (opening_thread shape.now rank) (range_with_len 0 4)) }
-{
-    let mut threads = Rows::new(alloc);
-    for thread in 0..4 {
-        threads.push(opening_thread(shape, rank, thread))?;
-    }
-    Ok(threads)
-}
-
 /// The room that a rank has taken at the start: the ends of its threads.
-#[tactic(auto, using(crate::proofs::Ranges::map_range_more))]
+#[tactic(auto, using(gaspi_model::proofs::Ranges::map_range_more))]
 fn opening_taken(shape: &Shape, rank: u32) -> u32
     ensures { result ≡ count_by is_running (map (opening_thread shape.now rank) (range_with_len 0 4)) }
 {
@@ -141,24 +52,6 @@ fn opening_queues(alloc: Global, queues: u32, ranks: u32) -> Result<Rows<Queue>,
     Ok(rows)
 }
 
-/// No rank is corrupt.
-fn opening_corrupt(alloc: Global, ranks: u32) -> Result<Rows<bool>, NoMemory>
-    ensures { IfOk result (λ corrupt. corrupt ≡ replicate ranks false) }
-{
-    Ok(Rows::from_vec(vec![in alloc; false; ranks as usize]?))
-}
-
-/// What a rank has and knows of segments.
-fn opening_table(alloc: Global, shape: &Shape, rank: u32) -> Result<SegmentTable, NoMemory>
-    ensures { IfOk result (λ table. table ≡ opening_table shape.now rank) }
-{
-    Ok(SegmentTable {
-        own: opening_extents(alloc, shape, rank)?,
-        next_generations: opening_generations(alloc, shape, rank)?,
-        known: opening_known(alloc, shape)?,
-    })
-}
-
 /// No collective is pending on any group.
 fn opening_pending(alloc: Global) -> Result<Rows<Option<Pending>>, NoMemory>
     ensures { IfOk result (λ pending. pending ≡ replicate 8 None) }
@@ -187,33 +80,6 @@ fn opening_posts(alloc: Global, shape: &Shape, rank: u32) -> Result<Posts, NoMem
     })
 }
 
-/// The segment of a rank with a number.
-fn opening_segment_at(
-    alloc: Global,
-    shape: &Shape,
-    rank: u32,
-    segment: u32,
-) -> Result<Option<Segment>, NoMemory>
-    ensures { IfOk result (λ s. s ≡ option_map (new_segment 0) (declared_size shape.now rank segment)) }
-{
-    match declared_size(shape, rank, segment) {
-        Some(size) => Ok(Some(new_segment(alloc, 0, size)?)),
-        None => Ok(None),
-    }
-}
-
-/// The segments of a rank, by their numbers.
-#[tactic(auto, using(crate::proofs::Ranges::map_range_more))]
-fn opening_segments(alloc: Global, shape: &Shape, rank: u32) -> Result<OwnSegments, NoMemory>
-    ensures { IfOk result (λ segments. segments ≡ opening_segments shape.now rank) }
-{
-    let mut segments = Rows::new(alloc);
-    for segment in 0..32 {
-        segments.push(opening_segment_at(alloc, shape, rank, segment)?)?;
-    }
-    Ok(segments)
-}
-
 /// The slots of the segment of a rank with a number.
 fn opening_slots_at(
     alloc: Global,
@@ -230,7 +96,7 @@ fn opening_slots_at(
 }
 
 /// The slots of each segment of a rank.
-#[tactic(auto, using(crate::proofs::Ranges::map_range_more))]
+#[tactic(auto, using(gaspi_model::proofs::Ranges::map_range_more))]
 fn opening_slots(
     alloc: Global,
     shape: &Shape,
@@ -257,7 +123,7 @@ fn opening_memory(alloc: Global, shape: &Shape, rank: u32) -> Result<Memory, NoM
 }
 
 /// The posts of each rank.
-#[tactic(auto, using(crate::proofs::Ranges::map_range_more))]
+#[tactic(auto, using(gaspi_model::proofs::Ranges::map_range_more))]
 pub fn all_posts(alloc: Global, shape: &Shape) -> Result<Rows<Posts>, NoMemory>
     ensures { IfOk result (λ posts. posts ≡ map (opening_posts shape.now) (range_with_len 0 shape.now.limits.ranks)) }
 {
@@ -269,7 +135,7 @@ pub fn all_posts(alloc: Global, shape: &Shape) -> Result<Rows<Posts>, NoMemory>
 }
 
 /// The memory of each rank.
-#[tactic(auto, using(crate::proofs::Ranges::map_range_more))]
+#[tactic(auto, using(gaspi_model::proofs::Ranges::map_range_more))]
 pub fn all_memories(alloc: Global, shape: &Shape) -> Result<Rows<Memory>, NoMemory>
     ensures { IfOk result (λ memories. memories ≡ map (opening_memory shape.now) (range_with_len 0 shape.now.limits.ranks)) }
 {
@@ -281,7 +147,7 @@ pub fn all_memories(alloc: Global, shape: &Shape) -> Result<Rows<Memory>, NoMemo
 }
 
 /// The room that each rank has taken.
-#[tactic(auto, using(crate::proofs::Ranges::map_range_more))]
+#[tactic(auto, using(gaspi_model::proofs::Ranges::map_range_more))]
 pub fn all_taken(alloc: Global, shape: &Shape) -> Result<Rows<u32>, NoMemory>
     ensures { IfOk result (λ taken. taken ≡ map (λ rank. count_by is_running (map (opening_thread shape.now rank) (range_with_len 0 4))) (range_with_len 0 shape.now.limits.ranks)) }
 {
@@ -323,7 +189,7 @@ fn opening_group(alloc: Global, ranks: u32, group: u32) -> Result<Group, NoMemor
 }
 
 /// Each group.
-#[tactic(auto, using(crate::proofs::Ranges::map_range_more))]
+#[tactic(auto, using(gaspi_model::proofs::Ranges::map_range_more))]
 pub fn all_groups(alloc: Global, shape: &Shape) -> Result<Rows<Group>, NoMemory>
     ensures { IfOk result (λ groups. groups ≡ map (opening_group shape.now.limits.ranks) (range_with_len 0 8)) }
 {

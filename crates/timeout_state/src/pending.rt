@@ -47,6 +47,16 @@ impl Pending {
         self.table.at(group.index()).as_ref()
     }
 
+    /// What is pending on the group with a number, lent: as `on`, and None of a number that no group has. (GASPI: timeouts)
+    pub fn named(&self, group: u64) -> Option<&gaspi_types::Pending>
+        ensures { option_copied result ≡ entry_at self.now group }
+    {
+        match self.table.get(group as usize) {
+            Some(Some(pending)) => Some(pending),
+            Some(None) | None => None,
+        }
+    }
+
     /// What a collective of a thread meets on a group: `Fresh` where none is pending there, `Same` where it is the one that is. Else
     /// `ActiveCollective` where that is another thread's, or `ResumeOther` where it differs in kind, arguments or values.
     /// (GASPI: timeouts)

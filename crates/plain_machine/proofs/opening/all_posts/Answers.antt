@@ -1,7 +1,7 @@
 use Rattle.std.proofs.Common.{ap, ◌∙◌, ◌++◌, ◌∷◌, []}
 use Rattle.gaspi_model.specs.State.{opening_posts}
 use Rattle.gaspi_model.specs.declared.states.Posts.{Posts}
-use Rattle.plain_machine.proofs.Ranges.{map_range_more}
+use Rattle.gaspi_model.proofs.Ranges.{map_range_more}
 use Rattle.plain_machine.proofs.opening.all_posts.Goals as goal
 
 pub loop-rank-preserved : goal.loop-rank-preserved
