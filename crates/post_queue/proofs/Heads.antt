@@ -24,7 +24,7 @@ head-none (e ∷ lane) none = absurd (let no : ⊥ = cc in no)
 
 -- of the lanes of one queue
 
-lane-there : (lanes : List (List Entry)) (target : ℕ) → position is_nonempty lanes ≡ Some target → IsSome (option_and_then lane_head (slice_get lanes target))
+pub lane-there : (lanes : List (List Entry)) (target : ℕ) → position is_nonempty lanes ≡ Some target → IsSome (option_and_then lane_head (slice_get lanes target))
 lane-there lanes target is =
     let first = position-Some is_nonempty lanes target [] is in
     let at = slice_get-get_or lanes target [] first.0 in
@@ -44,7 +44,7 @@ none-before lanes none = go (nat_lt (position_or_len is_nonempty lanes) (length 
     go true is = absurd (let found : position is_nonempty lanes ≡ Some (position_or_len is_nonempty lanes) = rw is refl in let no : ⊥ = cc in no)
     go false is = ltb-false (position_or_len is_nonempty lanes) (length lanes) is
 
-lane-none : (lanes : List (List Entry)) (other : ℕ) → position is_nonempty lanes ≡ None → option_and_then lane_head (slice_get lanes other) ≡ None
+pub lane-none : (lanes : List (List Entry)) (other : ℕ) → position is_nonempty lanes ≡ None → option_and_then lane_head (slice_get lanes other) ≡ None
 lane-none lanes other none = go (slice_get_cases lanes other).1
   where
     go : ((x : List Entry) × (other < length lanes) × (slice_get lanes other ≡ Some x) × (get_or lanes other x ≡ x)) ⊎ ((length lanes ≤ other) × (slice_get lanes other ≡ None)) → option_and_then lane_head (slice_get lanes other) ≡ None

@@ -1,5 +1,6 @@
 pub mod Counts
 pub mod Heads
+pub mod MovableLanes
 pub mod Nonempty
 pub mod Queues
 pub mod Rings

@@ -1,6 +1,8 @@
 pub mod Kinds
 pub mod LaneStates
 pub mod LanesStates
+pub mod LeastFrom
+pub mod MovableLanes
 pub mod Nonempty
 pub mod Places
 pub mod QueueStates

@@ -1,18 +1,22 @@
 //! The queues of one origin. (GASPI: one-sided communication)
 
-ghost use Rattle.std.specs.Prelude.{◌≡◌, ◌+◌, ◌<◌, ◌≤◌, ◌^◌, true, length, map, replicate, slice_get, sum_by, position, None, Some, Ok, option_copied, IfOk, IfSome, OnOk, OnErr, IsSome, IsSomeAnd};
+ghost use Rattle.std.specs.Prelude.{◌≡◌, ◌≢◌, ℕ, ◌+◌, ◌<◌, ◌≤◌, ◌^◌, true, false, length, map, replicate, slice_get, sum_by, position, None, Some, Ok, option_copied, IfOk, IfSome, IfNone, OnOk, OnErr, IsSome, IsSomeAnd};
 ghost use Rattle.std.specs.List.{list_any};
 ghost use Rattle.gaspi_types.specs.Lanes.{has_user};
+ghost use Rattle.gaspi_types.specs.Masks.{is_member};
 ghost use Rattle.gaspi_types.specs.Queues.{queue_owed, user_of};
 ghost use Rattle.gaspi_types.specs.declared.entries.Entry.{Entry};
 ghost use Rattle.post_drafts.specs.Payloads.{payload_size};
+ghost use Rattle.post_queue.specs.LeastFrom.{AnswersLeast};
+ghost use Rattle.post_queue.specs.MovableLanes.{is_movable, is_movable_lane, is_movable_queue, IsNextLane};
 ghost use Rattle.post_queue.specs.QueueStates.{QueueState, state_of};
 ghost use Rattle.post_queue.specs.Steps.{taken_in, removed_in, posted_failed_in, head_failed_in, closed_queue, purged_queue};
 ghost use Rattle.post_queue.specs.LanesStates.{empty_queue, empty_queues, next_take, next_put, head_of, nonempty_of, post_checks, wait_checks, purge_checks, open_count_of, with_queue, with_posted};
 
 use crate::entries::PostedEntry;
 use crate::queue_rings::QueueRings;
-use gaspi_types::{Entry, NoMemory, RankId, Refusal, Rows};
+use crate::target_sets::{member_from, set_number};
+use gaspi_types::{Entry, NoMemory, QueueId, RankId, Refusal, Rows};
 use post_drafts::Entries;
 use std::alloc::Global;
 use std::marker::Model;
@@ -44,6 +48,17 @@ fn user_place(queues: &[QueueRings], segment: u64) -> Option<usize>
     queues.iter().position(|q| q.has_user(segment))
 }
 
+/// The set of movable queues, where the queue at a place was changed.
+fn movable_after(movable: u32, queues: &Rows<QueueRings>, place: usize) -> u32
+    requires place { place < length queues.now }
+    requires few { length queues.now ≤ 8 }
+    ensures here { IfSome (slice_get queues.now place) (λ (q : QueueState). is_member result place ≡ is_movable q.queue) }
+    ensures others { (other : ℕ) → other < 32 → other ≢ place → is_member result other ≡ is_member movable other }
+{
+    let member = queues.at(place).is_movable();
+    set_number(movable, place as u32, member)
+}
+
 /// The queues of one origin. Contracts see the machine's queues, with how deep each is, to how many ranks each has a lane,
 /// and the number of the next entry.
 ///
@@ -55,17 +70,20 @@ pub struct Lanes {
     ranks: u32,
     next: u32,
     queues: Rows<QueueRings>,
+    /// Which queues are not broken and have an entry.
+    movable: u32,
 }
 
 impl Model for Lanes {
     ghost use Rattle.std.specs.Prelude.{map};
-    ghost use Rattle.post_queue.specs.LanesStates.{LanesState, queue_in, IsLanes};
+    ghost use Rattle.post_queue.specs.LanesStates.{LanesState, queue_in};
+    ghost use Rattle.post_queue.specs.MovableLanes.{AreMarked};
 
     ghost Value = { LanesState };
 
     ghost view = { λ s. record { depth = s.depth; ranks = s.ranks; next = s.next; queues = map queue_in s.queues } };
 
-    ghost invariant = { λ s. IsLanes s.depth s.ranks s.queues };
+    ghost invariant = { λ s. AreMarked s.depth s.ranks s.queues s.movable };
 }
 
 impl Lanes {
@@ -82,6 +100,7 @@ impl Lanes {
             ranks,
             next: 0,
             queues: empty_rings(alloc, queues, ranks, depth)?,
+            movable: 0,
         })
     }
 
@@ -120,8 +139,9 @@ impl Lanes {
     {
         let need = entries.len() as u32;
         self.check_post(queue, need)?;
-        let rings = self.queues.at_mut(queue as usize);
-        rings.post(target, self.next, entries);
+        let place = queue as usize;
+        self.queues.at_mut(place).post(target, self.next, entries);
+        self.movable = movable_after(self.movable, &self.queues, place);
         self.next += need;
         Ok(())
     }
@@ -155,14 +175,50 @@ impl Lanes {
         rings.nonempty_lane()
     }
 
+    /// The least target from a number on to which a queue that is not broken has a nonempty lane.
+    fn lane_from(&self, queue: QueueId, from: u32) -> Option<RankId>
+        requires { from < 32 }
+        ensures { AnswersLeast (is_movable_lane self.now.queues queue) from result }
+    {
+        let rings = self.queues.get(queue.index())?;
+        rings.movable_lane_from(from)
+    }
+
+    /// The least queue from a number on that is not broken and has a nonempty lane.
+    fn queue_from(&self, from: u32) -> Option<QueueId>
+        requires { from < 32 }
+        ensures { AnswersLeast (is_movable_queue self.now.queues) from result }
+    {
+        let _ = &self.queues;
+        let queue = member_from(self.movable, from)?;
+        Some(QueueId::of(queue))
+    }
+
+    /// The next nonempty lane of a queue that is not broken, in cyclic order by queue and target, after a lane: who asks again
+    /// and again after the lane that was answered comes to every such lane. None exactly where there is none; then one word is
+    /// read. No lane and no queue is walked over. (own choice)
+    pub fn next_lane(&self, after: (QueueId, RankId)) -> Option<(QueueId, RankId)>
+        ensures none { IfNone result ((queue target : ℕ) → is_movable_lane self.now.queues queue target ≡ false) }
+        ensures next { IfSome result (IsNextLane self.now.queues after) }
+    {
+        let first = self.queue_from(0)?;
+        let (queue, target) = after;
+        if let Some(later) = self.lane_from(queue, target.number() + 1) {
+            return Some((queue, later));
+        }
+        let next = self.queue_from(queue.number() + 1).unwrap_or(first);
+        let head = self.lane_from(next, 0)?;
+        Some((next, head))
+    }
+
     /// The entry of `front_posted` takes its bytes, and stays in its place. It takes no memory.
     pub fn mark_carried(&mut self, queue: u64, target: RankId, bytes: &[u8])
         requires { IsSomeAnd (next_take self.old queue target) (λ (e : Entry). length bytes.now ≡ payload_size e.kind) }
         ensures { self.new ≡ with_queue self.old queue (taken_in target bytes.now) }
     {
-        self.queues
-            .at_mut(queue as usize)
-            .mark_carried(target, bytes);
+        let place = queue as usize;
+        self.queues.at_mut(place).mark_carried(target, bytes);
+        self.movable = movable_after(self.movable, &self.queues, place);
     }
 
     /// The entry of `front_carried` goes.
@@ -170,7 +226,9 @@ impl Lanes {
         requires { IsSome (next_put self.old queue target) }
         ensures { self.new ≡ with_queue self.old queue (removed_in target) }
     {
-        self.queues.at_mut(queue as usize).remove(target);
+        let place = queue as usize;
+        self.queues.at_mut(place).remove(target);
+        self.movable = movable_after(self.movable, &self.queues, place);
     }
 
     /// The entry of `front_posted` fails in its place, and the queue is broken with its target. (GASPI: state vector)
@@ -178,7 +236,9 @@ impl Lanes {
         requires { IsSome (next_take self.old queue target) }
         ensures { self.new ≡ with_queue self.old queue (posted_failed_in target) }
     {
-        self.queues.at_mut(queue as usize).fail_posted(target);
+        let place = queue as usize;
+        self.queues.at_mut(place).fail_posted(target);
+        self.movable = movable_after(self.movable, &self.queues, place);
     }
 
     /// The entry of `front_carried` fails in its place, and the queue is broken with its target. (GASPI: state vector)
@@ -186,7 +246,9 @@ impl Lanes {
         requires { IsSome (next_put self.old queue target) }
         ensures { self.new ≡ with_queue self.old queue (head_failed_in target) }
     {
-        self.queues.at_mut(queue as usize).fail_carried(target);
+        let place = queue as usize;
+        self.queues.at_mut(place).fail_carried(target);
+        self.movable = movable_after(self.movable, &self.queues, place);
     }
 
     /// The least queue with an entry that uses an own segment. None for a number over 31. (GASPI: segments)
@@ -214,7 +276,9 @@ impl Lanes {
         requires { wait_checks self.old.queues queue ≡ Ok true }
         ensures { self.new ≡ with_queue self.old queue closed_queue }
     {
-        self.queues.at_mut(queue as usize).close_wait();
+        let place = queue as usize;
+        self.queues.at_mut(place).close_wait();
+        self.movable = movable_after(self.movable, &self.queues, place);
     }
 
     /// Drops every entry of a queue, which is then as it was when it was made. `BadQueue` where there is no such queue.
@@ -229,6 +293,7 @@ impl Lanes {
             return Err(Refusal::BadQueue);
         }
         self.queues.at_mut(place).purge();
+        self.movable = movable_after(self.movable, &self.queues, place);
         Ok(())
     }
 

@@ -6,6 +6,8 @@ ghost use Rattle.gaspi_types.specs.Lanes.{has_user, posted_entries};
 ghost use Rattle.gaspi_types.specs.Queues.{queue_owed, with_entries};
 ghost use Rattle.gaspi_types.specs.declared.entries.Entry.{Entry};
 ghost use Rattle.post_drafts.specs.Payloads.{payload_size};
+ghost use Rattle.post_queue.specs.LeastFrom.{AnswersLeast};
+ghost use Rattle.post_queue.specs.MovableLanes.{is_movable, is_movable_to};
 ghost use Rattle.post_queue.specs.Nonempty.{nonempty_in};
 ghost use Rattle.post_queue.specs.QueueStates.{state_of, cleared_front};
 ghost use Rattle.post_queue.specs.Steps.{take_in, put_in, head_in, taken_in, removed_in, posted_failed_in, head_failed_in, closed_queue, purged_queue, room_checks, wait_in};
@@ -14,7 +16,7 @@ use crate::entries::PostedEntry;
 use crate::kinds::Progress;
 use crate::lane_rings::LaneRings;
 use crate::tallies::Tally;
-use crate::target_sets::{first_member, set_member};
+use crate::target_sets::{first_member, member_from, set_member};
 use gaspi_types::{Entry, NoMemory, RankId, Refusal, Rows};
 use post_drafts::{Draft, Entries};
 use std::alloc::Global;
@@ -201,6 +203,26 @@ impl QueueRings {
     {
         let _ = &self.lanes;
         first_member(self.nonempty)
+    }
+
+    /// Whether it is not broken, and has a nonempty lane. No lane is walked over.
+    pub fn is_movable(&self) -> bool
+        ensures { result ≡ is_movable self.now.queue }
+    {
+        self.broken.is_none() && self.nonempty_lane().is_some()
+    }
+
+    /// The least target from a number on whose lane has an entry, where the queue is not broken. No lane is walked over.
+    pub fn movable_lane_from(&self, from: u32) -> Option<RankId>
+        requires { from < 32 }
+        ensures { AnswersLeast (is_movable_to (Some self.now.queue)) from result }
+    {
+        let _ = &self.lanes;
+        if self.broken.is_some() {
+            return None;
+        }
+        let target = member_from(self.nonempty, from)?;
+        Some(RankId::of(target))
     }
 
     /// Whether an entry uses an own segment.

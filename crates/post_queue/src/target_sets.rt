@@ -1,17 +1,19 @@
-//! Sets of targets as one number: bit r is the mark of rank r. (own choice)
+//! Sets of targets, and of queues, as one number: bit r is the mark of rank r, or of queue r. (own choice)
 
 ghost use Rattle.std.specs.Prelude.{◌≡◌, ◌≢◌, ℕ, ◌<◌, ◌≤◌, true, false, IfSome, IfNone};
 ghost use Rattle.gaspi_types.specs.Masks.{is_member};
+ghost use Rattle.post_queue.specs.LeastFrom.{AnswersLeast};
 
-use gaspi_types::{RankId, with_member};
+use gaspi_types::RankId;
 
-/// A set with a target removed. One that is not there changes nothing.
-fn without_member(mask: u32, target: RankId) -> u32
-    ensures gone { is_member result target ≡ false }
-    ensures others { (other : ℕ) → other < 32 → other ≢ target → is_member result other ≡ is_member mask other }
+/// A set in which a number is a member, or is not, as said. Every other member stays.
+pub fn set_number(mask: u32, number: u32, member: bool) -> u32
+    requires { number < 32 }
+    ensures here { is_member result number ≡ member }
+    ensures others { (other : ℕ) → other < 32 → other ≢ number → is_member result other ≡ is_member mask other }
 {
-    let bit = target.number();
-    mask & !(1 << bit)
+    let bit = 1 << number;
+    if member { mask | bit } else { mask & !bit }
 }
 
 /// A set in which a target is a member, or is not, as said. Every other member stays.
@@ -19,11 +21,7 @@ pub fn set_member(mask: u32, target: RankId, member: bool) -> u32
     ensures here { is_member result target ≡ member }
     ensures others { (other : ℕ) → other < 32 → other ≢ target → is_member result other ≡ is_member mask other }
 {
-    if member {
-        with_member(mask, target)
-    } else {
-        without_member(mask, target)
-    }
+    set_number(mask, target.number(), member)
 }
 
 /// The least member of a set of targets below 16. None exactly for the empty set.
@@ -38,4 +36,17 @@ pub fn first_member(mask: u32) -> Option<RankId>
         return None;
     }
     Some(RankId::of(mask.trailing_zeros()))
+}
+
+/// The least member of a set from a number on. None exactly where there is none.
+pub fn member_from(mask: u32, from: u32) -> Option<u32>
+    requires { from < 32 }
+    ensures least { AnswersLeast (is_member mask) from result }
+    ensures bound { IfSome result (λ number. number < 32) }
+{
+    let rest = mask >> from;
+    if rest == 0 {
+        return None;
+    }
+    Some(from + rest.trailing_zeros())
 }

@@ -1,4 +1,4 @@
-use gaspi_types::{ByteRange, Kind, NoMemory, NoteSlot, Phase, RankId, Refusal};
+use gaspi_types::{ByteRange, Kind, NoMemory, NoteSlot, Phase, QueueId, RankId, Refusal};
 use post_drafts::{Entries, payload_size};
 use post_queue::Lanes;
 use std::alloc::Global;
@@ -140,6 +140,14 @@ fn is_nonempty(lanes: &Lanes, queue: u64, target: Option<RankId>) -> bool {
     lanes.nonempty_lane(queue) == target
 }
 
+/// Whether that is the next lane that may be moved after a lane, by the numbers of its queue and its target.
+fn is_next(lanes: &Lanes, queue: QueueId, target: RankId, next: Option<(u32, u32)>) -> bool {
+    match lanes.next_lane((queue, target)) {
+        Some((queue, target)) => next == Some((queue.number(), target.number())),
+        None => next.is_none(),
+    }
+}
+
 /// What a post of so many entries to a queue would answer.
 fn checked(lanes: &Lanes, queue: u64, entries: u32) -> Result<(), Refusal> {
     lanes.check_post(queue, entries)
@@ -229,6 +237,15 @@ fn are_checked(lanes: &Lanes, near: RankId, far: RankId) -> bool {
         && is_nonempty(lanes, 1, Some(far))
 }
 
+/// Whether the lanes come one after another: both of queue 0, then the one of queue 1, and then the first again.
+fn are_in_order(lanes: &Lanes, near: RankId, far: RankId) -> bool {
+    is_next(lanes, QueueId::of(0), near, Some((0, 1)))
+        && is_next(lanes, QueueId::of(0), far, Some((1, 1)))
+        && is_next(lanes, QueueId::of(1), near, Some((1, 1)))
+        && is_next(lanes, QueueId::of(1), far, Some((0, 0)))
+        && is_next(lanes, QueueId::of(7), near, Some((0, 0)))
+}
+
 /// Whether a queue is broken with rank 1.
 fn is_broken(lanes: &Lanes, queue: u64) -> bool {
     matches!(waiting(lanes, queue), Err(Refusal::QueueBroken { rank: 1 }))
@@ -270,10 +287,13 @@ fn failures_break_their_queue_alone(rt: HostRuntime) -> Result<(), Fail> {
     let mut lanes = empty(alloc)?;
     assert!(rt; are_filled(alloc, &mut lanes, near, far)?);
     assert!(rt; are_checked(&lanes, near, far));
+    assert!(rt; are_in_order(&lanes, near, far));
     assert!(rt; is_failed(alloc, &mut lanes, near, far)?);
+    assert!(rt; is_next(&lanes, QueueId::of(1), far, Some((1, 1))));
     assert!(rt; are_kept(&lanes));
     assert!(rt; is_purged(&mut lanes));
     assert!(rt; fail_take(&mut lanes, 1, far));
     assert!(rt; is_broken(&lanes, 1) && counts(&lanes, 6, 2));
+    assert!(rt; is_next(&lanes, QueueId::of(0), near, None));
     Ok(())
 }

@@ -1,6 +1,12 @@
 use Rattle.post_queue.specs.Steps.{head_failed_in}
+use Rattle.post_queue.proofs.MovableLanes.{marks-changed, width-head_failed}
 use Rattle.post_queue.proofs.Queues.{queues-changed}
 use Rattle.post_queue.proofs.lanes.Lanes.fail_carried.Goals as goal
+
+pub invariant_of-self : goal.invariant_of-self
+invariant_of-self c =
+    marks-changed _ _ c.self.inside.movable c.movable_after-self-inside.result c.self.inside.queues c.args.queue c.at_mut.result.now c.fail_carried.new.self (head_failed_in c.args.target)
+    c.self.invariant c.at_mut.ensures.value c.fail_carried.ensures (width-head_failed c.args.target c.at_mut.result.now.queue) c.movable_after-self-inside.ensures.here c.movable_after-self-inside.ensures.others
 
 pub returns : goal.returns
 returns c = queues-changed _ _ _ c.self.inside.queues c.args.queue c.at_mut.result.now c.fail_carried.new.self c.args.self.now (head_failed_in c.args.target) c.at_mut.ensures.value c.fail_carried.ensures c.self.view_is

@@ -2,8 +2,12 @@ use Rattle.std.proofs.Common.{ℕ, List, map, ◌∙◌, ap}
 use Rattle.gaspi_types.specs.declared.entries.Queue.{Queue}
 use Rattle.post_queue.specs.QueueStates.{QueueState, state_of}
 use Rattle.post_queue.specs.LanesStates.{LanesState, queue_in, empty_queue}
+use Rattle.post_queue.proofs.MovableLanes.{new-marks}
 use Rattle.post_queue.proofs.Queues.{fresh-queues}
 use Rattle.post_queue.proofs.lanes.Lanes.new.Goals as goal
+
+pub invariant_of-result : goal.invariant_of-result
+invariant_of-result c = new-marks c.args.depth c.args.ranks c.args.queues _ c.requires.depth c.requires.queues c.in_ok-empty_rings.ensures
 
 pub returns : goal.returns
 returns c =
