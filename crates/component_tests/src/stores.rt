@@ -1,9 +1,11 @@
-//! The parts of a runtime that no command uses: segments, slots, drafts, queues, inboxes, groups and their turns.
+//! The parts of a runtime that no command uses: segments, slots, drafts, queues, inboxes, groups and their turns,
+//! and the nodes that are made of them.
 
 mod drafts;
 mod groups;
 mod lists;
 mod messages;
+mod nodes;
 mod pendings;
 mod queues;
 mod segments;

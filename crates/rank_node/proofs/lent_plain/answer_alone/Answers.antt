@@ -1,0 +1,9 @@
+use Rattle.std.proofs.Common.{None}
+use Rattle.rank_node.proofs.PlainNodes.{looks-between}
+use Rattle.rank_node.proofs.lent_plain.answer_alone.Goals as goal
+
+pub look-requires-clause-corrupt : goal.look-requires-clause-corrupt
+look-requires-clause-corrupt c = (looks-between c.args.invocation.now.call.now c.args.own.now None c.requires.lent).corrupt
+
+pub look-requires-clause-capacity : goal.look-requires-clause-capacity
+look-requires-clause-capacity c = (looks-between c.args.invocation.now.call.now c.args.own.now None c.requires.lent).capacity

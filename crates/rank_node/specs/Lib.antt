@@ -1,0 +1,15 @@
+pub mod Values
+pub mod Views
+pub mod Lending
+pub mod Making
+pub mod Effects
+pub mod Rooms
+pub mod Openings
+pub mod Capacities
+pub mod CapacityViews
+pub mod Numbers
+pub mod Collectives
+pub mod CollectiveSteps
+pub mod Transfers
+pub mod Fronts
+pub mod TransferSteps

@@ -1,0 +1,52 @@
+-- The memory that is reserved for a call before anything is recorded.
+use Rattle.std.specs.Prelude.{◌≡◌, ℕ, ◌≤◌, List, length, Option, None, Some, Result, Ok}
+use Rattle.gaspi_types.specs.CallRows.{row_of}
+use Rattle.gaspi_types.specs.SegmentTables.{alloc_checks, own_range_checks}
+use Rattle.gaspi_types.specs.declared.call_rows.Posting.{Posting}
+use Rattle.gaspi_types.specs.declared.calls.Call.{Call}
+use Rattle.gaspi_types.specs.declared.calls.Call.TheVariants.{Alloc, Create, Load}
+use Rattle.gaspi_types.specs.declared.entries.Kind.{Kind}
+use Rattle.gaspi_types.specs.declared.replies.Refusal.{Refusal}
+use Rattle.gaspi_types.specs.declared.replies.Reply.{Reply}
+use Rattle.gaspi_types.specs.declared.replies.Reply.TheVariants as replies
+use Rattle.gaspi_model.specs.Calls.{call_asks}
+use Rattle.gaspi_model.specs.PassiveCalls.{brought_by}
+use Rattle.rank_node.specs.Numbers.{capacities_for, ReplyFits}
+use Rattle.rank_node.specs.Making.{made_segment}
+use Rattle.rank_node.specs.Values.{PostsValue, MemoryValue}
+use Rattle.rank_node.specs.declared.making.MadeSegment.{MadeSegment}
+use Rattle.rank_node.specs.declared.rooms.Room.{Room}
+
+-- of a call that posts, the entries that it asks for, with room for their bytes
+abbrev pub HasEntries : Option Posting → Result (List Kind) Refusal → Option (List Kind) → Type 0
+HasEntries None asked entries = Unit {0}
+HasEntries (Some to) asked entries = (kinds : List Kind) → asked ≡ Ok kinds → entries ≡ Some kinds
+
+-- of a call that makes a segment, where it may be made, that segment
+abbrev pub HasMade : PostsValue → Call → Option MadeSegment → Type 0
+HasMade p (Alloc call) made = alloc_checks p.posts.segments.own call.seg call.size ≡ Ok tt → made ≡ Some (made_segment p.limits p.posts call.seg call.size)
+HasMade p (Create call) made = alloc_checks p.posts.segments.own call.seg call.size ≡ Ok tt → made ≡ Some (made_segment p.limits p.posts call.seg call.size)
+HasMade p call made = Unit {0}
+
+-- of a load, where it is not refused, as many bytes as it reads
+abbrev pub HasBytes : PostsValue → Call → List ℕ → Type 0
+HasBytes p (Load call) bytes = own_range_checks p.posts.segments.own call.seg call.offset call.size ≡ Ok tt → length bytes ≡ call.size
+HasBytes p call bytes = Unit {0}
+
+-- the row of the call, and all that its record may need; of a send its message
+pub record IsRecordRoom (p : PostsValue) (own : MemoryValue) (call : Call) (room : Room) : Type 0 where
+  pub row : room.row ≡ row_of call
+  pub entries : HasEntries (row_of call).posting (call_asks p.limits p.me p.posts call) room.entries
+  pub made : HasMade p call room.made
+  pub message : room.message ≡ brought_by p.me own.memory call
+
+-- and all that its reply may need besides
+pub record IsRoomFor (p : PostsValue) (own : MemoryValue) (call : Call) (room : Room) : Type 0 where
+  pub recording : IsRecordRoom p own call room
+  pub bytes : HasBytes p call room.bytes
+  pub numbers : room.numbers ≡ capacities_for call
+
+-- an equal reply takes no memory but the room's lists
+abbrev pub FitsRoom : Reply → Room → Type 0
+FitsRoom (replies.Bytes bytes) room = length bytes ≤ length room.bytes
+FitsRoom reply room = ReplyFits reply room.numbers.caller

@@ -1,0 +1,84 @@
+-- What the take and the put of a lane's next entry look at in a rank's posts and in the memory that they work on, and what they
+-- leave. (GASPI: one-sided communication)
+use Rattle.std.specs.Prelude.{◌≡◌, ℕ, ◌<◌, Bool, true, List, [], ◌∷◌, ◌++◌, length, slice_set, IsSome, IsSomeAnd, if◌then◌else◌}
+use Rattle.gaspi_types.specs.Tables.{changed_at}
+use Rattle.gaspi_types.specs.declared.entries.Entry.{Entry}
+use Rattle.gaspi_types.specs.declared.entries.Kind.{Kind}
+use Rattle.gaspi_types.specs.declared.entries.Queue.{Queue}
+use Rattle.gaspi_types.specs.declared.events.Event.{Event}
+use Rattle.gaspi_types.specs.declared.events.Event.TheVariants.{Take, Put}
+use Rattle.gaspi_types.specs.declared.events.Outcome.{Outcome}
+use Rattle.gaspi_types.specs.declared.events.Outcome.TheVariants.{Applied, Failed}
+use Rattle.gaspi_types.specs.declared.events.Transfer.{Transfer}
+use Rattle.gaspi_model.specs.Posting.{counted}
+use Rattle.gaspi_model.specs.Transfers.{taken_bytes, take_outcome, memory_put}
+use Rattle.gaspi_model.specs.declared.states.Posts.{Posts}
+use Rattle.gaspi_model.specs.declared.states.Memory.{Memory}
+use Rattle.post_drafts.specs.Payloads.{payload_size}
+use Rattle.post_queue.specs.LanesStates.{LanesState, next_take, next_put}
+use Rattle.post_queue.specs.Steps.{taken_in, posted_failed_in, removed_in, head_failed_in}
+use Rattle.rank_node.specs.Values.{PostsValue}
+
+-- the lanes of a rank's posts
+abbrev pub lanes_of : PostsValue → LanesState
+lanes_of p = record { depth = p.limits.depth; ranks = p.limits.ranks; next = p.posts.next; queues = p.posts.queues }
+
+-- the events of a transfer, by how it ends
+abbrev pub take_of : Transfer → Outcome → Event
+take_of t outcome = Take t.origin t.queue t.target t.number outcome
+
+abbrev pub put_of : Transfer → Outcome → Event
+put_of t outcome = Put t.origin t.queue t.target t.number outcome
+
+abbrev pub event_of : Transfer → Outcome → Event
+event_of t outcome = if t.put then put_of t outcome else take_of t outcome
+
+-- An entry takes as many bytes as it has room for, unless its take fails.
+abbrev pub FitsTaken : Memory → Kind → Outcome → Type 0
+FitsTaken memory kind Applied = length (taken_bytes memory kind) ≡ payload_size kind
+FitsTaken memory kind Failed = Unit {0}
+
+-- the change of the queue of a transfer
+abbrev pub take_change : ℕ → List ℕ → Outcome → Queue → Queue
+take_change target bytes Applied q = taken_in target bytes q
+take_change target bytes Failed q = posted_failed_in target q
+
+abbrev pub put_change : ℕ → Outcome → Queue → Queue
+put_change target Applied q = removed_in target q
+put_change target Failed q = head_failed_in target q
+
+-- a target is corrupt to which a transfer has failed (state vector)
+abbrev pub marked : List Bool → ℕ → Outcome → List Bool
+marked corrupt target Applied = corrupt
+marked corrupt target Failed = slice_set corrupt target true
+
+-- the posts of an origin after a transfer, but for the count of events
+abbrev pub posts_taken : Posts → ℕ → ℕ → List ℕ → Outcome → Posts
+posts_taken posts queue target bytes outcome = record posts {
+  queues = changed_at posts.queues queue (take_change target bytes outcome);
+  corrupt = marked posts.corrupt target outcome;
+}
+
+abbrev pub posts_put : Posts → ℕ → ℕ → Outcome → Posts
+posts_put posts queue target outcome = record posts {
+  queues = changed_at posts.queues queue (put_change target outcome);
+  corrupt = marked posts.corrupt target outcome;
+}
+
+-- the memory that a put works on, after it
+abbrev pub memory_left : Memory → Entry → Outcome → Memory
+memory_left memory e Applied = memory_put memory e
+memory_left memory e Failed = memory
+
+-- a rank's posts changed, with one event more in its rank journal
+abbrev pub recorded : PostsValue → Posts → ℕ → Event → PostsValue
+recorded p posts place event = record p { posts = counted posts; journal = p.journal ++ record { place = place; event = event } ∷ [] }
+
+-- What is asked of a transfer of the next entry of a lane: there is one, what it takes fits, and there is room for the event.
+pub record MayTakeFrom (p : PostsValue) (source : Memory) (t : Transfer) : Type 0 where
+  pub next : IsSomeAnd (next_take (lanes_of p) t.queue t.target) (λ (e : Entry). FitsTaken source e.kind (take_outcome source e.kind))
+  pub room : p.posts.events < p.limits.events
+
+pub record MayPutNext (p : PostsValue) (t : Transfer) : Type 0 where
+  pub next : IsSome (next_put (lanes_of p) t.queue t.target)
+  pub room : p.posts.events < p.limits.events

@@ -1,0 +1,145 @@
+//! A collective is recorded with its reply. (GASPI: collectives)
+
+ghost use Rattle.std.specs.Prelude.{◌≡◌, ℕ, true, false, Option, None, Some};
+ghost use Rattle.gaspi_types.specs.CallRows.{row_of};
+ghost use Rattle.gaspi_types.specs.Collectives.{with_completed};
+ghost use Rattle.gaspi_types.specs.Replies.{is_idle};
+ghost use Rattle.gaspi_types.specs.declared.events.Event.TheVariants.{Called};
+ghost use Rattle.gaspi_types.specs.declared.groups.Group.{Group};
+ghost use Rattle.collective_engine.specs.Turns.{is_in};
+ghost use Rattle.gaspi_model.specs.CollectiveCalls.{told_posts, completed_posts};
+ghost use Rattle.gaspi_model.specs.declared.states.State.{State};
+ghost use Rattle.plain_calls.specs.Room.{HasTellingRoom};
+ghost use Rattle.plain_calls.specs.Turns.{group_met};
+ghost use Rattle.rank_node.specs.Collectives.{MayLeave, IsBuiltYet, MayComplete, with_all_known, completion_effect};
+ghost use Rattle.rank_node.specs.CollectiveSteps.{MayStepOn};
+ghost use Rattle.rank_node.specs.Lending.{IsGroupNode, IsStepOn, IsLeft};
+ghost use Rattle.rank_node.specs.declared.nodes.Node.{Node};
+
+use crate::node_posts::NodePosts;
+use crate::nodes::{GroupNode, Node};
+use gaspi_types::{
+    Call, CallerId, Event, Extent, GroupId, Made, RankId, Reply, SegmentTable, ThreadId,
+};
+use plain_calls::is_idle;
+use segment_tables::set_known;
+
+/// Makes a segment of each of these ranks known, in the generation in which the rank has made it. (GASPI: segment_create)
+fn make_known(table: &mut SegmentTable, made: &[Made], seg: u64, size: u32)
+    ensures { table.new ≡ with_all_known seg size made.now table.old }
+{
+    match made {
+        [] => {}
+        [first, others @ ..] => {
+            let extent = Some(Extent {
+                generation: first.generation,
+                size,
+            });
+            set_known(table, first.rank, seg, extent);
+            make_known(table, others, seg, size);
+        }
+    }
+}
+
+/// What a collective changes of its rank's groups and segments as it completes: a commit marks its group as committed, and a segment
+/// that was made is known of all members. (GASPI: group_commit, segment_create)
+fn apply_effect(own: &mut NodePosts, group: &GroupNode, me: RankId, id: GroupId, call: &Call)
+    requires built { IsBuiltYet own.old.posts.groups id call.now }
+    requires bounded { HasTellingRoom call.now }
+    requires member { is_in group.now.rounds.members me ≡ true }
+    ensures { (g : Group) → IsGroupNode g group.now → own.new ≡ record own.old { posts = told_posts g me id call.now own.old.posts } }
+{
+    match call {
+        Call::Commit(_) => own.groups.committed(u64::from(id.number())),
+        Call::Create(call) => {
+            let made = group.rounds.generations(me);
+            make_known(
+                &mut own.segments,
+                made.as_slice(),
+                call.seg,
+                call.size as u32,
+            );
+        }
+        _ => {}
+    }
+}
+
+/// A rank leaves its round, which is full.
+fn leave(group: &mut GroupNode, me: RankId)
+    requires { (g : Group) × MayLeave g group.old me }
+    ensures { (g : Group) → IsGroupNode g group.old → IsGroupNode (with_completed g me) group.new }
+{
+    prove!(group.rounds.full(me));
+    group.rounds.leave(me);
+}
+
+/// A collective of a thread completes.
+fn complete_round(
+    own: &mut NodePosts,
+    group: &mut GroupNode,
+    me: RankId,
+    thread: ThreadId,
+    id: GroupId,
+    call: &Call,
+)
+    requires own { me ≡ own.old.me }
+    requires done { MayComplete own.old group.old thread id call.now }
+    ensures posts { (g : Group) → IsGroupNode g group.old → own.new ≡ record own.old { posts = completed_posts own.old.posts g me id call.now } }
+    ensures group { (g : Group) → IsGroupNode g group.old → IsGroupNode (with_completed g me) group.new }
+{
+    apply_effect(own, group, me, id, call);
+    own.pending.take_out(id, thread);
+    leave(group, me);
+}
+
+/// What a collective with a reply leaves, its event not counted: a refusal or a timeout nothing.
+fn complete_parts(
+    own: &mut NodePosts,
+    group: &mut GroupNode,
+    caller: &CallerId,
+    id: GroupId,
+    call: &Call,
+    reply: &Reply,
+)
+    requires own { caller.now.rank ≡ own.old.me }
+    requires done { is_idle reply.now ≡ false → MayComplete own.old group.old caller.now.thread id call.now }
+    ensures posts { (g : Group) → IsGroupNode g group.old → own.new ≡ record own.old { posts = completion_effect own.old.posts g caller.now.rank id call.now reply.now } }
+    ensures group { (g : Group) → IsGroupNode g group.old → IsGroupNode (group_met g caller.now.rank reply.now) group.new }
+{
+    if !is_idle(reply) {
+        complete_round(own, group, caller.rank, caller.thread, id, call);
+    }
+}
+
+/// Records a collective of a caller with its reply: the step by the call, which is recorded at its place. It completes, or is refused
+/// or not ready in time. It takes no memory. (GASPI: collectives, timeouts)
+pub(crate) fn complete(
+    own: &mut Node,
+    group: &mut GroupNode,
+    place: u64,
+    caller: CallerId,
+    id: GroupId,
+    call: Call,
+    reply: Reply,
+)
+    requires own { caller.rank ≡ own.old.posts.me }
+    requires named { (row_of call).group ≡ Some id }
+    requires step { MayStepOn (Called caller call reply) own.old (Some group.old) }
+    ensures { (s t : State) (peer : Option Node) → IsStepOn s t (Called caller call reply) own.old peer (Some group.old)
+        → IsLeft s t (Called caller call reply) place own.old own.new peer peer (Some group.new) }
+{
+    complete_parts(&mut own.posts, group, &caller, id, &call, &reply);
+    own.posts
+        .add_event(place, Event::Called(caller, call, reply));
+}
+
+/// Records a collective of a caller on a group that is not there, since its number is over 7: it is refused.
+pub(crate) fn refuse(own: &mut Node, place: u64, caller: CallerId, call: Call, reply: Reply)
+    requires named { (id : ℕ) × ((row_of call).group ≡ Some id) }
+    requires step { MayStepOn (Called caller call reply) own.old None }
+    ensures { (s t : State) (peer : Option Node) → IsStepOn s t (Called caller call reply) own.old peer None
+        → IsLeft s t (Called caller call reply) place own.old own.new peer peer None }
+{
+    own.posts
+        .add_event(place, Event::Called(caller, call, reply));
+}

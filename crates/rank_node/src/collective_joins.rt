@@ -1,0 +1,139 @@
+//! A collective joins its group. (GASPI: collectives, segment_create)
+
+ghost use Rattle.std.specs.Prelude.{◌≡◌, ◌≤◌, true, length, Option, None, Some, IfSome};
+ghost use Rattle.gaspi_types.specs.Tables.{entry_at};
+ghost use Rattle.gaspi_types.specs.declared.events.Event.TheVariants.{Joined};
+ghost use Rattle.collective_engine.specs.Slots.{HasItsValues};
+ghost use Rattle.collective_engine.specs.Turns.{may_join};
+ghost use Rattle.gaspi_model.specs.CollectiveCalls.{joined_posts, joining_call, contribution_of, made_generation, made_posts, made_memory};
+ghost use Rattle.gaspi_model.specs.declared.states.State.{State};
+ghost use Rattle.plain_calls.specs.Room.{HasMakingRoom};
+ghost use Rattle.rank_node.specs.Collectives.{IsMadeFor, MayJoinHere, AddsContribution, IsPendingFor};
+ghost use Rattle.rank_node.specs.CollectiveSteps.{MayStepOn};
+ghost use Rattle.rank_node.specs.Lending.{IsStepOn, IsLeft};
+ghost use Rattle.rank_node.specs.Making.{with_made};
+ghost use Rattle.rank_node.specs.Values.{PostsValue};
+ghost use Rattle.rank_node.specs.declared.nodes.Node.{Node};
+
+use crate::making::MadeSegment;
+use crate::node_memory::NodeMemory;
+use crate::node_posts::NodePosts;
+use crate::nodes::{GroupNode, Node};
+use crate::reserved_numbers::{ReservedNumbers, copied_args, take_rows};
+use gaspi_types::{Args, CallerId, Coll, Event, GroupId, RankId, ThreadId};
+use segment_tables::{add_own, next_generation};
+
+/// The generation of the segment that a collective makes as it joins; 0 where it makes none. (GASPI: segment_create)
+fn made_generation(own: &NodePosts, coll: Coll) -> u32
+    ensures { result ≡ made_generation own.now.posts coll }
+{
+    match coll {
+        Coll::Create(seg, _) => next_generation(&own.segments.next_generations, u64::from(seg)),
+        _ => 0,
+    }
+}
+
+/// Adds the segment that a collective makes to the table of its rank. (GASPI: segment_create)
+fn add_made(own: &mut NodePosts, coll: Coll)
+    requires { HasMakingRoom own.old.posts coll }
+    ensures { own.new ≡ record own.old { posts = made_posts own.old.posts coll } }
+{
+    if let Coll::Create(seg, size) = coll {
+        add_own(&mut own.segments, u64::from(seg), size);
+    }
+}
+
+/// Makes a collective of a thread pending.
+fn add_pending(own: &mut NodePosts, thread: ThreadId, id: GroupId, args: Args)
+    requires none { entry_at own.old.posts.pending id ≡ None }
+    requires bounded { HasMakingRoom own.old.posts args.coll }
+    ensures { own.new ≡ record own.old { posts = joined_posts own.old.posts thread id args } }
+{
+    add_made(own, args.coll);
+    own.pending.put_in(id, thread, args);
+}
+
+/// Puts a segment that was made at its number, if one was.
+fn place_if_made(memory: &mut NodeMemory, seg: u64, made: Option<MadeSegment>)
+    ensures made { IfSome made (λ made. memory.new ≡ with_made memory.old seg made) }
+    ensures none { made ≡ None → memory.new ≡ memory.old }
+{
+    match made {
+        Some(made) => memory.place_segment(seg, made),
+        None => {}
+    }
+}
+
+/// Puts the segment that a collective makes into the memory of its rank. (GASPI: segment_create)
+fn place_made(memory: &mut NodeMemory, coll: Coll, made: Option<MadeSegment>)
+    ensures { (own : PostsValue) → IsMadeFor own coll made → memory.new ≡ record memory.old { memory = made_memory own.limits own.posts memory.old.memory coll } }
+{
+    match coll {
+        Coll::Create(seg, _) => place_if_made(memory, u64::from(seg), made),
+        _ => drop(made),
+    }
+}
+
+/// A rank joins a group, with the generation of the segment that it makes: a commit fixes the group's list of ranks.
+fn join_group(group: &mut GroupNode, me: RankId, args: &Args, generation: u32)
+    requires may { may_join group.old.rounds me args.now.coll ≡ true }
+    requires values { HasItsValues args.now }
+    ensures { AddsContribution group.old group.new me (record { args = args.now; generation = generation }) }
+{
+    // The look has found that the list and the round fit.
+    if let Coll::Commit(mask) = args.coll {
+        let _ = group.meeting.fix(mask);
+    }
+    let _ = group.rounds.join(me, args, generation);
+}
+
+/// What a join leaves, its event not counted: the rank has contributed, its segment is there, and its collective is pending.
+fn join_parts(
+    own: &mut Node,
+    group: &mut GroupNode,
+    caller: &CallerId,
+    id: GroupId,
+    args: &Args,
+    kept: Args,
+    made: Option<MadeSegment>,
+)
+    requires own { caller.now.rank ≡ own.old.posts.me }
+    requires kept { kept ≡ args.now }
+    requires joins { MayJoinHere own.old.posts group.old id args.now }
+    requires made { IsMadeFor own.old.posts args.now.coll made }
+    ensures posts { own.new.posts ≡ record own.old.posts { posts = joined_posts own.old.posts.posts caller.now.thread id args.now } }
+    ensures memory { own.new.memory ≡ record own.old.memory { memory = made_memory own.old.posts.limits own.old.posts.posts own.old.memory.memory args.now.coll } }
+    ensures group { AddsContribution group.old group.new caller.now.rank (contribution_of own.old.posts.posts args.now) }
+{
+    let generation = made_generation(&own.posts, args.coll);
+    join_group(group, caller.rank, args, generation);
+    place_made(&mut own.memory, args.coll, made);
+    add_pending(&mut own.posts, caller.thread, id, kept);
+}
+
+/// A collective of a caller joins: the step by its join, which is recorded at its place. It takes no memory: the values that are
+/// kept as pending go into the room's list, and the segment was made before. (GASPI: collectives, segment_create)
+pub(crate) fn join(
+    own: &mut Node,
+    group: &mut GroupNode,
+    place: u64,
+    caller: CallerId,
+    id: GroupId,
+    args: Args,
+    room: &mut ReservedNumbers,
+    made: Option<MadeSegment>,
+)
+    requires own { caller.rank ≡ own.old.posts.me }
+    requires step { MayStepOn (Joined caller id args) own.old (Some group.old) }
+    requires capacity { length args.values.items ≤ room.old.values }
+    requires made { IsMadeFor own.old.posts args.coll made }
+    ensures left { (s t : State) (peer : Option Node) → IsStepOn s t (Joined caller id args) own.old peer (Some group.old)
+        → IsLeft s t (Joined caller id args) place own.old own.new peer peer (Some group.new) }
+    ensures waits { IsPendingFor own.new.posts caller.thread id (joining_call id args) }
+    ensures event { room.new.event ≡ room.old.event }
+    ensures caller { room.new.caller ≡ room.old.caller }
+{
+    let kept = copied_args(&args, take_rows(&mut room.values));
+    join_parts(own, group, &caller, id, &args, kept, made);
+    own.posts.add_event(place, Event::Joined(caller, id, args));
+}

@@ -1,0 +1,182 @@
+//! What a look at a collective finds. (GASPI: collectives, timeouts)
+
+ghost use Rattle.std.specs.Prelude.{◌≡◌, ◌≤◌, ◌<◌, ℕ, true, false, Some, IfOk, IsOk, length};
+ghost use Rattle.std.specs.Option.{option_copied};
+ghost use Rattle.gaspi_types.specs.CallRows.{row_of};
+ghost use Rattle.gaspi_types.specs.Tables.{entry_at};
+ghost use Rattle.gaspi_types.specs.declared.groups.Args.{Args};
+ghost use Rattle.gaspi_types.specs.declared.groups.Group.{Group};
+ghost use Rattle.gaspi_types.specs.declared.replies.Ready.TheVariants.{NotReady};
+ghost use Rattle.collective_engine.specs.Turns.{is_in, may_join, is_full_for};
+ghost use Rattle.gaspi_model.specs.CollectiveCalls.{args_of, segment_checks, meeting_checks, fresh_finds, full_reply, resumed_finds, collective_answer};
+ghost use Rattle.gaspi_model.specs.State.{thread_at, is_running};
+ghost use Rattle.rank_node.specs.Lending.{IsGroupNode};
+ghost use Rattle.rank_node.specs.Collectives.{AreSoundTogether, StandTogether, is_commit, IsMine, TakesOwn};
+ghost use Rattle.rank_node.specs.Numbers.{elements_in, ReplyFits, AnswerFits};
+
+use crate::node_posts::NodePosts;
+use crate::nodes::GroupNode;
+use crate::reserved_numbers::{ReservedNumbers, blank, take_rows};
+use crate::resuming::resumes;
+use gaspi_types::{
+    Args, Call, Coll, NoMemory, Pending, RankId, Ready, Refusal, Reply, Resume, Rows, ThreadId,
+};
+use plain_calls::{args_of, called_on, check_fixed, collective_ready};
+use segment_tables::check_alloc;
+use std::alloc::Global;
+
+/// Checks the segment that a collective makes, if it does. (GASPI: segment_create)
+fn check_segment(own: &NodePosts, call: &Call) -> Result<(), Refusal>
+    ensures { result ≡ segment_checks own.now.posts call.now }
+{
+    match call {
+        Call::Create(call) => check_alloc(&own.segments.own, call.seg, call.size),
+        _ => Ok(()),
+    }
+}
+
+/// Checks a collective by what other ranks have brought to its group: a commit by the list that is fixed, each other by the round.
+fn check_meeting(group: &GroupNode, me: RankId, args: &Args) -> Result<(), Refusal>
+    requires { is_commit args.now.coll ≡ false → may_join group.now.rounds me args.now.coll ≡ true }
+    ensures { (g : Group) → IsGroupNode g group.now → result ≡ meeting_checks g me args.now.coll }
+{
+    match args.coll {
+        Coll::Commit(mask) => check_fixed(group.meeting.members(), mask),
+        _ => group.rounds.fits(me, args),
+    }
+}
+
+/// Looks at a collective of which none is pending: whether it may join, with its arguments.
+fn fresh_finds(
+    own: &NodePosts,
+    group: &GroupNode,
+    args: Option<Args>,
+    call: &Call,
+) -> Result<Ready, Refusal>
+    requires { (a : Args) → args ≡ Some a → is_commit a.coll ≡ false → may_join group.now.rounds own.now.me a.coll ≡ true }
+    ensures finds { (g : Group) (members : ℕ) → IsGroupNode g group.now → args ≡ args_of members call.now
+        → result ≡ fresh_finds own.now.posts g own.now.me members call.now }
+    ensures fits { (members : ℕ) → args ≡ args_of members call.now → IfOk result (λ ready. AnswerFits ready (elements_in call.now)) }
+{
+    check_segment(own, call)?;
+    let args = args.ok_or(Refusal::BadSize)?;
+    check_meeting(group, own.me, &args)?;
+    Ok(Ready::Join(args))
+}
+
+/// What a collective answers whose round is full: an allreduce its numbers, in a list that is long enough. (GASPI: allreduce)
+fn full_reply(group: &GroupNode, me: RankId, call: &Call, list: Rows<i128>) -> Reply
+    requires member { is_in group.now.rounds.members me ≡ true }
+    requires full { is_full_for group.now.rounds me ≡ true }
+    requires capacity { TakesOwn call.now group.now.rounds me (length list) }
+    ensures reply { (g : Group) → IsMine g group.now me call.now → result ≡ full_reply g me call.now }
+    ensures fits { ReplyFits result (length list) }
+{
+    match call {
+        Call::Allreduce(_) => Reply::List(group.rounds.result(me, list)),
+        _ => Reply::Done,
+    }
+}
+
+/// As many zeros as a call has elements: only an allreduce takes memory.
+fn blank_for(alloc: Global, call: &Call) -> Result<Rows<i128>, NoMemory>
+    ensures capacity { IfOk result (λ rows. length rows ≡ elements_in call.now) }
+    ensures ample { (row_of call.now).takes_memory ≡ false → IsOk result }
+{
+    match call {
+        Call::Allreduce(call) => blank(alloc, call.values.items().len()),
+        _ => Ok(Rows::new(alloc)),
+    }
+}
+
+/// Looks at a collective that is pending for its caller: ready where its round is full.
+fn resumed_finds(
+    alloc: Global,
+    group: &GroupNode,
+    me: RankId,
+    call: &Call,
+) -> Result<Ready, NoMemory>
+    requires { (g : Group) × IsMine g group.now me call.now }
+    ensures finds { (g : Group) → IsMine g group.now me call.now → IfOk result (λ ready. ready ≡ resumed_finds g me call.now) }
+    ensures fits { IfOk result (λ ready. AnswerFits ready (elements_in call.now)) }
+    ensures ample { (row_of call.now).takes_memory ≡ false → IsOk result }
+    ensures unready { (g : Group) → IsMine g group.now me call.now → resumed_finds g me call.now ≡ NotReady → IsOk result }
+{
+    if !group.rounds.full(me) {
+        return Ok(Ready::NotReady);
+    }
+    let list = blank_for(alloc, call)?;
+    Ok(Ready::Reply(full_reply(group, me, call, list)))
+}
+
+/// Looks at a collective of a rank on a group: it may join, with these arguments, or it is not ready, or it is refused or ready,
+/// with its reply. It takes memory only where the call does. (GASPI: collectives, timeouts)
+pub(crate) fn look(
+    alloc: Global,
+    own: &NodePosts,
+    group: &GroupNode,
+    thread: ThreadId,
+    id: u64,
+    call: &Call,
+) -> Result<Ready, NoMemory>
+    requires there { id < 8 }
+    requires together { StandTogether own.now id group.now }
+    ensures look { (g : Group) → AreSoundTogether own.now.posts own.now.me id g → IsGroupNode g group.now
+        → IfOk result (λ ready. ready ≡ collective_answer own.now.posts g own.now.me thread id call.now) }
+    ensures fits { IfOk result (λ ready. AnswerFits ready (elements_in call.now)) }
+    ensures ample { (row_of call.now).takes_memory ≡ false → IsOk result }
+    ensures unready { (g : Group) → AreSoundTogether own.now.posts own.now.me id g → IsGroupNode g group.now → collective_answer own.now.posts g own.now.me thread id call.now ≡ NotReady → IsOk result }
+{
+    if !own.is_running(thread) {
+        return Ok(collective_ready(Err(Refusal::CallerEnded)));
+    }
+    let handle = match called_on(own.groups.handles(), own.me, id, call) {
+        Ok(handle) => handle,
+        Err(refusal) => return Ok(collective_ready(Err(refusal))),
+    };
+    match resumes(own.pending_at(id), thread, handle.members, call) {
+        Ok(Resume::Fresh) => {
+            let args = args_of(alloc, handle.members, call)?;
+            Ok(collective_ready(fresh_finds(own, group, args, call)))
+        }
+        Ok(Resume::Same) => resumed_finds(alloc, group, own.me, call),
+        Err(refusal) => Ok(collective_ready(Err(refusal))),
+    }
+}
+
+/// Looks at a collective on a group that is not there, since its number is over 7.
+pub(crate) fn look_nowhere(own: &NodePosts, thread: ThreadId, id: u64, call: &Call) -> Ready
+    requires { 8 ≤ id }
+    ensures look { (g : Group) → result ≡ collective_answer own.now.posts g own.now.me thread id call.now }
+    ensures fits { AnswerFits result (elements_in call.now) }
+{
+    if !own.is_running(thread) {
+        return collective_ready(Err(Refusal::CallerEnded));
+    }
+    match called_on(own.groups.handles(), own.me, id, call) {
+        Ok(_) => unreachable!(),
+        Err(refusal) => collective_ready(Err(refusal)),
+    }
+}
+
+/// Looks again at a collective of a rank that is pending for its caller, in a list that was taken before. It takes no memory.
+/// (GASPI: timeouts)
+pub(crate) fn look_again(
+    group: &GroupNode,
+    me: RankId,
+    call: &Call,
+    room: &mut ReservedNumbers,
+) -> Ready
+    requires mine { (g : Group) × IsMine g group.now me call.now }
+    requires capacity { elements_in call.now ≤ room.old.event }
+    ensures finds { (g : Group) → IsMine g group.now me call.now → result ≡ resumed_finds g me call.now }
+    ensures fits { AnswerFits result room.old.event }
+    ensures caller { room.new.caller ≡ room.old.caller }
+    ensures kept { result ≡ NotReady → room.new ≡ room.old }
+{
+    if !group.rounds.full(me) {
+        return Ready::NotReady;
+    }
+    let list = take_rows(&mut room.event);
+    Ready::Reply(full_reply(group, me, call, list))
+}

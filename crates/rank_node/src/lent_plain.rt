@@ -1,0 +1,137 @@
+//! Calls that are no collectives, on the nodes that are lent for them.
+
+ghost use Rattle.std.specs.Prelude.{◌≡◌, Option, None, Some, IfOk, IsOk, false};
+ghost use Rattle.gaspi_types.specs.CallRows.{row_of};
+ghost use Rattle.gaspi_types.specs.declared.events.Event.TheVariants.{Called};
+ghost use Rattle.gaspi_types.specs.declared.replies.Ready.TheVariants.{NotReady};
+ghost use Rattle.gaspi_model.specs.Calls.{peer_after};
+ghost use Rattle.gaspi_model.specs.Sound.{IsSound};
+ghost use Rattle.gaspi_model.specs.Step.{answer_in};
+ghost use Rattle.gaspi_model.specs.declared.states.Posts.{Posts};
+ghost use Rattle.gaspi_model.specs.declared.states.State.{State};
+ghost use Rattle.plain_calls.specs.Telling.{told};
+ghost use Rattle.rank_node.specs.Effects.{with_posts};
+ghost use Rattle.rank_node.specs.Lending.{LendsFor, IsStepOn, MayStepBetween, IsLeft, AreLentBetween};
+ghost use Rattle.rank_node.specs.Rooms.{IsRecordRoom};
+ghost use Rattle.rank_node.specs.declared.nodes.GroupNode.{GroupNode};
+
+use crate::node_memory::NodeMemory;
+use crate::node_posts::NodePosts;
+use crate::nodes::Node;
+use crate::plain_looks::look;
+use crate::recording::record;
+use crate::rooms::Room;
+use gaspi_types::{Call, CallerId, Invocation, NoMemory, Ready, Reply};
+use plain_calls::{News, is_idle, register_news};
+use std::alloc::Global;
+
+/// What a call tells a peer that it reaches, where it is recorded with that reply.
+fn news(posts: &NodePosts, call: &Call, reply: &Reply) -> Option<News>
+    ensures { (peer : Posts) → told result peer ≡ peer_after posts.now.me posts.now.posts call.now reply.now peer }
+{
+    if is_idle(reply) {
+        return None;
+    }
+    match call {
+        Call::Register(call) => Some(register_news(posts.me, &posts.segments.own, call)),
+        _ => None,
+    }
+}
+
+/// Tells a peer.
+fn tell(peer: &mut NodePosts, news: Option<News>)
+    ensures { peer.new ≡ with_posts peer.old (told news peer.old.posts) }
+{
+    if let Some(news) = news {
+        peer.set_known(news.owner, news.seg, news.extent);
+    }
+}
+
+/// Looks at a call that reaches its own node alone.
+pub fn answer_alone(
+    alloc: Global,
+    own: &Node,
+    invocation: &Invocation<'_>,
+) -> Result<Ready, NoMemory>
+    requires plain { (row_of invocation.now.call.now).group ≡ None }
+    requires lent { AreLentBetween invocation.now.call.now own.now None }
+    ensures answer { (s : State) (group : Option GroupNode) → IsSound s → LendsFor s invocation.now.call.now own.now None group
+        → IfOk result (λ ready. answer_in s own.now.posts.me invocation.now.caller.thread invocation.now.call.now ≡ Some ready) }
+    ensures ample { (row_of invocation.now.call.now).takes_memory ≡ false → IsOk result }
+    ensures unready { (s : State) (group : Option GroupNode) → IsSound s → LendsFor s invocation.now.call.now own.now None group
+        → answer_in s own.now.posts.me invocation.now.caller.thread invocation.now.call.now ≡ Some NotReady → IsOk result }
+{
+    look(alloc, &own.posts, &own.memory, invocation)
+}
+
+/// Looks at a call that reaches the node of another rank.
+pub fn answer_between(
+    alloc: Global,
+    own: &Node,
+    peer: &Node,
+    invocation: &Invocation<'_>,
+) -> Result<Ready, NoMemory>
+    requires plain { (row_of invocation.now.call.now).group ≡ None }
+    requires lent { AreLentBetween invocation.now.call.now own.now (Some peer.now) }
+    ensures answer { (s : State) (group : Option GroupNode) → IsSound s → LendsFor s invocation.now.call.now own.now (Some peer.now) group
+        → IfOk result (λ ready. answer_in s own.now.posts.me invocation.now.caller.thread invocation.now.call.now ≡ Some ready) }
+    ensures ample { (row_of invocation.now.call.now).takes_memory ≡ false → IsOk result }
+    ensures unready { (s : State) (group : Option GroupNode) → IsSound s → LendsFor s invocation.now.call.now own.now (Some peer.now) group
+        → answer_in s own.now.posts.me invocation.now.caller.thread invocation.now.call.now ≡ Some NotReady → IsOk result }
+{
+    look(alloc, &own.posts, &peer.memory, invocation)
+}
+
+/// Records a call that reaches its own node alone. It takes no memory.
+pub fn called_alone(
+    own: &mut Node,
+    place: u64,
+    caller: CallerId,
+    call: Call,
+    reply: Reply,
+    room: Room,
+)
+    requires plain { (row_of call).group ≡ None }
+    requires step { MayStepBetween (Called caller call reply) own.old None }
+    requires room { IsRecordRoom own.old.posts own.old.memory call room }
+    ensures { (s t : State) (group : Option GroupNode) → IsStepOn s t (Called caller call reply) own.old None group → IsLeft s t (Called caller call reply) place own.old own.new None None group }
+{
+    record(
+        &mut own.posts,
+        &mut own.memory,
+        place,
+        caller,
+        call,
+        reply,
+        room,
+    );
+}
+
+/// Records a call that reaches the node of another rank. It takes no memory.
+pub fn called_between(
+    own: &mut Node,
+    peer: &mut Node,
+    place: u64,
+    caller: CallerId,
+    call: Call,
+    reply: Reply,
+    room: Room,
+)
+    requires plain { (row_of call).group ≡ None }
+    requires step { MayStepBetween (Called caller call reply) own.old (Some peer.old) }
+    requires room { IsRecordRoom own.old.posts own.old.memory call room }
+    ensures { (s t : State) (group : Option GroupNode) → IsStepOn s t (Called caller call reply) own.old (Some peer.old) group
+        → IsLeft s t (Called caller call reply) place own.old own.new (Some peer.old) (Some peer.new) group }
+{
+    let news = news(&own.posts, &call, &reply);
+    record(
+        &mut own.posts,
+        &mut peer.memory,
+        place,
+        caller,
+        call,
+        reply,
+        room,
+    );
+    tell(&mut peer.posts, news);
+}

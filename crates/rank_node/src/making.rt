@@ -1,0 +1,56 @@
+//! Segments as they are made. (GASPI: segments)
+
+ghost use Rattle.std.specs.Prelude.{◌≡◌, ◌<◌, ◌^◌, IfOk};
+ghost use Rattle.rank_node.specs.Making.{made_segment, with_made};
+
+use crate::node_memory::NodeMemory;
+use crate::node_posts::NodePosts;
+use gaspi_types::{NoMemory, Segment};
+use notify_slots::Slots;
+use segment_tables::{new_segment, next_generation};
+use std::alloc::Global;
+
+/// A segment as it is made, with its slots, that stands in no table yet.
+#[derive(Debug, Drop)]
+pub struct MadeSegment {
+    pub segment: Segment,
+    pub slots: Slots,
+}
+
+impl NodePosts {
+    ghost use Rattle.std.specs.Prelude.{◌≡◌, ◌<◌, ◌^◌, IfOk, ◌≤◌};
+
+    /// Takes the memory of an own segment of the next generation of its number. (GASPI: segment_alloc)
+    pub(crate) fn make_segment(
+        &self,
+        alloc: Global,
+        seg: u64,
+        size: u64,
+    ) -> Result<MadeSegment, NoMemory>
+        requires size { size < 2 ^ 32 }
+        requires notes { self.now.limits.notes ≤ 1024 }
+        ensures { IfOk result (λ made. made ≡ made_segment self.now.limits self.now.posts seg size) }
+    {
+        let generation = next_generation(&self.segments.next_generations, seg);
+        Ok(MadeSegment {
+            segment: new_segment(alloc, generation, size as u32)?,
+            slots: Slots::new(alloc, self.limits.notes)?,
+        })
+    }
+}
+
+impl NodeMemory {
+    /// Puts a segment that was made at its number. It takes no memory. (GASPI: segment_alloc)
+    pub(crate) fn place_segment(&mut self, seg: u64, made: MadeSegment)
+        ensures { self.new ≡ with_made self.old seg made }
+    {
+        let MadeSegment { segment, slots } = made;
+        let place = seg as usize;
+        if place < self.segments.len() {
+            *self.segments.at_mut(place) = Some(segment);
+        }
+        if place < self.slots.len() {
+            *self.slots.at_mut(place) = Some(slots);
+        }
+    }
+}

@@ -1,0 +1,139 @@
+//! What calls change in the memory that they work on, without memory being allocated.
+
+ghost use Rattle.std.specs.Prelude.{◌≡◌, ◌<◌, Ok, IsOk, IsSome, slice_set};
+ghost use Rattle.gaspi_types.specs.Inboxes.{first_within, deposited};
+ghost use Rattle.gaspi_model.specs.AtomicCalls.{fetch_add_leaves, compare_swap_leaves};
+ghost use Rattle.gaspi_model.specs.Calls.{memory_done};
+ghost use Rattle.gaspi_model.specs.Memories.{slots_of, with_slots};
+ghost use Rattle.gaspi_model.specs.MemoryCalls.{store_leaves};
+ghost use Rattle.gaspi_model.specs.PassiveCalls.{receive_leaves};
+ghost use Rattle.gaspi_model.specs.SegmentCalls.{delete_leaves};
+
+use crate::making::MadeSegment;
+use crate::node_memory::NodeMemory;
+use gaspi_types::{Call, CompareSwap, Delete, FetchAdd, Message, PassiveReceive, Store};
+use segment_tables::{add_to_segment, store_bytes, swap_in_segment};
+
+impl NodeMemory {
+    ghost use Rattle.rank_node.specs.Effects.{with_memory, MayDeposit, MayAffectMemory, IsMadeByCall};
+    ghost use Rattle.rank_node.specs.Values.{PostsValue};
+
+    /// Takes a segment away, with its slots. (GASPI: segment_delete)
+    fn remove_segment(&mut self, call: &Delete)
+        ensures { self.new ≡ with_memory self.old (delete_leaves self.old.memory call.now) }
+    {
+        let place = call.seg as usize;
+        if place < self.segments.len() {
+            *self.segments.at_mut(place) = None;
+        }
+        if place < self.slots.len() {
+            *self.slots.at_mut(place) = None;
+        }
+    }
+
+    /// Writes the bytes of a store. (own choice)
+    fn store(&mut self, call: &Store)
+        ensures { self.new ≡ with_memory self.old (store_leaves self.old.memory call.now) }
+    {
+        store_bytes(
+            &mut self.segments,
+            call.seg,
+            call.offset,
+            call.bytes.as_slice(),
+        );
+    }
+
+    /// Sets a notification slot of a segment to a value, where it is there. (GASPI: notify, notify_reset)
+    pub(crate) fn set_slot(&mut self, seg: u64, note: u64, value: u32)
+        ensures { self.new ≡ with_memory self.old (with_slots self.old.memory seg (slice_set (slots_of self.old.memory seg) note value)) }
+    {
+        let place = seg as usize;
+        if place < self.slots.len() {
+            if let Some(slots) = self.slots.at_mut(place) {
+                if note < slots.len() as u64 {
+                    slots.set(note, value);
+                }
+            }
+        }
+    }
+
+    /// Puts a message behind the others of the inbox. (GASPI: passive_send)
+    fn deposit(&mut self, message: Message)
+        requires { MayDeposit self.old message }
+        ensures { self.new ≡ with_memory self.old (record self.old.memory { inbox = deposited self.old.memory.inbox message }) }
+    {
+        let Message { sender, bytes } = message;
+        match self.inbox.deposit(sender, bytes) {
+            Ok(()) => {}
+            Err(_message) => unreachable!(),
+        }
+    }
+
+    /// Takes the first message out of the inbox, and puts its bytes where the receive says. (GASPI: passive_receive)
+    fn receive(&mut self, call: &PassiveReceive)
+        requires { IsOk (first_within call.now.size self.old.memory.inbox) }
+        ensures { self.new ≡ with_memory self.old (receive_leaves self.old.memory call.now) }
+    {
+        match self.inbox.receive(call.size) {
+            Ok(Some(message)) => store_bytes(
+                &mut self.segments,
+                call.seg,
+                call.offset,
+                message.bytes.as_slice(),
+            ),
+            Ok(None) => {}
+            Err(_refusal) => unreachable!(),
+        }
+    }
+
+    /// Adds to a word. (GASPI: atomic_fetch_add)
+    fn fetch_add(&mut self, call: &FetchAdd)
+        ensures { self.new ≡ with_memory self.old (fetch_add_leaves self.old.memory call.now) }
+    {
+        add_to_segment(&mut self.segments, call.seg, call.offset, call.value);
+    }
+
+    /// Writes over a word, where it is the comparator. (GASPI: atomic_compare_swap)
+    fn compare_swap(&mut self, call: &CompareSwap)
+        ensures { self.new ≡ with_memory self.old (compare_swap_leaves self.old.memory call.now) }
+    {
+        swap_in_segment(
+            &mut self.segments,
+            call.seg,
+            call.offset,
+            call.comparator,
+            call.new,
+        );
+    }
+
+    /// What a call leaves that was answered neither with a refusal nor with a timeout, in the memory that it works on: with the segment
+    /// that it makes, and the message that it brings.
+    pub(crate) fn affect(
+        &mut self,
+        call: &Call,
+        made: Option<MadeSegment>,
+        message: Option<Message>,
+    )
+        requires { MayAffectMemory self.old call.now made message }
+        ensures { (p : PostsValue) → IsMadeByCall p call.now made → self.new ≡ with_memory self.old (memory_done p.limits p.posts message self.old.memory call.now) }
+    {
+        match call {
+            Call::Alloc(call) => match made {
+                Some(made) => self.place_segment(call.seg, made),
+                None => unreachable!(),
+            },
+            Call::PassiveSend(_) => {
+                if let Some(message) = message {
+                    self.deposit(message);
+                }
+            }
+            Call::Delete(call) => self.remove_segment(call),
+            Call::Store(call) => self.store(call),
+            Call::Reset(call) => self.set_slot(call.seg, call.note, 0),
+            Call::PassiveReceive(call) => self.receive(call),
+            Call::FetchAdd(call) => self.fetch_add(call),
+            Call::CompareSwap(call) => self.compare_swap(call),
+            _ => {}
+        }
+    }
+}

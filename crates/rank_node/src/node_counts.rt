@@ -1,0 +1,95 @@
+//! How much room a node's rank has for events, what a call needs, and whether its threads have ended.
+
+ghost use Rattle.std.specs.Prelude.{◌≡◌, ◌+◌, ◌-◌, count_by, not};
+ghost use Rattle.std.specs.List.{list_any};
+ghost use Rattle.gaspi_types.specs.CallRows.{row_of, need_of};
+ghost use Rattle.gaspi_model.specs.State.{owed, is_running, thread_at};
+ghost use Rattle.gaspi_model.specs.Step.{is_pending_on};
+
+use crate::node_posts::NodePosts;
+use crate::nodes::Node;
+use gaspi_model::ThreadState;
+use gaspi_types::{Invocation, Rows};
+use plain_calls::is_running;
+
+/// How many of these threads have not ended.
+fn running_count(threads: &Rows<ThreadState>) -> usize
+    ensures { result ≡ count_by is_running threads.now }
+{
+    threads
+        .as_slice()
+        .iter()
+        .filter(|t| is_running(**t))
+        .count()
+}
+
+/// Whether one of these threads has not ended.
+fn has_running(threads: &Rows<ThreadState>) -> bool
+    ensures { result ≡ list_any is_running threads.now }
+{
+    threads.as_slice().iter().any(|t| is_running(*t))
+}
+
+impl NodePosts {
+    /// How many events have room yet, none for what the rank owes.
+    pub fn room(&self) -> u64
+        ensures { result ≡ self.now.limits.events - (self.now.posts.events + owed self.now.posts) }
+    {
+        u64::from(self.limits.events)
+            .saturating_sub(self.journal.len() as u64)
+            .saturating_sub(self.lanes.owed())
+            .saturating_sub(running_count(&self.threads) as u64)
+    }
+
+    /// Whether a collective of a caller is pending on the group that its call names. (GASPI: timeouts)
+    fn is_pending(&self, invocation: &Invocation<'_>) -> bool
+        ensures { result ≡ is_pending_on invocation.now.caller.thread self.now.posts (row_of invocation.now.call.now).group }
+    {
+        match invocation.row.group {
+            Some(id) => match self.pending_at(id) {
+                Some(pending) => pending.thread.number() == invocation.caller.thread.number(),
+                None => false,
+            },
+            None => false,
+        }
+    }
+
+    /// How much room a call of a caller of this rank needs: a collective that has not joined needs its join besides. (own choice)
+    pub fn need(&self, invocation: &Invocation<'_>) -> u64
+        ensures { result ≡ need_of invocation.now.call.now (is_pending_on invocation.now.caller.thread self.now.posts (row_of invocation.now.call.now).group) (not (is_running (thread_at self.now.posts invocation.now.caller.thread))) }
+    {
+        let pending = self.is_pending(invocation);
+        let ended = !self.is_running(invocation.caller.thread);
+        invocation.row.need(pending, ended)
+    }
+
+    /// Whether every thread of the rank that has a section has ended.
+    pub fn all_ended(&self) -> bool
+        ensures { result ≡ not (list_any is_running self.now.posts.threads) }
+    {
+        !has_running(&self.threads)
+    }
+}
+
+impl Node {
+    /// How many events of its rank have room yet, none for what it owes.
+    pub fn room(&self) -> u64
+        ensures { result ≡ self.now.posts.limits.events - (self.now.posts.posts.events + owed self.now.posts.posts) }
+    {
+        self.posts.room()
+    }
+
+    /// How much room a call of a caller of this rank needs: a collective that has not joined needs its join besides. (own choice)
+    pub fn need(&self, invocation: &Invocation<'_>) -> u64
+        ensures { result ≡ need_of invocation.now.call.now (is_pending_on invocation.now.caller.thread self.now.posts.posts (row_of invocation.now.call.now).group) (not (is_running (thread_at self.now.posts.posts invocation.now.caller.thread))) }
+    {
+        self.posts.need(invocation)
+    }
+
+    /// Whether every thread of the rank that has a section has ended.
+    pub fn all_ended(&self) -> bool
+        ensures { result ≡ not (list_any is_running self.now.posts.posts.threads) }
+    {
+        self.posts.all_ended()
+    }
+}

@@ -1,0 +1,104 @@
+//! The node of a rank at the start, with all its tables, rings and its rank journal.
+
+ghost use Rattle.std.specs.Prelude.{◌≡◌, ◌<◌, ◌≤◌, IfOk, map};
+ghost use Rattle.std.specs.Option.{option_map};
+ghost use Rattle.std.specs.List.{range_with_len};
+ghost use Rattle.gaspi_model.specs.State.{declared_size, new_slots, opening_slots};
+ghost use Rattle.rank_node.specs.Openings.{IsOpeningNode};
+
+use crate::node_memory::NodeMemory;
+use crate::node_posts::NodePosts;
+use crate::nodes::Node;
+use buffers::Buffer;
+use gaspi_model::{declared_size, opening_corrupt, opening_table, opening_threads};
+use gaspi_types::{NoMemory, RankId, Rows, Shape};
+use group_registry::Groups;
+use notify_slots::Slots;
+use passive_channel::Inbox;
+use plain_calls::opening_segments;
+use post_queue::Lanes;
+use std::alloc::Global;
+use timeout_state::Pending;
+
+/// The slots of the segment of a rank with a number.
+fn opening_slots_at(
+    alloc: Global,
+    shape: &Shape,
+    rank: u32,
+    segment: u32,
+) -> Result<Option<Slots>, NoMemory>
+    ensures { IfOk result (λ slots. slots ≡ option_map (λ size. new_slots shape.now.limits.notes) (declared_size shape.now rank segment)) }
+{
+    let notes = shape.limits().notes;
+    match declared_size(shape, rank, segment) {
+        Some(_) => Ok(Some(Slots::new(alloc, notes)?)),
+        None => Ok(None),
+    }
+}
+
+/// The slots of each segment of a rank.
+#[tactic(auto, using(gaspi_model::proofs::Ranges::map_range_more))]
+fn opening_slots(alloc: Global, shape: &Shape, rank: u32) -> Result<Rows<Option<Slots>>, NoMemory>
+    ensures { IfOk result (λ slots. slots ≡ opening_slots shape.now rank) }
+{
+    let mut slots = Rows::new(alloc);
+    for segment in 0..32 {
+        slots.push(opening_slots_at(alloc, shape, rank, segment)?)?;
+    }
+    Ok(slots)
+}
+
+impl NodePosts {
+    ghost use Rattle.std.specs.Prelude.{◌≡◌, ◌<◌, IfOk};
+    ghost use Rattle.rank_node.specs.Openings.{posts_at_start};
+
+    /// The posts of a rank at the start. The memory of its tables, its lanes and its rank journal is taken here.
+    pub(crate) fn new(alloc: Global, shape: &Shape, rank: RankId) -> Result<NodePosts, NoMemory>
+        requires { rank < shape.now.limits.ranks }
+        ensures { IfOk result (λ posts. posts ≡ posts_at_start shape.now rank) }
+    {
+        let limits = shape.limits();
+        Ok(NodePosts {
+            limits,
+            me: rank,
+            lanes: Lanes::new(alloc, limits.queues, limits.ranks, limits.depth)?,
+            corrupt: opening_corrupt(alloc, limits.ranks)?,
+            segments: opening_table(alloc, shape, rank.number())?,
+            groups: Groups::new(alloc, rank, limits.ranks)?,
+            pending: Pending::new(alloc)?,
+            threads: opening_threads(alloc, shape, rank.number())?,
+            journal: Buffer::with_room(alloc, limits.events as usize)?,
+        })
+    }
+}
+
+impl NodeMemory {
+    ghost use Rattle.std.specs.Prelude.{◌≡◌, IfOk};
+    ghost use Rattle.rank_node.specs.Openings.{memory_at_start};
+
+    /// The memory of a rank at the start, with the declared segments and their slots.
+    pub(crate) fn new(alloc: Global, shape: &Shape, rank: RankId) -> Result<NodeMemory, NoMemory>
+        ensures { IfOk result (λ memory. memory ≡ memory_at_start shape.now rank) }
+    {
+        let limits = shape.limits();
+        Ok(NodeMemory {
+            segments: opening_segments(alloc, shape, rank.number())?,
+            slots: opening_slots(alloc, shape, rank.number())?,
+            inbox: Inbox::new(alloc, limits.inbox)?,
+        })
+    }
+}
+
+impl Node {
+    /// The node of a rank at the start: that of the opening state. All its tables and rings, and its rank journal, have their memory: what a
+    /// call needs besides is taken for it.
+    pub fn new(alloc: Global, shape: &Shape, rank: RankId) -> Result<Node, NoMemory>
+        requires { rank < shape.now.limits.ranks }
+        ensures { IfOk result (λ node. IsOpeningNode shape.now rank node) }
+    {
+        Ok(Node {
+            posts: NodePosts::new(alloc, shape, rank)?,
+            memory: NodeMemory::new(alloc, shape, rank)?,
+        })
+    }
+}

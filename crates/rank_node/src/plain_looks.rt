@@ -1,0 +1,192 @@
+//! What a look at a call finds that is no collective.
+
+ghost use Rattle.std.specs.Prelude.{◌≡◌, ◌≤◌, length, false, Some, IfOk, IsOk};
+ghost use Rattle.gaspi_types.specs.CallRows.{row_of};
+ghost use Rattle.gaspi_types.specs.Posts.{is_list_post};
+ghost use Rattle.gaspi_types.specs.declared.replies.Ready.TheVariants.{NotReady};
+ghost use Rattle.gaspi_model.specs.Calls.{plain_finds, call_asks, answer};
+ghost use Rattle.gaspi_model.specs.PostCalls.{asked_finds};
+ghost use Rattle.gaspi_model.specs.QueueCalls.{wait_finds, purge_finds, qsize_finds};
+ghost use Rattle.gaspi_model.specs.SegmentCalls.{delete_finds};
+ghost use Rattle.gaspi_model.specs.declared.states.Posts.{Posts};
+ghost use Rattle.plain_calls.specs.Memory.{is_load};
+
+use crate::node_memory::NodeMemory;
+use crate::node_posts::NodePosts;
+use gaspi_types::{
+    Call, CompareSwap, Delete, Extents, FetchAdd, Invocation, NoMemory, Posting, Purge, Qsize,
+    Ready, Refusal, Reply, Wait,
+};
+use plain_calls::{
+    alloc_finds, group_add_finds, group_create_finds, group_delete_finds, load_finds, ready_of,
+    receive_finds, register_finds, reset_finds, send_finds, state_finds, store_finds,
+    waitsome_finds, word_finds,
+};
+use post_queue::Lanes;
+use segment_tables::{call_kinds, extent_in};
+use std::alloc::Global;
+
+/// Looks at a wait: ready where no entry of its queue is posted, and no read and no notification of a read stands in it.
+/// (GASPI: wait)
+fn look_at_wait(lanes: &Lanes, call: &Wait) -> Result<Option<Reply>, Refusal>
+    ensures { (posts : Posts) → posts.queues ≡ lanes.now.queues → result ≡ wait_finds posts call.now }
+{
+    if lanes.wait_ready(call.queue)? {
+        Ok(Some(Reply::Done))
+    } else {
+        Ok(None)
+    }
+}
+
+/// Looks at a purge: its queue is there, broken or not. (GASPI: queue_purge)
+fn look_at_purge(lanes: &Lanes, call: &Purge) -> Result<Option<Reply>, Refusal>
+    ensures { (posts : Posts) → posts.queues ≡ lanes.now.queues → result ≡ purge_finds posts call.now }
+{
+    lanes.open_count(call.queue)?;
+    Ok(Some(Reply::Done))
+}
+
+/// Looks at the size of a queue: its open count. (GASPI: queue_size)
+fn look_at_size(lanes: &Lanes, call: &Qsize) -> Result<Option<Reply>, Refusal>
+    ensures { (posts : Posts) → posts.queues ≡ lanes.now.queues → result ≡ qsize_finds posts call.now }
+{
+    let count = lanes.open_count(call.queue)?;
+    Ok(Some(Reply::Value(u64::from(count))))
+}
+
+/// Checks that no entry of the rank's own uses a segment. (GASPI: segment_delete)
+fn look_at_delete(lanes: &Lanes, own: &Extents, call: &Delete) -> Result<Option<Reply>, Refusal>
+    ensures { (posts : Posts) → posts.queues ≡ lanes.now.queues → posts.segments.own ≡ own.now → result ≡ delete_finds posts call.now }
+{
+    extent_in(own, call.seg).ok_or(Refusal::NoSegment)?;
+    match lanes.uses(call.seg) {
+        Some(queue) => Err(Refusal::SegmentBusy { queue }),
+        None => Ok(Some(Reply::Done)),
+    }
+}
+
+/// What a call finds that posts nothing and is no collective. Only a load takes memory.
+fn plain_finds(
+    alloc: Global,
+    posts: &NodePosts,
+    memory: &NodeMemory,
+    call: &Call,
+) -> Result<Result<Option<Reply>, Refusal>, NoMemory>
+    requires corrupt { length posts.now.posts.corrupt ≤ 32 }
+    requires capacity { memory.now.capacity ≡ posts.now.limits.inbox }
+    ensures finds { IfOk result (λ finds. finds ≡ plain_finds posts.now.limits posts.now.me posts.now.posts memory.now.memory call.now) }
+    ensures ample { is_load call.now ≡ false → IsOk result }
+{
+    let limits = &posts.limits;
+    let table = &posts.segments;
+    Ok(match call {
+        Call::Alloc(call) => alloc_finds(&table.own, call),
+        Call::Register(call) => register_finds(limits.ranks, &table.own, call),
+        Call::Delete(call) => look_at_delete(&posts.lanes, &table.own, call),
+        Call::Store(call) => store_finds(&table.own, call),
+        Call::Load(call) => load_finds(alloc, &table.own, &memory.segments, call)?,
+        Call::Wait(call) => look_at_wait(&posts.lanes, call),
+        Call::Purge(call) => look_at_purge(&posts.lanes, call),
+        Call::Qsize(call) => look_at_size(&posts.lanes, call),
+        Call::Waitsome(call) => {
+            waitsome_finds(limits.notes, &table.own, memory.slots_of(call.seg), call)
+        }
+        Call::Reset(call) => {
+            reset_finds(limits.notes, &table.own, memory.slots_of(call.seg), call)
+        }
+        Call::PassiveSend(call) => {
+            send_finds(limits.ranks, &table.own, memory.inbox.has_room(), call)
+        }
+        Call::PassiveReceive(call) => receive_finds(&table.own, memory.inbox.front(), call),
+        Call::FetchAdd(
+            FetchAdd {
+                seg,
+                offset,
+                rank,
+                ..
+            },
+        )
+        | Call::CompareSwap(
+            CompareSwap {
+                seg,
+                offset,
+                rank,
+                ..
+            },
+        ) => {
+            let segments = &memory.segments;
+            word_finds(
+                limits.ranks,
+                posts.me,
+                table,
+                segments,
+                *seg,
+                *offset,
+                *rank,
+            )
+        }
+        Call::GroupCreate => group_create_finds(posts.groups.handles()),
+        Call::GroupAdd(call) => {
+            let pending = posts.pending_at(call.group);
+            group_add_finds(limits.ranks, posts.groups.handles(), pending, call)
+        }
+        Call::GroupDelete(call) => {
+            let pending = posts.pending_at(call.group);
+            group_delete_finds(posts.groups.handles(), pending, call)
+        }
+        Call::State => state_finds(posts.corrupt.as_slice()),
+        _ => Ok(Some(Reply::Done)),
+    })
+}
+
+/// What a call finds that posts to that lane: `Done`, or its first refusal. Only the post of a list takes memory.
+fn post_finds(
+    alloc: Global,
+    posts: &NodePosts,
+    to: Posting,
+    call: &Call,
+) -> Result<Result<Option<Reply>, Refusal>, NoMemory>
+    ensures finds { IfOk result (λ finds. finds ≡ asked_finds posts.now.limits posts.now.posts to.rank to.queue (call_asks posts.now.limits posts.now.me posts.now.posts call.now)) }
+    ensures ample { is_list_post call.now ≡ false → IsOk result }
+{
+    if to.rank >= u64::from(posts.limits.ranks) {
+        return Ok(Err(Refusal::BadRank));
+    }
+    if posts.lanes.open_count(to.queue).is_err() {
+        return Ok(Err(Refusal::BadQueue));
+    }
+    match call_kinds(alloc, posts.limits.notes, posts.me, &posts.segments, call)? {
+        Ok(kinds) => match posts
+            .lanes
+            .check_post(to.queue, kinds.as_slice().len() as u32)
+        {
+            Ok(()) => Ok(Ok(Some(Reply::Done))),
+            Err(refusal) => Ok(Err(refusal)),
+        },
+        Err(refusal) => Ok(Err(refusal)),
+    }
+}
+
+/// Looks at a call that is no collective: its refusal or its reply, or that it is not ready. The memory is that which the call works on:
+/// its rank's or, of an atomic and a send, that of the rank that it names. Only a load and the post of a list take memory.
+pub(crate) fn look(
+    alloc: Global,
+    posts: &NodePosts,
+    memory: &NodeMemory,
+    invocation: &Invocation<'_>,
+) -> Result<Ready, NoMemory>
+    requires corrupt { length posts.now.posts.corrupt ≤ 32 }
+    requires capacity { memory.now.capacity ≡ posts.now.limits.inbox }
+    ensures answer { IfOk result (λ ready. ready ≡ answer posts.now.limits posts.now.me posts.now.posts memory.now.memory invocation.now.caller.thread invocation.now.call.now) }
+    ensures ample { (row_of invocation.now.call.now).takes_memory ≡ false → IsOk result }
+    ensures unready { answer posts.now.limits posts.now.me posts.now.posts memory.now.memory invocation.now.caller.thread invocation.now.call.now ≡ NotReady → IsOk result }
+{
+    if !posts.is_running(invocation.caller.thread) {
+        return Ok(Ready::Reply(Reply::Refused(Refusal::CallerEnded)));
+    }
+    let finds = match invocation.row.posting {
+        Some(to) => post_finds(alloc, posts, to, invocation.call)?,
+        None => plain_finds(alloc, posts, memory, invocation.call)?,
+    };
+    Ok(ready_of(finds))
+}

@@ -1,0 +1,159 @@
+//! What calls change in the posts of a rank, without memory.
+
+ghost use Rattle.std.specs.Prelude.{◌≡◌, ◌+◌, ◌<◌, ◌≤◌, ◌^◌, Ok, IsOk, Some, slice_set};
+ghost use Rattle.gaspi_types.specs.CallRows.{row_of};
+ghost use Rattle.gaspi_types.specs.Groups.{next_group, building_at, drop_checks};
+ghost use Rattle.gaspi_types.specs.SegmentTables.{next_generation};
+ghost use Rattle.gaspi_types.specs.declared.replies.Reply.TheVariants.{Done};
+ghost use Rattle.gaspi_model.specs.Calls.{plain_done, posts_done};
+ghost use Rattle.gaspi_model.specs.GroupCalls.{group_create_leaves, group_add_leaves, group_delete_leaves};
+ghost use Rattle.gaspi_model.specs.Posting.{with_post};
+ghost use Rattle.gaspi_model.specs.QueueCalls.{wait_finds, closed, purged};
+ghost use Rattle.gaspi_model.specs.SegmentCalls.{with_own, without_own, with_known};
+ghost use Rattle.gaspi_model.specs.declared.states.ThreadState.TheVariants.{Ended};
+
+use crate::node_posts::NodePosts;
+use gaspi_model::ThreadState;
+use gaspi_types::{Call, Extent, GroupAdd, Posting, RankId, ThreadId};
+use post_drafts::Entries;
+use segment_tables::{add_own, remove_own, set_known};
+
+impl NodePosts {
+    ghost use Rattle.std.specs.Prelude.{◌≡◌, ◌+◌, ◌<◌, ◌≤◌, ◌^◌, Ok, IsOk, Some, slice_set, ◌++◌, ◌∷◌, [], length, option_copied};
+    ghost use Rattle.rank_node.specs.Effects.{with_posts, MayPost};
+
+    /// Posts entries to the end of a lane. (GASPI: write, read, notify)
+    pub(crate) fn post(&mut self, to: Posting, entries: Entries)
+        requires { MayPost self.old to entries }
+        ensures { self.new ≡ with_posts self.old (with_post self.old.posts to.queue to.rank (Ok entries)) }
+    {
+        let target = RankId::of(to.rank as u32);
+        match self.lanes.post(to.queue, target, entries) {
+            Ok(()) => {}
+            Err(_refusal) => unreachable!(),
+        }
+    }
+
+    /// The open count of a queue that is ready returns to 0. (GASPI: wait)
+    fn close_wait(&mut self, queue: u64)
+        requires { wait_finds self.old.posts (record { queue = queue }) ≡ Ok (Some Done) }
+        ensures { self.new ≡ with_posts self.old (closed self.old.posts queue) }
+    {
+        self.lanes.close_wait(queue);
+    }
+
+    /// Drops the entries of a queue, clears its open count and mends it. Its corrupt ranks stay so. (GASPI: queue_purge)
+    fn purge(&mut self, queue: u64)
+        ensures { self.new ≡ with_posts self.old (purged self.old.posts queue) }
+    {
+        match self.lanes.purge(queue) {
+            Ok(()) => {}
+            Err(_refusal) => {}
+        }
+    }
+
+    /// Adds a segment of the next generation of its number to the own ones. (GASPI: segment_alloc)
+    pub(crate) fn add_own(&mut self, seg: u64, size: u32)
+        requires { next_generation self.old.posts.segments.next_generations seg + 1 < 2 ^ 32 }
+        ensures { self.new ≡ with_posts self.old (with_own self.old.posts seg size) }
+    {
+        add_own(&mut self.segments, seg, size);
+    }
+
+    /// Takes a segment out of the own ones. (GASPI: segment_delete)
+    fn remove_own(&mut self, seg: u64)
+        ensures { self.new ≡ with_posts self.old (without_own self.old.posts seg) }
+    {
+        remove_own(&mut self.segments, seg);
+    }
+
+    /// Makes a segment of an owner known, or takes away what was known of it. (GASPI: segment_register)
+    pub(crate) fn set_known(&mut self, owner: RankId, seg: u64, extent: Option<Extent>)
+        ensures { self.new ≡ with_posts self.old (with_known owner seg extent self.old.posts) }
+    {
+        set_known(&mut self.segments, owner, seg, extent);
+    }
+
+    /// Makes a group, with no rank in it. (GASPI: group_create)
+    fn create_group(&mut self)
+        requires { IsOk (next_group self.old.posts.groups) }
+        ensures { self.new ≡ with_posts self.old (group_create_leaves self.old.posts) }
+    {
+        match self.groups.create() {
+            Ok(_id) => {}
+            Err(_refusal) => unreachable!(),
+        }
+    }
+
+    /// Adds a rank to a group. (GASPI: group_add)
+    fn add_to_group(&mut self, call: &GroupAdd)
+        requires rank { call.now.rank < 16 }
+        requires group { IsOk (building_at self.old.posts.groups call.now.group) }
+        ensures { self.new ≡ with_posts self.old (group_add_leaves self.old.posts call.now) }
+    {
+        match self.groups.add(call.group, RankId::of(call.rank as u32)) {
+            Ok(()) => {}
+            Err(_refusal) => unreachable!(),
+        }
+    }
+
+    /// Drops a group. (GASPI: group_delete)
+    fn delete_group(&mut self, group: u64)
+        requires { IsOk (drop_checks self.old.posts.groups group) }
+        ensures { self.new ≡ with_posts self.old (group_delete_leaves self.old.posts (record { group = group })) }
+    {
+        match self.groups.delete(group) {
+            Ok(()) => {}
+            Err(_refusal) => unreachable!(),
+        }
+    }
+
+    /// Ends a thread.
+    fn end_thread(&mut self, thread: ThreadId)
+        ensures { self.new ≡ with_posts self.old (record self.old.posts { threads = slice_set self.old.posts.threads thread Ended }) }
+    {
+        let place = thread.index();
+        if place < self.threads.len() {
+            *self.threads.at_mut(place) = ThreadState::Ended;
+        }
+    }
+
+    ghost use Rattle.rank_node.specs.Effects.{MayChangePosts, MayAffectPosts};
+
+    /// What a call leaves that posts nothing.
+    fn change(&mut self, thread: ThreadId, call: &Call)
+        requires { MayChangePosts self.old call.now }
+        ensures { self.new ≡ with_posts self.old (plain_done self.old.posts thread call.now) }
+    {
+        match call {
+            Call::Alloc(call) => self.add_own(call.seg, call.size as u32),
+            Call::Delete(call) => self.remove_own(call.seg),
+            Call::Wait(call) => self.close_wait(call.queue),
+            Call::Purge(call) => self.purge(call.queue),
+            Call::GroupCreate => self.create_group(),
+            Call::GroupAdd(call) => self.add_to_group(call),
+            Call::GroupDelete(call) => self.delete_group(call.group),
+            Call::End => self.end_thread(thread),
+            _ => {}
+        }
+    }
+
+    /// What a call leaves that was answered neither with a refusal nor with a timeout: a post its entries.
+    pub(crate) fn affect(
+        &mut self,
+        thread: ThreadId,
+        call: &Call,
+        posting: Option<Posting>,
+        entries: Option<Entries>,
+    )
+        requires posting { posting ≡ (row_of call.now).posting }
+        requires may { MayAffectPosts self.old posting call.now entries }
+        ensures { self.new ≡ with_posts self.old (posts_done self.old.limits self.old.me self.old.posts thread call.now) }
+    {
+        match (posting, entries) {
+            (Some(to), Some(entries)) => self.post(to, entries),
+            (Some(_to), None) => unreachable!(),
+            (None, _) => self.change(thread, call),
+        }
+    }
+}

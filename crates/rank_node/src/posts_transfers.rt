@@ -1,0 +1,54 @@
+//! Takes and puts of a rank's own entries, with their events. (GASPI: one-sided communication)
+
+ghost use Rattle.std.specs.Prelude.{◌≡◌, Some, IfSome};
+ghost use Rattle.gaspi_types.specs.declared.entries.Entry.{Entry};
+ghost use Rattle.gaspi_model.specs.Transfers.{taken_bytes, take_outcome, put_outcome};
+ghost use Rattle.post_queue.specs.LanesStates.{next_take, next_put, head_of};
+ghost use Rattle.rank_node.specs.Transfers.{lanes_of, take_of, put_of, posts_taken, posts_put, memory_left, recorded, MayTakeFrom, MayPutNext};
+
+use crate::lane_transfers::{put_next, take_next};
+use crate::node_memory::NodeMemory;
+use crate::node_posts::NodePosts;
+use gaspi_types::{Event, Outcome, Transfer};
+
+impl NodePosts {
+    /// The entry of the lane of a transfer that may take its bytes next takes them from a memory, or fails; the event has its place
+    /// in the rank journal. It takes no memory.
+    pub(crate) fn take_from(&mut self, source: &NodeMemory, place: u64, t: &Transfer)
+        requires { MayTakeFrom self.old source.now.memory t.now }
+        ensures { IfSome (next_take (lanes_of self.old) t.now.queue t.now.target) (λ (e : Entry).
+            self.new ≡ recorded self.old (posts_taken self.old.posts t.now.queue t.now.target (taken_bytes source.now.memory e.kind) (take_outcome source.now.memory e.kind)) place (take_of t.now (take_outcome source.now.memory e.kind))) }
+    {
+        let queue = u64::from(t.queue.number());
+        let outcome = take_next(&mut self.lanes, &mut self.corrupt, source, queue, t.target);
+        let event = Event::Take(t.origin, t.queue, t.target, t.number, outcome);
+        self.add_event(place, event);
+    }
+
+    /// The entry of the lane of a transfer that may be put next is put into a memory, and goes, or fails; the event has its place in
+    /// the rank journal. It takes no memory.
+    pub(crate) fn put_into(
+        &mut self,
+        destination: &mut NodeMemory,
+        place: u64,
+        t: &Transfer,
+    ) -> Outcome
+        requires { MayPutNext self.old t.now }
+        ensures outcome { IfSome (next_put (lanes_of self.old) t.now.queue t.now.target) (λ (e : Entry). result ≡ put_outcome destination.old.memory e.kind) }
+        ensures head { IfSome (next_put (lanes_of self.old) t.now.queue t.now.target) (λ (e : Entry). head_of (lanes_of self.old) t.now.queue t.now.target ≡ Some e) }
+        ensures posts { self.new ≡ recorded self.old (posts_put self.old.posts t.now.queue t.now.target result) place (put_of t.now result) }
+        ensures memory { IfSome (next_put (lanes_of self.old) t.now.queue t.now.target) (λ (e : Entry). destination.new ≡ record destination.old { memory = memory_left destination.old.memory e result }) }
+    {
+        let queue = u64::from(t.queue.number());
+        let outcome = put_next(
+            &mut self.lanes,
+            &mut self.corrupt,
+            destination,
+            queue,
+            t.target,
+        );
+        let event = Event::Put(t.origin, t.queue, t.target, t.number, outcome);
+        self.add_event(place, event);
+        outcome
+    }
+}

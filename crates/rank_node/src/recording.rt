@@ -1,0 +1,45 @@
+//! A call that is no collective is recorded, on the posts of its caller's rank and the memory that it works on.
+
+ghost use Rattle.std.specs.Prelude.{◌≡◌, ◌<◌, false};
+ghost use Rattle.gaspi_types.specs.CallRows.{row_of};
+ghost use Rattle.gaspi_types.specs.Replies.{is_idle};
+ghost use Rattle.rank_node.specs.Effects.{MayAffectPosts, MayAffectMemory, IsMadeByCall, recorded_posts, recorded_memory};
+
+use crate::node_memory::NodeMemory;
+use crate::node_posts::NodePosts;
+use crate::rooms::Room;
+use gaspi_types::{Call, CallerId, Event, Reply};
+use plain_calls::is_idle;
+
+/// Records a call with its reply: what it leaves, and one event more. It takes no memory.
+pub(crate) fn record(
+    posts: &mut NodePosts,
+    memory: &mut NodeMemory,
+    place: u64,
+    caller: CallerId,
+    call: Call,
+    reply: Reply,
+    room: Room,
+)
+    requires row { room.row ≡ row_of call }
+    requires event { posts.old.posts.events < posts.old.limits.events }
+    requires posts { is_idle reply ≡ false → MayAffectPosts posts.old (row_of call).posting call room.entries }
+    requires memory { is_idle reply ≡ false → MayAffectMemory memory.old call room.made room.message }
+    requires made { is_idle reply ≡ false → IsMadeByCall posts.old call room.made }
+    ensures posts { posts.new ≡ recorded_posts posts.old place caller call reply }
+    ensures memory { memory.new ≡ recorded_memory posts.old room.message memory.old call reply }
+{
+    let Room {
+        row,
+        entries,
+        made,
+        message,
+        bytes: _,
+        numbers: _,
+    } = room;
+    if !is_idle(&reply) {
+        memory.affect(&call, made, message);
+        posts.affect(caller.thread, &call, row.posting, entries);
+    }
+    posts.add_event(place, Event::Called(caller, call, reply));
+}

@@ -1,0 +1,176 @@
+//! Memory that is reserved before a call is recorded, so that its steps take none.
+
+ghost use Rattle.std.specs.Prelude.{◌≡◌, ◌≤◌, false, length, IfOk, IsOk, Ok, Some};
+ghost use Rattle.gaspi_types.specs.CallRows.{row_of};
+ghost use Rattle.gaspi_types.specs.SegmentTables.{alloc_checks};
+ghost use Rattle.gaspi_model.specs.Calls.{call_asks};
+ghost use Rattle.gaspi_model.specs.PassiveCalls.{brought_by};
+ghost use Rattle.rank_node.specs.Making.{made_segment};
+ghost use Rattle.rank_node.specs.Rooms.{HasEntries, HasMade, HasBytes, IsRoomFor};
+
+use crate::making::MadeSegment;
+use crate::node_memory::NodeMemory;
+use crate::node_posts::NodePosts;
+use crate::reserved_numbers::ReservedNumbers;
+use gaspi_types::{Bytes, Call, CallRow, Invocation, Message, NoMemory, Posting, Reply, Rows};
+use list_ops::{BuildStop, asked_entries};
+use plain_calls::message_of;
+use post_drafts::Entries;
+use segment_tables::{check_alloc, check_own_range};
+use std::alloc::Global;
+
+/// The memory that a call needs, with the call's row: of a post its entries, with room for their bytes; a segment that is made; a
+/// message that is sent; bytes for a second reply of a load; and lists for the numbers of an allreduce.
+#[derive(Debug, Drop)]
+pub struct Room {
+    pub row: CallRow,
+    pub entries: Option<Entries>,
+    pub made: Option<MadeSegment>,
+    pub message: Option<Message>,
+    pub bytes: Bytes,
+    pub numbers: ReservedNumbers,
+}
+
+/// The entries of a call that posts, where it asks for some; of one that is refused for what it asks, none.
+fn reserve_entries(
+    alloc: Global,
+    posts: &NodePosts,
+    posting: Option<Posting>,
+    call: &Call,
+) -> Result<Option<Entries>, NoMemory>
+    requires { posting ≡ (row_of call.now).posting }
+    ensures entries { IfOk result (λ entries. HasEntries (row_of call.now).posting (call_asks posts.now.limits posts.now.me posts.now.posts call.now) entries) }
+    ensures ample { (row_of call.now).takes_memory ≡ false → IsOk result }
+{
+    if posting.is_none() {
+        return Ok(None);
+    }
+    match asked_entries(alloc, posts.limits.notes, posts.me, &posts.segments, call) {
+        Ok(entries) => Ok(Some(entries)),
+        Err(BuildStop::Refused(_refusal)) => Ok(None),
+        Err(BuildStop::NoMemory) => Err(NoMemory),
+    }
+}
+
+/// A segment of a number and a size that may be made; else none.
+fn reserve_segment(
+    alloc: Global,
+    posts: &NodePosts,
+    seg: u64,
+    size: u64,
+) -> Result<Option<MadeSegment>, NoMemory>
+    requires { posts.now.limits.notes ≤ 1024 }
+    ensures { IfOk result (λ made. alloc_checks posts.now.posts.segments.own seg size ≡ Ok tt → made ≡ Some (made_segment posts.now.limits posts.now.posts seg size)) }
+{
+    match check_alloc(&posts.segments.own, seg, size) {
+        Ok(()) => Ok(Some(posts.make_segment(alloc, seg, size)?)),
+        Err(_refusal) => Ok(None),
+    }
+}
+
+/// The segment that a call makes, where it may be made.
+fn reserve_made(
+    alloc: Global,
+    posts: &NodePosts,
+    call: &Call,
+) -> Result<Option<MadeSegment>, NoMemory>
+    requires { posts.now.limits.notes ≤ 1024 }
+    ensures made { IfOk result (λ made. HasMade posts.now call.now made) }
+    ensures ample { (row_of call.now).takes_memory ≡ false → IsOk result }
+{
+    match call {
+        Call::Alloc(call) => reserve_segment(alloc, posts, call.seg, call.size),
+        Call::Create(call) => reserve_segment(alloc, posts, call.seg, call.size),
+        _ => Ok(None),
+    }
+}
+
+/// The message that a call brings, taken from the own memory.
+fn reserve_message(
+    alloc: Global,
+    posts: &NodePosts,
+    memory: &NodeMemory,
+    call: &Call,
+) -> Result<Option<Message>, NoMemory>
+    ensures message { IfOk result (λ message. message ≡ brought_by posts.now.me memory.now.memory call.now) }
+    ensures ample { (row_of call.now).takes_memory ≡ false → IsOk result }
+{
+    match call {
+        Call::PassiveSend(call) => {
+            let message = message_of(alloc, posts.me, &memory.segments, call)?;
+            Ok(Some(message))
+        }
+        _ => Ok(None),
+    }
+}
+
+/// As many zeros as a load reads bytes, where it is not refused; else none.
+fn reserve_bytes(alloc: Global, posts: &NodePosts, call: &Call) -> Result<Bytes, NoMemory>
+    ensures bytes { IfOk result (λ bytes. HasBytes posts.now call.now bytes) }
+    ensures ample { (row_of call.now).takes_memory ≡ false → IsOk result }
+{
+    if let Call::Load(call) = call {
+        let own = &posts.segments.own;
+        if check_own_range(own, call.seg, call.offset, call.size).is_ok() {
+            return Ok(Rows::from_vec(vec![in alloc; 0u8; call.size as usize]?));
+        }
+    }
+    Ok(Rows::new(alloc))
+}
+
+/// Reserves the memory that a call needs, on the posts and the memory of its caller's rank. A call whose row says so takes none.
+pub(crate) fn reserve(
+    alloc: Global,
+    posts: &NodePosts,
+    memory: &NodeMemory,
+    invocation: &Invocation<'_>,
+) -> Result<Room, NoMemory>
+    requires { posts.now.limits.notes ≤ 1024 }
+    ensures room { IfOk result (λ room. IsRoomFor posts.now memory.now invocation.now.call.now room) }
+    ensures ample { (row_of invocation.now.call.now).takes_memory ≡ false → IsOk result }
+{
+    let call = invocation.call;
+    Ok(Room {
+        row: invocation.row,
+        entries: reserve_entries(alloc, posts, invocation.row.posting, call)?,
+        made: reserve_made(alloc, posts, call)?,
+        message: reserve_message(alloc, posts, memory, call)?,
+        bytes: reserve_bytes(alloc, posts, call)?,
+        numbers: ReservedNumbers::for_call(alloc, call)?,
+    })
+}
+
+/// Takes a list of bytes, and leaves the empty one. It takes no memory.
+fn take_bytes(bytes: &mut Bytes) -> Bytes
+    ensures { result ≡ bytes.old }
+{
+    let alloc = bytes.allocator();
+    std::mem::replace(bytes, Rows::new(alloc))
+}
+
+/// Equal bytes, in a list that is long enough.
+fn copied_bytes(bytes: &Bytes, mut list: Bytes) -> Bytes
+    requires { length bytes.now ≤ length list }
+    ensures { result ≡ bytes.now }
+{
+    list.truncate(bytes.len());
+    list.overwrite(0, bytes.as_slice());
+    list
+}
+
+impl Room {
+    ghost use Rattle.std.specs.Prelude.{◌≡◌};
+    ghost use Rattle.rank_node.specs.Rooms.{FitsRoom};
+
+    /// An equal reply for the caller, beside that in the event: once. It takes no memory, and the room is still one for the record.
+    pub fn again(&mut self, reply: &Reply) -> Reply
+        requires { FitsRoom reply.now self.old }
+        ensures reply { result ≡ reply.now }
+        ensures kept { self.new ≡ record self.old { bytes = self.new.bytes; numbers = self.new.numbers } }
+    {
+        match reply {
+            Reply::Bytes(bytes) => Reply::Bytes(copied_bytes(bytes, take_bytes(&mut self.bytes))),
+            _ => self.numbers.again(reply),
+        }
+    }
+}
