@@ -1,5 +1,5 @@
 -- Steps on what is lent, by the reference to the group's node.
-use Rattle.std.proofs.Common.{◌≡◌, ℕ, ◌<◌, Option, None, Some, refl, sym, ap, ◌∙◌, subst, arith}
+use Rattle.std.proofs.Common.{◌≡◌, ℕ, Option, None, Some, refl, sym, ap, ◌∙◌, subst, arith}
 use Rattle.std.specs.Borrow.{MutBor}
 use Rattle.gaspi_types.specs.CallRows.{row_of}
 use Rattle.gaspi_types.specs.Touches.{reach_of}
@@ -7,9 +7,8 @@ use Rattle.gaspi_types.specs.declared.calls.Call.{Call}
 use Rattle.gaspi_types.specs.declared.collectives.Coll.{Coll}
 use Rattle.gaspi_types.specs.declared.collectives.Coll.TheVariants as colls
 use Rattle.gaspi_types.specs.declared.events.Event.{Event}
-use Rattle.gaspi_types.specs.declared.events.Event.TheVariants.{Called, Joined}
+use Rattle.gaspi_types.specs.declared.events.Event.TheVariants.{Joined}
 use Rattle.gaspi_types.specs.declared.groups.Args.{Args}
-use Rattle.gaspi_types.specs.declared.replies.Reply.{Reply}
 use Rattle.gaspi_types.specs.declared.shapes.CallerId.{CallerId}
 use Rattle.gaspi_types.specs.declared.shapes.Limits.{Limits}
 use Rattle.gaspi_types.specs.declared.touches.Touch.{Touch}
@@ -17,13 +16,13 @@ use Rattle.gaspi_model.specs.CollectiveCalls.{joining_call}
 use Rattle.gaspi_model.specs.Step.{join_touch}
 use Rattle.gaspi_model.specs.declared.states.State.{State}
 use Rattle.gaspi_model.proofs.GroupEffects.{join-step}
-use Rattle.gaspi_model.proofs.GroupSteps.{collective-touch, join-touch}
+use Rattle.gaspi_model.proofs.GroupSteps.{join-touch}
 use Rattle.gaspi_model.proofs.Sound.GroupEvents.{steps-joined}
 use Rattle.rank_node.specs.CollectiveSteps.{MayStepOn}
 use Rattle.rank_node.specs.Lending.{Lends, LendsFor, AreLentFor, IsStepOn, MayStep, IsLeft, behind}
 use Rattle.rank_node.specs.declared.nodes.GroupNode.{GroupNode}
 use Rattle.rank_node.specs.declared.nodes.Node.{Node}
-use Rattle.rank_node.proofs.LentGroups.{lends-group, lends-no-group}
+use Rattle.rank_node.proofs.LentGroups.{lends-no-group}
 
 pub on-there : (s t : State) (e : Event) (own : Node) (peer : Option Node) (o : Option (MutBor GroupNode)) (r : MutBor GroupNode) → o ≡ Some r → IsStepOn s t e own peer (behind o) → IsStepOn s t e own peer (Some r.now)
 on-there s t e own peer o r is on = subst (λ (x : Option (MutBor GroupNode)). IsStepOn s t e own peer (behind x)) is on
@@ -44,12 +43,6 @@ join-there c id args own may =
     let over = (lends-no-group may.0 c.rank id (join_touch id args.coll) own may.2 (join-touch id args.coll) on.lends).over in
     let within = (join-step may.0 may.1 c id args on.sound on.is_step).5.there.within in
     omega arith
-
--- a collective whose group's node is lent has a group's number
-pub call-within : (c : CallerId) (id : ℕ) (call : Call) (reply : Reply) (own : Node) (n : GroupNode) → (row_of call).group ≡ Some id → MayStepOn (Called c call reply) own (Some n) → id < 8
-call-within c id call reply own n named may =
-    let on = may.3 in
-    (lends-group may.0 c.rank id (row_of call).touch own may.2 n (collective-touch call id named) on.lends).within
 
 -- After a join the nodes are lent for its call, of a sound state.
 joining-touch : (id : ℕ) (args : Args) → (row_of (joining_call id args)).touch ≡ join_touch id args.coll
