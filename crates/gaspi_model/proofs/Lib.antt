@@ -23,5 +23,7 @@ pub mod Ended
 pub mod Settled
 pub mod Local
 pub mod OwnCalls
+pub mod Recordable
+pub mod StaysPending
 pub mod HistoryLengths
 pub mod Ranges

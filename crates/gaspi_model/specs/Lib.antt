@@ -25,3 +25,4 @@ pub mod Order
 pub mod Settled
 pub mod Turns
 pub mod Parties
+pub mod CallerEvents

@@ -7,7 +7,7 @@ use Rattle.gaspi_types.specs.declared.events.Event.TheVariants.{Called, Joined, 
 use Rattle.gaspi_types.specs.declared.replies.Reply.{Reply}
 use Rattle.gaspi_types.specs.declared.shapes.CallerId.{CallerId}
 use Rattle.gaspi_model.specs.Step.{own_calls}
-use Rattle.gaspi_world.specs.Callers.{events_of}
+use Rattle.gaspi_model.specs.CallerEvents.{events_of}
 
 pub own-events : (c : CallerId) (history : List Event) → own_calls c.rank c.thread (events_of c history) ≡ own_calls c.rank c.thread history
 own-events c [] = refl

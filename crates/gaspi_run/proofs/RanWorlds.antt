@@ -19,7 +19,8 @@ use Rattle.gaspi_model.specs.declared.states.State.{State}
 use Rattle.gaspi_model.proofs.Histories.{leads, after-first, after-both}
 use Rattle.commit_table.specs.Calls.{TableValue, PassValue, TallyValue, IsOf, HoldsNone, AreWhole}
 use Rattle.commit_table.specs.declared.views.Known.{Known}
-use Rattle.gaspi_world.specs.Callers.{events_of, IsPassOf}
+use Rattle.gaspi_model.specs.CallerEvents.{events_of}
+use Rattle.gaspi_world.specs.Callers.{IsPassOf}
 use Rattle.gaspi_world.specs.Closing.{HaveSeen, HaveDone}
 use Rattle.gaspi_world.specs.Waits.{Waited}
 use Rattle.gaspi_model.specs.Parties.{number_of}

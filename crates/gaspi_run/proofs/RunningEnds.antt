@@ -14,7 +14,7 @@ use Rattle.gaspi_types.specs.declared.events.Event.TheVariants.{Called}
 use Rattle.gaspi_model.specs.Sound.{IsSound}
 use Rattle.gaspi_model.specs.Step.{step, own_calls, is_active, is_pending, ends_caller}
 use Rattle.gaspi_model.specs.declared.states.State.{State}
-use Rattle.gaspi_world.proofs.StaysPending.{pending-stays}
+use Rattle.gaspi_model.proofs.StaysPending.{pending-stays}
 use Rattle.gaspi_types.proofs.Items.{append-parts}
 use Rattle.rank_script.specs.Runs.{Progress, Going, Over, going_on, advanced, is_stuck, is_retried, is_failed, Follows, IsRun, IsStopped, end_pair}
 use Rattle.rank_script.specs.declared.scripts.Script.{Script}

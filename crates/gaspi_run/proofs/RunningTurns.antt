@@ -17,7 +17,7 @@ use Rattle.gaspi_model.specs.Step.{step, own_calls, is_active, is_pending, ends_
 use Rattle.gaspi_types.specs.CallRows.{is_end}
 use Rattle.gaspi_model.specs.declared.states.State.{State}
 use Rattle.gaspi_model.proofs.OwnCalls.{own_calls-append}
-use Rattle.gaspi_world.proofs.StaysPending.{pending-stays}
+use Rattle.gaspi_model.proofs.StaysPending.{pending-stays}
 use Rattle.gaspi_types.proofs.Items.{slice_get-set}
 use Rattle.rank_script.specs.Runs.{Progress, Going, going_on, advanced, Follows}
 use Rattle.rank_script.specs.declared.scripts.Script.{Script}

@@ -12,7 +12,8 @@ use Rattle.commit_table.specs.Calls.{TallyValue}
 use Rattle.commit_table.specs.declared.views.Known.{Known}
 use Rattle.rank_script.specs.Runs.{going_on}
 use Rattle.rank_script.specs.declared.scripts.Script.{Script}
-use Rattle.gaspi_world.specs.Callers.{events_of, IsPassOf}
+use Rattle.gaspi_model.specs.CallerEvents.{events_of}
+use Rattle.gaspi_world.specs.Callers.{IsPassOf}
 use Rattle.gaspi_world.specs.Waits.{Waited}
 use Rattle.gaspi_world.specs.declared.starts.Start.{Start}
 use Rattle.script_bodies.specs.Looks.{looks_along, AreWithin, AreByCall}

@@ -32,6 +32,13 @@ pub enum Event {
     Put(RankId, QueueId, RankId, u32, Outcome),
 }
 
+/// An event with its place in the history.
+#[derive(Debug, Drop)]
+pub struct PlacedEvent {
+    pub place: u64,
+    pub event: Event,
+}
+
 /// A transfer that may come next: a `Take`, or where `put` a `Put`.
 #[derive(Clone, Copy, Debug, PartialEq, Eq)]
 pub struct Transfer {

@@ -27,7 +27,7 @@ pub use calls::{
 };
 pub use collectives::{Coll, NumType, Numbers, Op, Stage, are_in_type, is_in_type};
 pub use entries::{ByteRange, Destination, Direction, Ends, Entry, Kind, NoteSlot, Phase, Queue};
-pub use events::{Event, Outcome, Transfer};
+pub use events::{Event, Outcome, PlacedEvent, Transfer};
 pub use groups::{Args, Contribution, Group, Handle, Handles, Made, Part, Pending, Resume};
 pub use ids::{GroupId, NoteId, QueueId, RankId, SegId, ThreadId};
 pub use inboxes::{Message, Messages, is_passive_size};

@@ -7,10 +7,8 @@ pub mod Holdings
 pub mod Looks
 pub mod Numbers
 pub mod OwnEvents
-pub mod Recordable
 pub mod Sections
 pub mod SpentLooks
-pub mod StaysPending
 pub mod Timely
 pub mod Transferring
 pub mod Waiting

@@ -8,7 +8,7 @@ use Rattle.gaspi_types.specs.declared.events.Event.TheVariants.{Called, Joined, 
 use Rattle.gaspi_types.specs.declared.shapes.CallerId.{CallerId}
 use Rattle.gaspi_types.proofs.Chains.{both}
 use Rattle.commit_table.specs.Machine.{is_party, events_by}
-use Rattle.gaspi_world.specs.Callers.{is_event_of, events_of}
+use Rattle.gaspi_model.specs.CallerEvents.{is_event_of, events_of}
 use Rattle.gaspi_model.specs.Parties.{number_of, caller_party, party_of}
 use Rattle.gaspi_world.proofs.Numbers.{same-number}
 

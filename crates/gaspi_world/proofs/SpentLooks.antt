@@ -21,7 +21,7 @@ use Rattle.timeout_state.specs.Looks.{looks_of}
 use Rattle.commit_table.specs.declared.views.Known.{Known}
 use Rattle.commit_table.proofs.Lists.{prefix_self, prefix_trans, prefix_more, prefix_length, prefix_both}
 use Rattle.gaspi_world.specs.Attempts.{is_waiting, found_after, MayHaveJoined}
-use Rattle.gaspi_world.specs.Callers.{events_of}
+use Rattle.gaspi_model.specs.CallerEvents.{events_of}
 use Rattle.gaspi_world.specs.Calling.{JoinedFirst, IsCalled, IsStopped}
 use Rattle.gaspi_world.specs.Waits.{IsLookOf, HasLooks, Waited, HaveWaited}
 use Rattle.gaspi_world.proofs.OwnEvents.{is-itself}

@@ -1,9 +1,7 @@
--- The callers of a world by their numbers, whose pass a pass is, and what a caller did in a history.
-use Rattle.std.specs.Prelude.{◌≡◌, ◌==◌, ℕ, ◌≤◌, Bool, true, false, List, map, filter, length, find, Option, Some}
+-- The callers of a world by their numbers, and whose pass a pass is.
+use Rattle.std.specs.Prelude.{◌≡◌, ◌==◌, ℕ, ◌≤◌, true, List, map, length, find, Option, Some}
 use Rattle.std.specs.List.{list_any, range_with_len}
 use Rattle.gaspi_types.specs.World.{World, is_caller}
-use Rattle.gaspi_types.specs.declared.events.Event.{Event}
-use Rattle.gaspi_types.specs.declared.events.Event.TheVariants.{Called, Joined, Take, Put}
 use Rattle.gaspi_types.specs.declared.shapes.CallerId.{CallerId}
 use Rattle.commit_table.specs.declared.views.Known.{Known}
 use Rattle.gaspi_model.specs.Parties.{number_of}
@@ -22,14 +20,3 @@ module _ {S E : Type 0} (w : World) where
   -- a pass is that of a worker
   abbrev pub IsWorkers : Known S E → Type 0
   IsWorkers v = (number : ℕ) × (v.party ≡ Some number) × (length w.callers ≤ number)
-
--- whether an event is a call or a join of a caller
-abbrev pub is_event_of : CallerId → Event → Bool
-is_event_of c (Called d call reply) = is_caller c.rank c.thread d
-is_event_of c (Joined d id args) = is_caller c.rank c.thread d
-is_event_of c (Take origin queue target number outcome) = false
-is_event_of c (Put origin queue target number outcome) = false
-
--- the calls and joins of a caller in a history, in order
-abbrev pub events_of : CallerId → List Event → List Event
-events_of c history = filter (is_event_of c) history

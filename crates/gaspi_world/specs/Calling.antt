@@ -14,7 +14,8 @@ use Rattle.timeout_state.specs.Looks.{looks_of}
 use Rattle.commit_table.specs.declared.views.Known.{Known}
 use Rattle.gaspi_world.specs.Attempts.{is_waiting, found_after, is_full_after, is_pending_after, MayHaveJoined, GoesOn, HasCommitted}
 use Rattle.commit_table.specs.Calls.{TableValue, PassValue, IsOf, HoldsNone}
-use Rattle.gaspi_world.specs.Callers.{events_of, IsPassOf}
+use Rattle.gaspi_model.specs.CallerEvents.{events_of}
+use Rattle.gaspi_world.specs.Callers.{IsPassOf}
 use Rattle.gaspi_world.specs.declared.calling.Stop.{Stop}
 use Rattle.gaspi_world.specs.declared.starts.Start.{Start}
 use Rattle.gaspi_world.specs.declared.calling.Stop.TheVariants.{NoMemory, EventLimit}

@@ -5,7 +5,8 @@ use Rattle.gaspi_types.specs.World.{World}
 use Rattle.gaspi_types.specs.declared.events.Event.{Event}
 use Rattle.gaspi_types.specs.declared.shapes.CallerId.{CallerId}
 use Rattle.commit_table.specs.Calls.{PassValue}
-use Rattle.gaspi_world.specs.Callers.{IsPassOf, events_of}
+use Rattle.gaspi_model.specs.CallerEvents.{events_of}
+use Rattle.gaspi_world.specs.Callers.{IsPassOf}
 
 module _ {S : Type 0} where
   -- each pass saw a beginning of the journal

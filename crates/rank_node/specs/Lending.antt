@@ -16,7 +16,7 @@ use Rattle.gaspi_model.specs.declared.states.State.{State}
 use Rattle.rank_node.specs.Values.{PostsValue, MemoryValue}
 use Rattle.rank_node.specs.declared.nodes.Node.{Node}
 use Rattle.rank_node.specs.declared.nodes.GroupNode.{GroupNode}
-use Rattle.rank_node.specs.declared.placed_events.PlacedEvent.{PlacedEvent}
+use Rattle.gaspi_types.specs.declared.events.PlacedEvent.{PlacedEvent}
 
 -- These are the posts, the memory, the node of a rank in a state, and the node of a group.
 

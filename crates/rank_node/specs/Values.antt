@@ -3,7 +3,7 @@ use Rattle.std.specs.Prelude.{ℕ, List}
 use Rattle.gaspi_types.specs.declared.shapes.Limits.{Limits}
 use Rattle.gaspi_model.specs.declared.states.Posts.{Posts}
 use Rattle.gaspi_model.specs.declared.states.Memory.{Memory}
-use Rattle.rank_node.specs.declared.placed_events.PlacedEvent.{PlacedEvent}
+use Rattle.gaspi_types.specs.declared.events.PlacedEvent.{PlacedEvent}
 
 -- The limits of its world, the rank, its posts in the words of the machine, and its rank journal: the events that it owns, each
 -- with its place.

@@ -6,10 +6,9 @@ ghost use Rattle.gaspi_types.specs.Tables.{entry_at};
 ghost use Rattle.gaspi_model.specs.Posting.{counted};
 ghost use Rattle.gaspi_model.specs.State.{thread_at, is_running};
 
-use crate::placed_events::PlacedEvent;
 use buffers::Buffer;
 use gaspi_model::ThreadState;
-use gaspi_types::{Event, Limits, RankId, Rows, SegmentTable, ThreadId};
+use gaspi_types::{Event, Limits, PlacedEvent, RankId, Rows, SegmentTable, ThreadId};
 use group_registry::Groups;
 use post_queue::Lanes;
 use std::marker::Model;

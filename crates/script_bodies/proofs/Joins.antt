@@ -17,7 +17,7 @@ use Rattle.gaspi_model.specs.declared.states.State.{State}
 use Rattle.gaspi_model.specs.declared.states.Why.{Why}
 use Rattle.gaspi_world.specs.Attempts.{MayHaveJoined}
 use Rattle.gaspi_world.specs.Calling.{JoinedFirst}
-use Rattle.gaspi_world.proofs.Recordable.{join-group}
+use Rattle.gaspi_model.proofs.Recordable.{join-group}
 use Rattle.script_bodies.specs.Joins.{IsFollowed, AreJoinsFollowed, IsJoinOf}
 
 -- A law of the machine: a call joins as itself.

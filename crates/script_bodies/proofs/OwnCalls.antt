@@ -12,7 +12,7 @@ use Rattle.gaspi_types.specs.declared.shapes.CallerId.{CallerId}
 use Rattle.gaspi_model.specs.Step.{own_calls}
 use Rattle.gaspi_model.proofs.OwnCalls.{own_calls-append}
 use Rattle.gaspi_world.specs.Attempts.{MayHaveJoined}
-use Rattle.gaspi_world.specs.Callers.{events_of}
+use Rattle.gaspi_model.specs.CallerEvents.{events_of}
 use Rattle.gaspi_world.specs.Calling.{JoinedFirst}
 use Rattle.script_bodies.specs.SoFar.{HasNoEnd}
 

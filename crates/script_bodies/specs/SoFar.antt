@@ -14,7 +14,7 @@ use Rattle.rank_script.specs.declared.scripts.RunOutcome.{RunOutcome}
 use Rattle.rank_script.specs.declared.scripts.RunOutcome.TheVariants.{Limit}
 use Rattle.rank_script.specs.declared.scripts.ScriptLine.{ScriptLine}
 use Rattle.gaspi_world.specs.Attempts.{is_full_after}
-use Rattle.gaspi_world.specs.Callers.{events_of}
+use Rattle.gaspi_model.specs.CallerEvents.{events_of}
 use Rattle.gaspi_world.specs.Calling.{AreLooks}
 use Rattle.gaspi_world.specs.Waits.{HaveWaited}
 use Rattle.script_bodies.specs.Joins.{AreJoinsFollowed, IsJoinOf}

@@ -3,7 +3,7 @@ use Rattle.gaspi_types.specs.declared.groups.Args.{Args}
 use Rattle.gaspi_types.specs.declared.replies.Ready.{Ready}
 use Rattle.gaspi_types.specs.declared.replies.Ready.TheVariants.{Join}
 use Rattle.gaspi_model.specs.CollectiveCalls.{is_joining}
-use Rattle.gaspi_world.proofs.Recordable.{joined-is_step, joined-goes-on, recorded-is_step}
+use Rattle.gaspi_model.proofs.Recordable.{joined-is_step, joined-goes-on, recorded-is_step}
 use Rattle.gaspi_world.proofs.Working.{has-room}
 use Rattle.gaspi_run.specs.Schedule.{join_args}
 use Rattle.gaspi_run.proofs.Declared.{active-declared}

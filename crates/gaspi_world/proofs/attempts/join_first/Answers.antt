@@ -3,7 +3,7 @@ use Rattle.gaspi_types.specs.CallRows.{row_of}
 use Rattle.gaspi_model.proofs.Histories.{reached-sound}
 use Rattle.gaspi_model.specs.CollectiveCalls.{join_event}
 use Rattle.gaspi_world.specs.Attempts.{is_waiting}
-use Rattle.gaspi_world.proofs.Recordable.{join-group, joined-is_step, joined-goes-on}
+use Rattle.gaspi_model.proofs.Recordable.{join-group, joined-is_step, joined-goes-on}
 use Rattle.gaspi_world.proofs.Sections.{reached-declared}
 use Rattle.gaspi_world.proofs.Working.{has-room, full-in, found-in, worked-joined, settled-worked}
 use Rattle.gaspi_world.proofs.attempts.join_first.Goals as goal

@@ -5,7 +5,7 @@ use Rattle.gaspi_model.proofs.Histories.{reached-sound}
 use Rattle.plain_calls.specs.declared.looks.Finding.{Finding}
 use Rattle.plain_machine.specs.Looking.{IsFindingIn}
 use Rattle.gaspi_world.specs.Attempts.{is_waiting}
-use Rattle.gaspi_world.proofs.Recordable.{recorded-is_step}
+use Rattle.gaspi_model.proofs.Recordable.{recorded-is_step}
 use Rattle.gaspi_world.proofs.Sections.{reached-declared}
 use Rattle.gaspi_world.proofs.Working.{has-room, full-in, found-in, worked-none, settled-worked}
 use Rattle.gaspi_world.proofs.attempts.work.Goals as goal

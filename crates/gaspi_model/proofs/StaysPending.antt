@@ -41,7 +41,7 @@ use Rattle.gaspi_model.proofs.MetPosts.{made-known}
 use Rattle.gaspi_model.proofs.Sound.GroupTables.{entry-set_other}
 use Rattle.gaspi_model.proofs.Sound.Told.{told, IsTold, told-get}
 use Rattle.gaspi_model.proofs.Worked.{sound-called, sound-take, sound-put}
-use Rattle.gaspi_world.specs.Callers.{events_of}
+use Rattle.gaspi_model.specs.CallerEvents.{events_of}
 
 -- a collective of a rank that is pending on a group
 pub record Pends (s : State) (rank id : ℕ) (p : Pending) : Type 0 where
