@@ -8,6 +8,8 @@ mod JoinSteps
 mod LentGroups
 mod LentLooks
 mod LentSteps
+mod HeldParts
+mod Fitting
 mod Looking
 mod OpeningGroups
 mod Resumed

@@ -1,6 +1,7 @@
 pub mod Values
 pub mod Views
 pub mod Lending
+pub mod HeldNodes
 pub mod Making
 pub mod Effects
 pub mod Rooms

@@ -6,6 +6,8 @@ use Rattle.gaspi_types.specs.declared.call_rows.Posting.{Posting}
 use Rattle.gaspi_types.specs.declared.calls.Call.{Call}
 use Rattle.gaspi_types.specs.declared.calls.Call.TheVariants.{Alloc, Create, Load}
 use Rattle.gaspi_types.specs.declared.entries.Kind.{Kind}
+use Rattle.gaspi_types.specs.declared.replies.Ready.{Ready}
+use Rattle.gaspi_types.specs.declared.replies.Ready.TheVariants as ready
 use Rattle.gaspi_types.specs.declared.replies.Refusal.{Refusal}
 use Rattle.gaspi_types.specs.declared.replies.Reply.{Reply}
 use Rattle.gaspi_types.specs.declared.replies.Reply.TheVariants as replies
@@ -50,3 +52,9 @@ pub record IsRoomFor (p : PostsValue) (own : MemoryValue) (call : Call) (room : 
 abbrev pub FitsRoom : Reply → Room → Type 0
 FitsRoom (replies.Bytes bytes) room = length bytes ≤ length room.bytes
 FitsRoom reply room = ReplyFits reply room.numbers.caller
+
+-- what a look found fits the room: a reply may be had once more, and the values with which it may join have a list
+abbrev pub FitsReserved : Ready → Room → Type 0
+FitsReserved (ready.Reply reply) room = FitsRoom reply room
+FitsReserved (ready.Join args) room = length args.values.items ≤ room.numbers.values
+FitsReserved ready.NotReady room = Unit {0}

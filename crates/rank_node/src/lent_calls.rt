@@ -8,7 +8,8 @@ ghost use Rattle.gaspi_model.specs.Sound.{IsSound};
 ghost use Rattle.gaspi_model.specs.Step.{answer_in};
 ghost use Rattle.gaspi_model.specs.declared.states.State.{State};
 ghost use Rattle.rank_node.specs.Lending.{behind, AreSame, LendsFor, AreLentFor, MayStep, IsStepOn, IsLeft};
-ghost use Rattle.rank_node.specs.Rooms.{IsRoomFor, IsRecordRoom};
+ghost use Rattle.rank_node.specs.Rooms.{IsRoomFor, IsRecordRoom, FitsReserved};
+ghost use Rattle.rank_node.specs.declared.rooms.Room.{Room};
 
 use crate::lent::Lent;
 use crate::lent_plain::{answer_alone, answer_between, called_alone, called_between};
@@ -17,8 +18,8 @@ use gaspi_types::{Call, CallerId, Invocation, NoMemory, Ready, Reply};
 use std::alloc::Global;
 
 impl Lent<'_> {
-    /// Looks at a call of a thread of the own rank: its reply, or that it is not ready, or that it may join. It takes memory only
-    /// where the call's row says so, and none where the call is not ready.
+    /// Looks at a call of a thread of the own rank: its reply, or that it is not ready, or that it may join. What it finds fits
+    /// the room that is taken for the call. It takes memory only where the call's row says so, and none where the call is not ready.
     pub fn answer(&self, alloc: Global, invocation: &Invocation<'_>) -> Result<Ready, NoMemory>
         requires lent { AreLentFor invocation.now.call.now self.now.own.now (behind self.now.peer) (behind self.now.group) }
         ensures answer { (s : State) → IsSound s → LendsFor s invocation.now.call.now self.now.own.now (behind self.now.peer) (behind self.now.group)
@@ -26,6 +27,7 @@ impl Lent<'_> {
         ensures ample { (row_of invocation.now.call.now).takes_memory ≡ false → IsOk result }
         ensures unready { (s : State) → IsSound s → LendsFor s invocation.now.call.now self.now.own.now (behind self.now.peer) (behind self.now.group)
             → answer_in s self.now.own.now.posts.me invocation.now.caller.thread invocation.now.call.now ≡ Some NotReady → IsOk result }
+        ensures fits { (room : Room) → IsRoomFor self.now.own.now.posts self.now.own.now.memory invocation.now.call.now room → IfOk result (λ ready. FitsReserved ready room) }
     {
         match invocation.row.group {
             Some(id) => {

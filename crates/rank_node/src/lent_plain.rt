@@ -12,8 +12,9 @@ ghost use Rattle.gaspi_model.specs.declared.states.State.{State};
 ghost use Rattle.plain_calls.specs.Telling.{told};
 ghost use Rattle.rank_node.specs.Effects.{with_posts};
 ghost use Rattle.rank_node.specs.Lending.{LendsFor, IsStepOn, MayStepBetween, IsLeft, AreLentBetween};
-ghost use Rattle.rank_node.specs.Rooms.{IsRecordRoom};
+ghost use Rattle.rank_node.specs.Rooms.{IsRoomFor, IsRecordRoom, FitsReserved};
 ghost use Rattle.rank_node.specs.declared.nodes.GroupNode.{GroupNode};
+ghost use Rattle.rank_node.specs.declared.rooms.Room.{Room};
 
 use crate::node_memory::NodeMemory;
 use crate::node_posts::NodePosts;
@@ -60,6 +61,7 @@ pub fn answer_alone(
     ensures ample { (row_of invocation.now.call.now).takes_memory ≡ false → IsOk result }
     ensures unready { (s : State) (group : Option GroupNode) → IsSound s → LendsFor s invocation.now.call.now own.now None group
         → answer_in s own.now.posts.me invocation.now.caller.thread invocation.now.call.now ≡ Some NotReady → IsOk result }
+    ensures fits { (room : Room) → IsRoomFor own.now.posts own.now.memory invocation.now.call.now room → IfOk result (λ ready. FitsReserved ready room) }
 {
     look(alloc, &own.posts, &own.memory, invocation)
 }
@@ -78,6 +80,7 @@ pub fn answer_between(
     ensures ample { (row_of invocation.now.call.now).takes_memory ≡ false → IsOk result }
     ensures unready { (s : State) (group : Option GroupNode) → IsSound s → LendsFor s invocation.now.call.now own.now (Some peer.now) group
         → answer_in s own.now.posts.me invocation.now.caller.thread invocation.now.call.now ≡ Some NotReady → IsOk result }
+    ensures fits { (room : Room) → IsRoomFor own.now.posts own.now.memory invocation.now.call.now room → IfOk result (λ ready. FitsReserved ready room) }
 {
     look(alloc, &own.posts, &peer.memory, invocation)
 }

@@ -5,12 +5,12 @@
 //! machine's own words: what is lent stands for parts of a sound state, and after a step for the same parts of the state after it.
 #![tactic(auto)]
 
-mod boxes;
 mod collective_completions;
 mod collective_joins;
 mod collective_looks;
 mod fronts;
 mod group_opening;
+mod held_nodes;
 mod lane_transfers;
 mod laws;
 mod lent;
@@ -34,7 +34,7 @@ mod reserved_numbers;
 mod resuming;
 mod rooms;
 
-pub use boxes::{put_boxed, take_boxed};
+pub use held_nodes::{HeldNodes, OtherNode};
 pub use laws::{
     front_footprints, front_outcomes, fronts_are_steps, group_nodes_at_start,
     movable_lanes_have_fronts,
@@ -48,3 +48,4 @@ pub use node_posts::NodePosts;
 pub use nodes::{GroupNode, Node};
 pub use reserved_numbers::ReservedNumbers;
 pub use rooms::Room;
+pub use timeout_state::{Budget, Look};

@@ -66,4 +66,12 @@ impl NodePosts {
     {
         self.journal.push(PlacedEvent { place, event });
     }
+
+    /// The rank journal alone.
+    pub(crate) fn into_journal(self) -> Buffer<PlacedEvent>
+        ensures { result.items ≡ self.journal }
+    {
+        let NodePosts { journal, .. } = self;
+        journal
+    }
 }

@@ -1,8 +1,12 @@
 //! The node of a rank, and that of a group.
 
+ghost use Rattle.std.specs.Prelude.{◌≡◌};
+
 use crate::node_memory::NodeMemory;
 use crate::node_posts::NodePosts;
+use buffers::Buffer;
 use collective_engine::Rounds;
+use gaspi_types::PlacedEvent;
 use group_registry::Meeting;
 
 /// All that one rank has: its posts with its rank journal, and its memory.
@@ -17,4 +21,14 @@ pub struct Node {
 pub struct GroupNode {
     pub meeting: Meeting,
     pub rounds: Rounds,
+}
+
+impl Node {
+    /// The rank journal alone.
+    pub fn into_journal(self) -> Buffer<PlacedEvent>
+        ensures { result.items ≡ self.posts.journal }
+    {
+        let Node { posts, .. } = self;
+        posts.into_journal()
+    }
 }

@@ -1,4 +1,5 @@
 use Rattle.std.proofs.Common.{Some}
+use Rattle.rank_node.proofs.Fitting.{look-fits}
 use Rattle.rank_node.proofs.PlainNodes.{looks-between}
 use Rattle.rank_node.proofs.lent_plain.answer_between.Goals as goal
 
@@ -7,3 +8,6 @@ look-requires-clause-corrupt c = (looks-between c.args.invocation.now.call.now c
 
 pub look-requires-clause-capacity : goal.look-requires-clause-capacity
 look-requires-clause-capacity c = (looks-between c.args.invocation.now.call.now c.args.own.now (Some c.args.peer.now) c.requires.lent).capacity
+
+pub returns-clause-fits : goal.returns-clause-fits
+returns-clause-fits c = λ room is. look-fits c.args.own.now.posts c.args.own.now.memory c.args.peer.now.memory.memory c.args.invocation.now.caller.thread c.args.invocation.now.call.now room c.look.result is c.look.ensures.answer
