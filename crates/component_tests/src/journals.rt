@@ -2,8 +2,10 @@
 
 use crate::one_rank::{caller, notified, shape, taken};
 use call_journal::{Verdict, check};
-use gaspi_types::{Bytes, Event, NoMemory, RankId, Shape};
-use journal_texts::{Journal, ReservedJournal, have_own_values, read, write};
+use gaspi_types::{Bytes, Event, NoMemory, PlacedEvent, RankId, Shape};
+use journal_texts::{
+    Journal, MergeRoom, RankJournal, ReservedJournal, have_own_values, read, write,
+};
 use std::alloc::Global;
 use std::test::Fail;
 
@@ -80,5 +82,47 @@ fn is_told(alloc: Global) -> Result<bool, Fail> {
 #[test]
 fn a_journal_has_its_text_and_is_legal(rt: HostRuntime) -> Result<(), Fail> {
     assert!(rt; is_told(rt.alloc())?);
+    Ok(())
+}
+
+/// The journal of three events, merged of two rank journals.
+fn three_merged(alloc: Global) -> Result<Journal, NoMemory> {
+    let mut first = RankJournal::with_room(alloc, 2)?;
+    first.push(PlacedEvent {
+        place: 0,
+        event: notified(caller()),
+    });
+    first.push(PlacedEvent {
+        place: 2,
+        event: taken(RankId::of(1)),
+    });
+    let mut second = RankJournal::with_room(alloc, 1)?;
+    second.push(PlacedEvent {
+        place: 1,
+        event: taken(RankId::of(0)),
+    });
+    let mut room = MergeRoom::for_events(alloc, 2, 3)?;
+    room.add(first);
+    room.add(second);
+    Ok(room.merge())
+}
+
+/// The same journal, with its events in order.
+fn three_events(alloc: Global) -> Result<Journal, NoMemory> {
+    let mut reserved = ReservedJournal::with_room(alloc, 3)?;
+    reserved.push(notified(caller()));
+    reserved.push(taken(RankId::of(0)));
+    reserved.push(taken(RankId::of(1)));
+    Ok(reserved.into_rows())
+}
+
+/// Whether rank journals are merged by place, and not put one behind another.
+fn is_merged(alloc: Global) -> Result<bool, NoMemory> {
+    Ok(three_merged(alloc)? == three_events(alloc)?)
+}
+
+#[test]
+fn rank_journals_are_merged_by_place(rt: HostRuntime) -> Result<(), Fail> {
+    assert!(rt; is_merged(rt.alloc())?);
     Ok(())
 }

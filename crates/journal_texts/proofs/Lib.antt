@@ -1,4 +1,6 @@
+pub mod Cutting
 pub mod JournalLines
+pub mod MergedJournals
 pub mod RangesSoFar
 pub mod ReadJournals
 pub mod ReadLines

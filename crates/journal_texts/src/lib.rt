@@ -3,14 +3,16 @@
 
 mod laws;
 mod lines;
+mod merging;
 mod own_values;
 mod ranges;
 mod reading;
 mod writing;
 
 use buffers::Buffer;
-use gaspi_types::{Event, Rows};
+use gaspi_types::{Event, PlacedEvent, Rows};
 pub use laws::journals_differ_in_text;
+pub use merging::MergeRoom;
 pub use own_values::have_own_values;
 pub use ranges::journal_is_in_range;
 pub use reading::{JournalFault, read};
@@ -23,3 +25,7 @@ pub type Journal = Rows<Event>;
 /// fail. `into_rows` makes a journal of it, without taking memory. The place of an event is its index, so it is the journal of
 /// a whole world, as under one lock, and not the part of one rank.
 pub type ReservedJournal = Buffer<Event>;
+
+/// The part of one rank in a journal: the events that the rank owns, each with its place, in rising order of places. `MergeRoom`
+/// makes a journal of the parts of all ranks.
+pub type RankJournal = Buffer<PlacedEvent>;
