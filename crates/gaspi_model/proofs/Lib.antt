@@ -24,6 +24,7 @@ pub mod Settled
 pub mod Local
 pub mod OwnCalls
 pub mod Recordable
+pub mod Sections
 pub mod StaysPending
 pub mod HistoryLengths
 pub mod Ranges

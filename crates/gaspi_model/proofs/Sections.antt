@@ -43,7 +43,7 @@ range-at f a (suc n) zero less = ap (λ (k : ℕ). Some (f k)) (let same : a ≡
 range-at f a (suc n) (suc i) less = range-at f (a + 1) n i (omega arith) ∙ ap (λ (k : ℕ). Some (f k)) (let same : a + 1 + i ≡ a + suc i = omega arith in same)
 
 -- a caller that is declared is within the limits
-declared-within : (ranks rank thread : ℕ) (callers : List CallerId) → ((place : ℕ) (c : CallerId) → slice_get callers place ≡ Some c → (c.rank < ranks) × (c.thread < 4))
+pub declared-within : (ranks rank thread : ℕ) (callers : List CallerId) → ((place : ℕ) (c : CallerId) → slice_get callers place ≡ Some c → (c.rank < ranks) × (c.thread < 4))
     → list_any (is_caller rank thread) callers ≡ true → (rank < ranks) × (thread < 4)
 declared-within ranks rank thread [] within h = absurd (let no : ⊥ = cc in no)
 declared-within ranks rank thread (c ∷ callers) within h = go (is_caller rank thread c) refl (λ rest. declared-within ranks rank thread callers (λ place d at. within (suc place) d at) rest)

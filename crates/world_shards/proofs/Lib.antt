@@ -1,0 +1,3 @@
+pub mod HeldShards
+pub mod HeldPairs
+pub mod JournalLengths
