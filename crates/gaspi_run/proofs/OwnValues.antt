@@ -1,15 +1,11 @@
 -- What callers join in a legal history has the values that it says.
-use Rattle.std.proofs.Common.{◌≡◌, ℕ, Bool, true, false, ◌&&◌, nat_lt, List, [], ◌∷◌, ◌++◌, length, None, Some, Ok, sym, ap, if◌then◌else◌}
+use Rattle.std.proofs.Common.{◌≡◌, List, [], ◌∷◌, ◌++◌, Ok}
 use Rattle.std.proofs.lemmas.List.Elements.{All-nil, All-cons, All-append}
-use Rattle.gaspi_types.specs.declared.collectives.Coll.{Coll}
-use Rattle.gaspi_types.specs.declared.collectives.Coll.TheVariants as colls
 use Rattle.gaspi_types.specs.declared.events.Event.{Event}
 use Rattle.gaspi_types.specs.declared.events.Event.TheVariants.{Called, Joined, Take, Put}
-use Rattle.gaspi_types.specs.declared.groups.Args.{Args}
-use Rattle.gaspi_types.specs.NumberTypes.{TypedNumbers}
 use Rattle.gaspi_texts.specs.EventText.{HasOwnValues}
 use Rattle.journal_texts.specs.JournalText.{HaveOwnValues}
-use Rattle.gaspi_model.specs.CollectiveCalls.{plain_args, args_of, joining_call}
+use Rattle.gaspi_model.specs.CollectiveCalls.{joining_call}
 use Rattle.gaspi_model.specs.Step.{step, group_in}
 use Rattle.gaspi_model.specs.declared.states.State.{State}
 use Rattle.gaspi_model.proofs.CollectiveFinds.{join-found}

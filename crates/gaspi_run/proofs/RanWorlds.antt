@@ -134,7 +134,7 @@ module _ (world : TableValue Start) (scripts : List Script) (limit : ℕ) (passe
         go (Caller body) is ran =
             let number = caller-number (number_of w.callers c) at.0 body at.1 is in
             (at.0, body, at.1, is, ran, same-number w body.script.now.caller c valid ran.caller.0 there number.1)
-        go (Worker turns drained) is ran = absurd (let less = below in let behind = ran.0 in omega arith)
+        go (Worker turns) is ran = absurd (let less = below in let behind = ran.0 in omega arith)
 
     -- No transfer is left.
 
@@ -148,10 +148,9 @@ module _ (world : TableValue Start) (scripts : List Script) (limit : ℕ) (passe
             let behind = number.1 in
             absurd (omega arith)
             )
-        go (Worker turns drained) is =
-            let ran : HasRunPart world scripts limit (length w.callers) (Worker turns drained) t.pass.known = subst (λ (part : Part). HasRunPart world scripts limit (length w.callers) part t.pass.known) is (run.ran (length w.callers) t at).part in
-            let told : IsDone (Worker turns drained) = subst IsDone is (all-at (λ (u : Task Part). IsDone u.body) run.tasks (length w.callers) t run.told at) in
-            ran.1 told
+        go (Worker turns) is =
+            let ran : HasRunPart world scripts limit (length w.callers) (Worker turns) t.pass.known = subst (λ (part : Part). HasRunPart world scripts limit (length w.callers) part t.pass.known) is (run.ran (length w.callers) t at).part in
+            ran.1
 
     module _ (journal : List Event) (legal : is_legal w journal ≡ true) (seen : HaveSeen journal passes) where
       pub settled : ((s t : State) (events : List Event) → IsSettled s → after s events ≡ Ok t → IsSettled t) → HasSettled w journal
@@ -211,7 +210,7 @@ module _ (world : TableValue Start) (scripts : List Script) (limit : ℕ) (passe
 
             go : (part : Part) → from.1.body ≡ part → slice_get (finished_of part) from.2 ≡ Some f → HasEnded w scripts journal f
             go (Caller body) is here = with_outcome body is body.outcome refl from.2 here
-            go (Worker turns drained) is here = absurd (let never : ⊥ = cc in never)
+            go (Worker turns) is here = absurd (let never : ⊥ = cc in never)
 
         -- Each has one outcome.
 
@@ -233,7 +232,7 @@ module _ (world : TableValue Start) (scripts : List Script) (limit : ℕ) (passe
                       → count_by is_one (finished_with body.script.now.caller (Some told) ++ rest) ≡ cond (list_any is_one (finished_with body.script.now.caller (Some told))) 1 0 + count_by is_one rest
                   go true meets = (let one = counts is_one (record { caller = body.script.now.caller; outcome = told }) rest true meets in rw meets (rw meets at one))
                   go false fails = (let one = counts is_one (record { caller = body.script.now.caller; outcome = told }) rest false fails in rw fails (rw fails at one))
-          count-front (Worker turns drained) rest = (let same : count_by is_one rest ≡ 0 + count_by is_one rest = omega arith in same)
+          count-front (Worker turns) rest = (let same : count_by is_one rest ≡ 0 + count_by is_one rest = omega arith in same)
 
           count-tasks : (tasks : List (Task Part)) → count_by is_one (finished_in tasks) ≡ count_by is_ones tasks
           count-tasks [] = refl
@@ -257,7 +256,7 @@ module _ (world : TableValue Start) (scripts : List Script) (limit : ℕ) (passe
 
               go : (part : Part) → t.body ≡ part → list_any is_one (finished_of part) ≡ true → (body : ScriptBody) × (t.body ≡ Caller body) × (is_caller rank thread body.script.now.caller ≡ true)
               go (Caller body) is any = with_outcome body is body.outcome any
-              go (Worker turns drained) is any = absurd (let never : ⊥ = cc in never)
+              go (Worker turns) is any = absurd (let never : ⊥ = cc in never)
 
           abbrev one : CallerId
           one = record { rank = rank; thread = thread }

@@ -36,7 +36,7 @@ module _ (world : TableValue Start) (scripts : List Script) (limit : ℕ) where
     },
     record { table = (refl, refl); free = λ i. refl; caller = is.2; fresh = refl },
   )
-  needs-made place (Worker turns drained) is some plain looks = ((refl, refl), λ i. refl, (place, refl, is))
+  needs-made place (Worker turns) is some plain looks = ((refl, refl), λ i. refl, (place, refl, is))
 
   needs : (place : ℕ) (task : Task Part) → IsReady world scripts limit place task → 1 ≤ limit → ArePlain scripts → AreLooking scripts → NeedsOf task.body world task.pass
   needs place task ready some plain looks = subst (NeedsOf task.body world) (sym ready.0) (needs-made place task.body ready.1 some plain looks)
@@ -66,9 +66,9 @@ module _ (world : TableValue Start) (scripts : List Script) (limit : ℕ) where
   ran-made : (place : ℕ) (part next : Part) (q : PassValue Start Event) → IsPartOf world scripts limit place part → DidOf part (made_pass world place) next q
       → (q.table ≡ world.table) × (q.known.start ≡ Some world.start) × (q.known.party ≡ Some place) × HoldsNone q.known × HasRunPart world scripts limit place next q.known
   ran-made place (Caller body) (Caller next) q is did = (let has = ran-caller place body next q is did.0 did.2 in (did.2.table, has.1, has.0, did.2.free, has.2))
-  ran-made place (Caller body) (Worker turns drained) q is did = absurd did
-  ran-made place (Worker turns drained) (Caller next) q is did = absurd did
-  ran-made place (Worker turns drained) (Worker now is_drained) q is did = (did.table, did.goes_on.start, did.goes_on.party, did.free, (is, λ none. did.none_left world.start refl none))
+  ran-made place (Caller body) (Worker turns) q is did = absurd did
+  ran-made place (Worker turns) (Caller next) q is did = absurd did
+  ran-made place (Worker turns) (Worker now) q is did = (did.table, did.goes_on.start, did.goes_on.party, did.free, (is, did.none_left world.start refl))
 
   ran : (place : ℕ) (task next : Task Part) → IsReady world scripts limit place task → DidOf task.body task.pass next.body next.pass → HasRunTask world scripts limit place next
   ran place task next ready did =

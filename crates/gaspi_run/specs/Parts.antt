@@ -24,27 +24,27 @@ use Rattle.gaspi_run.specs.declared.parts.Part.TheVariants.{Caller, Worker}
 -- what a part needs of its pass: it is that of its caller, or of a worker, and has done nothing yet
 abbrev pub NeedsOf : Part → TableValue Start → PassValue Start Event → Type 0
 NeedsOf (Caller body) world pass = IsRunnable body.script.now body.limit × IsFresh body.script.now world pass
-NeedsOf (Worker turns drained) world pass = IsOf world pass × HoldsNone pass.known × IsWorkers world.start.shape pass.known
+NeedsOf (Worker turns) world pass = IsOf world pass × HoldsNone pass.known × IsWorkers world.start.shape pass.known
 
--- A worker has made transfers, and if it is drained, none was left.
-pub record HasWorked (drained : Bool) (p q : PassValue Start Event) : Type 0 where
+-- A worker has made transfers, and none was left.
+pub record HasWorked (p q : PassValue Start Event) : Type 0 where
   pub table : q.table ≡ p.table
   pub free : HoldsNone q.known
   pub goes_on : GoesOn p.known q.known
-  pub none_left : (start : Start) → p.known.start ≡ Some start → drained ≡ true → IsDrained start.shape q.known.seen
+  pub none_left : (start : Start) → p.known.start ≡ Some start → IsDrained start.shape q.known.seen
 
 -- what a part makes of itself and of its pass: a caller's has run its script, a worker's has made transfers
 abbrev pub RanScript : ScriptBody → PassValue Start Event → Part → PassValue Start Event → Type 0
 RanScript body p (Caller next) q = (next.script ≡ body.script) × (next.limit ≡ body.limit) × HasRunScript body.script.now body.limit next.outcome p q
-RanScript body p (Worker turns drained) q = ⊥
+RanScript body p (Worker turns) q = ⊥
 
 abbrev pub MadeTransfers : PassValue Start Event → Part → PassValue Start Event → Type 0
 MadeTransfers p (Caller next) q = ⊥
-MadeTransfers p (Worker turns drained) q = HasWorked drained p q
+MadeTransfers p (Worker turns) q = HasWorked p q
 
 abbrev pub DidOf : Part → PassValue Start Event → Part → PassValue Start Event → Type 0
 DidOf (Caller body) p next q = RanScript body p next q
-DidOf (Worker turns drained) p next q = MadeTransfers p next q
+DidOf (Worker turns) p next q = MadeTransfers p next q
 
 -- a fact of each item of a list and its place
 abbrev pub EachAt : {A : Type 0} → (ℕ → A → Type 0) → List A → Type 0
@@ -67,7 +67,7 @@ module _ (world : TableValue Start) (scripts : List Script) (limit : ℕ) where
   abbrev pub IsPartOf : ℕ → Part → Type 0
   IsPartOf place (Caller body) =
       (body.limit ≡ limit) × (find (is_script_of body.script.now.caller) scripts ≡ Some body.script.now) × IsPassOf world.start.shape body.script.now.caller (made_pass world place).known
-  IsPartOf place (Worker turns drained) = length world.start.shape.callers ≤ place
+  IsPartOf place (Worker turns) = length world.start.shape.callers ≤ place
 
   -- a part and its pass, before it runs
   abbrev pub IsReady : ℕ → Task Part → Type 0
@@ -81,10 +81,10 @@ module _ (world : TableValue Start) (scripts : List Script) (limit : ℕ) where
     pub is_told : body.outcome ≡ Some told
     pub run : HasRun world.start.shape body.script.now.caller body.script.now.lines limit told v n
 
-  -- the same of each part: a worker that is drained left no transfer
+  -- the same of each part: a worker left no transfer
   abbrev pub HasRunPart : ℕ → Part → Known Start Event → Type 0
   HasRunPart place (Caller body) n = HasRunCaller body (made_pass world place).known n
-  HasRunPart place (Worker turns drained) n = (length world.start.shape.callers ≤ place) × (drained ≡ true → IsDrained world.start.shape n.seen)
+  HasRunPart place (Worker turns) n = (length world.start.shape.callers ≤ place) × IsDrained world.start.shape n.seen
 
   -- A part has run. Its pass is still one of its world, has its number and holds no shard.
   pub record HasRunTask (place : ℕ) (task : Task Part) : Type 0 where
@@ -101,7 +101,7 @@ finished_with caller (Some outcome) = record { caller = caller; outcome = outcom
 
 abbrev pub finished_of : Part → List Finished
 finished_of (Caller body) = finished_with body.script.now.caller body.outcome
-finished_of (Worker turns drained) = []
+finished_of (Worker turns) = []
 
 -- how the callers ended, in the order of the tasks
 abbrev pub finished_in : List (Task Part) → List Finished
@@ -115,10 +115,10 @@ had_memory (outcomes.Stuck line) = true
 had_memory (outcomes.Limit line) = true
 had_memory (outcomes.NoMemory line) = false
 
--- a part has come to its end: the run of a caller's did not want memory, and a worker left no transfer
+-- a part has come to its end: the run of a caller's did not want memory
 abbrev pub IsDone : Part → Type 0
 IsDone (Caller body) = (told : RunOutcome) × (body.outcome ≡ Some told) × (had_memory told ≡ true)
-IsDone (Worker turns drained) = drained ≡ true
+IsDone (Worker turns) = Unit {0}
 
 -- All parts of a world have run, each to its end: these are their passes, in order, and so its callers ended.
 pub record HaveRun (world : TableValue Start) (scripts : List Script) (limit : ℕ) (passes : List (PassValue Start Event)) (finished : List Finished) : Type 0 where

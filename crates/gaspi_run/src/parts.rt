@@ -1,11 +1,10 @@
 //! What the threads of a world do: each runs the script of a caller, or makes transfers.
 
-ghost use Rattle.std.specs.Prelude.{◌≡◌, OnOk};
+ghost use Rattle.std.specs.Prelude.{◌≡◌};
 ghost use Rattle.commit_table.specs.Calls.{IsOf, HoldsNone};
 ghost use Rattle.gaspi_world.specs.Callers.{IsWorkers};
 ghost use Rattle.transfer_worker.specs.Turns.{GoesOn, IsDrained};
 
-use gaspi_types::NoMemory;
 use gaspi_world::{Body, Pass, World};
 use script_bodies::ScriptBody;
 use std::alloc::Global;
@@ -17,27 +16,21 @@ use transfer_worker::Worker;
 pub(crate) enum Part<'a> {
     /// It runs the script of a caller.
     Caller(ScriptBody<'a>),
-    /// It makes transfers until none is left, which it then says. Its first turn begins at the rank of that number.
-    Worker { turns: u64, drained: bool },
+    /// It makes transfers until none is left. Its first turn begins at the rank of that number.
+    Worker { turns: u64 },
 }
 
 /// Makes transfers by the pass of a worker until none is left.
-fn drain<R: Wait>(
-    rt: &R,
-    alloc: Global,
-    world: &World,
-    pass: &mut Pass,
-    turns: u64,
-) -> Result<(), NoMemory>
+fn drain<R: Wait>(rt: &R, world: &World, pass: &mut Pass, turns: u64)
     requires pass { IsOf world.now pass.old }
     requires free { HoldsNone pass.old.known }
     requires worker { IsWorkers world.now.start.shape pass.old.known }
     ensures table { pass.new.table ≡ pass.old.table }
     ensures free { HoldsNone pass.new.known }
     ensures goes_on { GoesOn pass.old.known pass.new.known }
-    ensures drained { OnOk result (IsDrained world.now.start.shape pass.new.known.seen) }
+    ensures drained { IsDrained world.now.start.shape pass.new.known.seen }
 {
-    Worker { world, pass, turns }.drain(rt, alloc)
+    Worker { world, pass, turns }.drain(rt);
 }
 
 impl<'a> Body for Part<'a> {
@@ -51,9 +44,7 @@ impl<'a> Body for Part<'a> {
     fn run<R: Wait>(&mut self, rt: &R, alloc: Global, world: &World, pass: &mut Pass) {
         match self {
             Part::Caller(body) => body.run(rt, alloc, world, pass),
-            Part::Worker { turns, drained } => {
-                *drained = drain(rt, alloc, world, pass, *turns).is_ok();
-            }
+            Part::Worker { turns } => drain(rt, world, pass, *turns),
         }
     }
 }

@@ -68,7 +68,6 @@ fn part_of<'a>(
     }
     Part::Worker {
         turns: (place - callers) as u64,
-        drained: false,
     }
 }
 
@@ -152,8 +151,7 @@ fn finished_of(part: &Part<'_>) -> Result<Option<Finished>, NoMemory>
                 outcome,
             })),
         },
-        Part::Worker { drained: true, .. } => Ok(None),
-        Part::Worker { drained: false, .. } => Err(NoMemory),
+        Part::Worker { .. } => Ok(None),
     }
 }
 

@@ -1,115 +1,163 @@
--- What a try to make a transfer of a rank comes to.
-use Rattle.std.proofs.Common.{◌≡◌, ◌≢◌, ℕ, zero, suc, ◌<◌, ◌≤◌, Bool, true, false, ◌||◌, Option, None, Some, Result, Ok, Err, List, [], ◌∷◌, ◌++◌, length, length-append, refl, sym, ap, ◌∙◌, subst, arith}
-use Rattle.std.specs.List.{list_any, range_with_len, slice_get}
-use Rattle.std.proofs.lemmas.Option.{slice_get_within}
-use mathlib.Core.List.{IsPrefix}
-use Rattle.gaspi_types.specs.World.{World}
+-- The next transfer of a rank, as the node of the rank tells it, is a transfer that may come next in the state.
+use Rattle.std.proofs.Common.{◌≡◌, ℕ, zero, suc, ◌<◌, inr, Bool, true, false, ◌||◌, eqb, List, [], ◌∷◌, Option, None, Some, IsOk, Result, Ok, Err, refl, sym, ap, ◌∙◌, subst, if◌then◌else◌}
+use Rattle.std.specs.List.{list_any, slice_get}
+use Rattle.gaspi_types.specs.Touches.{take_touch, put_touch}
+use Rattle.gaspi_types.specs.World.{World, IsWorld}
+use Rattle.gaspi_types.specs.declared.entries.Entry.{Entry}
 use Rattle.gaspi_types.specs.declared.events.Event.{Event}
-use Rattle.gaspi_types.specs.declared.memory.NoMemory.{NoMemory}
+use Rattle.gaspi_types.specs.declared.events.Event.TheVariants.{Take, Put}
+use Rattle.gaspi_types.specs.declared.events.Outcome.{Outcome}
+use Rattle.gaspi_types.specs.declared.events.Transfer.{Transfer}
+use Rattle.gaspi_types.specs.declared.shapes.Limits.{Limits}
+use Rattle.gaspi_model.specs.Shards.{numbers_of}
 use Rattle.gaspi_model.specs.Sound.{IsSound}
 use Rattle.gaspi_model.specs.State.{thread_at, is_running}
-use Rattle.gaspi_model.specs.Step.{reached, is_active}
+use Rattle.gaspi_model.specs.Step.{step, is_legal, is_active, owner_of, event_reach, transfer_event, transfer_outcome}
+use Rattle.gaspi_model.specs.Transfers.{transfers, take_outcome, put_outcome}
 use Rattle.gaspi_model.specs.declared.states.Posts.{Posts}
 use Rattle.gaspi_model.specs.declared.states.State.{State}
 use Rattle.gaspi_model.specs.declared.states.ThreadState.{ThreadState}
 use Rattle.gaspi_model.specs.declared.states.Why.{Why}
-use Rattle.gaspi_model.specs.Transfers.{transfers}
-use Rattle.gaspi_types.specs.declared.events.Transfer.{Transfer}
-use Rattle.commit_table.specs.Attempts.{LookedOnly}
-use Rattle.commit_table.specs.Views.{gave_back, mine_after}
-use Rattle.commit_table.specs.declared.views.Known.{Known}
-use Rattle.gaspi_world.specs.Holds.{Holds}
-use Rattle.gaspi_world.specs.Moves.{HasNoTransfer, HasActive, HaveEnded, Moves, MovesHeld}
-use Rattle.gaspi_world.specs.Shards.{shard_part}
-use Rattle.gaspi_world.specs.WorldMachine.{WorldPart, world_machine}
-use Rattle.gaspi_model.specs.Parties.{party_of}
-use Rattle.gaspi_world.specs.declared.moving.Moving.{Moving}
-use Rattle.gaspi_world.specs.declared.moving.Moving.TheVariants.{Moved, Busy, Empty, Ended}
-use Rattle.gaspi_world.proofs.Holdings.{reached-legal}
+use Rattle.gaspi_model.proofs.Histories.{reached-sound}
+use Rattle.gaspi_model.proofs.Listed.Steps.{take-listed, put-listed}
+use Rattle.post_queue.specs.MovableLanes.{is_movable_lane}
+use Rattle.rank_node.specs.Fronts.{IsFront, front_entry, transfer_footprint}
+use Rattle.rank_node.specs.Lending.{IsPostsOf}
+use Rattle.rank_node.specs.Transfers.{take_of, put_of, event_of}
+use Rattle.rank_node.specs.Values.{PostsValue}
+use Rattle.world_shards.specs.Numbering.{by_ranks}
+use Rattle.world_shards.specs.RankShards.{IsEither, rank_other, either-event}
+use Rattle.world_shards.specs.ShardLaws.{arrives, limits-are, state-is}
+use Rattle.world_shards.specs.ShardMachine.{state_after}
+use Rattle.gaspi_world.specs.Holds.{IsOtherShard}
+use Rattle.gaspi_world.specs.Moves.{HasNoTransfer, HasActive, HaveEnded}
+use Rattle.gaspi_world.proofs.HeldNodes.{other-shard, IsReach, reach-is}
 
-neither : (a b : Bool) → (a || b) ≡ false → (a ≡ false) × (b ≡ false)
-neither true b h = absurd (let no : ⊥ = cc in no)
-neither false b h = (refl, h)
+-- What is known of fronts: they are steps, and their entry tells what they reach.
+pub record FrontLaws : Type 0 where
+  pub steps : (s : State) (p : PostsValue) (t : Transfer) → IsSound s → IsPostsOf s p.me p → IsFront p t → IsOk (step s (transfer_event s t))
+  pub footprint : (s : State) (p : PostsValue) (t : Transfer) (e : Entry) (outcome : Outcome) → IsSound s → IsPostsOf s p.me p → IsFront p t → front_entry p t ≡ Some e → event_reach s.limits p.posts (event_of t outcome) ≡ transfer_footprint s.limits.ranks t e.kind
 
--- none of a rank's four threads is active, so none is
-none-of-four : (f : ℕ → Bool) → list_any f (range_with_len 0 4) ≡ false → (thread : ℕ) → thread < 4 → f thread ≡ false
-none-of-four f none zero less = (neither (f 0) _ none).0
-none-of-four f none (suc zero) less = (neither (f 1) _ (neither (f 0) _ none).1).0
-none-of-four f none (suc (suc zero)) less = (neither (f 2) _ (neither (f 1) _ (neither (f 0) _ none).1).1).0
-none-of-four f none (suc (suc (suc zero))) less = (neither (f 3) _ (neither (f 2) _ (neither (f 1) _ (neither (f 0) _ none).1).1).1).0
-none-of-four f none (suc (suc (suc (suc thread)))) less = absurd (omega arith)
+-- where no lane may be moved there is no transfer of the rank
+abbrev pub NoneLaw : Type 0
+NoneLaw = (s : State) (p : PostsValue) (t : Transfer) (k : ℕ) → IsPostsOf s p.me p → ((queue target : ℕ) → is_movable_lane p.posts.queues queue target ≡ false) → slice_get (transfers s.limits s.posts) k ≡ Some t → t.origin ≡ p.me → ⊥
 
-active-thread : (s : State) (rank thread : ℕ) → IsSound s → is_active s rank thread ≡ true → thread < 4
-active-thread s rank thread sound h = by-posts (slice_get s.posts rank) refl
+-- the posts of a rank, by what they say that it is
+pub by-me : (s : State) (rank : ℕ) (p : PostsValue) → IsPostsOf s rank p → IsPostsOf s p.me p
+by-me s rank p is = subst (λ (r : ℕ). IsPostsOf s r p) (sym is.me) is
+
+-- the event of a transfer, by how it ends
+pub event-put : (t : Transfer) (outcome : Outcome) → t.put ≡ true → event_of t outcome ≡ put_of t outcome
+event-put t outcome put = ap (λ (b : Bool). if b then put_of t outcome else take_of t outcome) put
+
+pub event-take : (t : Transfer) (outcome : Outcome) → t.put ≡ false → event_of t outcome ≡ take_of t outcome
+event-take t outcome put = ap (λ (b : Bool). if b then put_of t outcome else take_of t outcome) put
+
+pub owner-origin : (t : Transfer) (outcome : Outcome) → owner_of (event_of t outcome) ≡ t.origin
+owner-origin t outcome = go t.put
   where
-    by-thread : (posts : Posts) → slice_get s.posts rank ≡ Some posts → (o : Option ThreadState) → slice_get posts.threads thread ≡ o → is_running (thread_at posts thread) ≡ true → thread < 4
-    by-thread posts at None none runs = absurd (let never = rw none at runs in let no : ⊥ = cc in no)
-    by-thread posts at (Some t) is runs = (let many : length posts.threads ≡ 4 = (sound.posts rank posts at).tables.threads in let within = slice_get_within posts.threads thread t is in omega arith)
+    go : (b : Bool) → owner_of (if b then put_of t outcome else take_of t outcome) ≡ t.origin
+    go true = refl
+    go false = refl
 
-    by-posts : (o : Option Posts) → slice_get s.posts rank ≡ o → thread < 4
-    by-posts None at = absurd (let never = rw at at h in let no : ⊥ = cc in no)
-    by-posts (Some posts) at = by-thread posts at (slice_get posts.threads thread) refl (rw at at h)
-
-pub none-active : (s : State) (rank : ℕ) → IsSound s → list_any (is_active s rank) (range_with_len 0 4) ≡ false → (thread : ℕ) → is_active s rank thread ≡ false
-none-active s rank sound none thread = go (is_active s rank thread) refl
+-- the machine's event of a transfer is one of those
+machine-event : (s : State) (t : Transfer) → (outcome : Outcome) × (event_of t outcome ≡ transfer_event s t)
+machine-event s t = go t.put
   where
-    go : (b : Bool) → is_active s rank thread ≡ b → is_active s rank thread ≡ false
-    go false is = is
-    go true is = none-of-four (is_active s rank) none thread (active-thread s rank thread sound is)
+    go : (b : Bool) → (outcome : Outcome) × ((if b then put_of t outcome else take_of t outcome) ≡ (if b then Put t.origin t.queue t.target t.number (transfer_outcome s t put_outcome) else Take t.origin t.queue t.target t.number (transfer_outcome s t take_outcome)))
+    go true = (transfer_outcome s t put_outcome, refl)
+    go false = (transfer_outcome s t take_outcome, refl)
 
-prefix-length : (g h : List Event) → IsPrefix g h → length g ≤ length h
-prefix-length g h (rest, joined) = (let more = length-append g rest in let all = ap length joined in omega arith)
+-- a step leads to a state
+pub ok-state : (r : Result State Why) → IsOk r → (t : State) × (r ≡ Ok t)
+ok-state (Ok t) ok = (t, refl)
+ok-state (Err why) ok = absurd (let no : ⊥ = cc in no)
 
-same-state : (w : World) (h : List Event) (s t : State) → reached w h ≡ Ok s → reached w h ≡ Ok t → s ≡ t
-same-state w h s t is too = (let both : ◌≡◌ {A = Result State Why} (Ok s) (Ok t) = sym is ∙ too in let same : s ≡ t = cc in same)
+-- a transfer that is a step is listed
+listed-at : (s : State) (t : Transfer) → IsOk (step s (transfer_event s t)) → (k : ℕ) × (slice_get (transfers s.limits s.posts) k ≡ Some t)
+listed-at s t ok = go t.put ok
+  where
+    go : (b : Bool) → IsOk (step s (if b then Put t.origin t.queue t.target t.number (transfer_outcome s t put_outcome) else Take t.origin t.queue t.target t.number (transfer_outcome s t take_outcome)))
+        → (k : ℕ) × (slice_get (transfers s.limits s.posts) k ≡ Some (record { origin = t.origin; queue = t.queue; target = t.target; number = t.number; put = b }))
+    go true ok = (let next = ok-state (step s (Put t.origin t.queue t.target t.number (transfer_outcome s t put_outcome))) ok in put-listed s next.0 t.origin t.queue t.target t.number (transfer_outcome s t put_outcome) next.1)
+    go false ok = (let next = ok-state (step s (Take t.origin t.queue t.target t.number (transfer_outcome s t take_outcome))) ok in take-listed s next.0 t.origin t.queue t.target t.number (transfer_outcome s t take_outcome) next.1)
 
-module _ {S : Type 0} (w : World) where
-  -- what a pass that holds the shard finds there
-  pub none-held : (x : WorldPart) (v : Known S Event) (origin : ℕ) → Holds w x v → ((k : ℕ) (t : Transfer) → slice_get (transfers x.state.limits x.state.posts) k ≡ Some t → t.origin ≢ origin) → HasNoTransfer w v.seen origin
-  none-held x v origin holds none s is = subst (λ (t : State). (k : ℕ) (found : Transfer) → slice_get (transfers t.limits t.posts) k ≡ Some found → found.origin ≢ origin) (same-state w v.seen x.state s holds.state is) none
+pub front-other : (w : World) (me : ℕ) (t : Transfer) (e : Entry) → me < w.limits.ranks → t.origin ≡ me → IsOtherShard w me (rank_other w.limits.ranks (transfer_footprint w.limits.ranks t e.kind))
+front-other w me t e lt mine =
+    let reach = transfer_footprint w.limits.ranks t e.kind in
+    other-shard w me reach lt (subst (λ (n : ℕ). IsReach w.limits.ranks n reach) mine (reach-is w.limits.ranks t.origin (if t.put then put_touch t.target e.kind else take_touch t.target e.kind)))
 
-  pub ended-held : (x : WorldPart) (v : Known S Event) (origin : ℕ) → Holds w x v → IsSound x.state → list_any (is_active x.state origin) (range_with_len 0 4) ≡ false → HaveEnded w v.seen origin
-  ended-held x v origin holds sound none s is thread =
-      let same = same-state w v.seen x.state s holds.state is in
-      subst (λ (t : State). is_active t origin thread ≡ false) same (none-active x.state origin sound none thread)
+module _ (w : World) (world : IsWorld w) (laws : FrontLaws) (h : List Event) (legal : is_legal w h ≡ true) (p : PostsValue) (t : Transfer) (front : IsFront p t) where
+  sound : IsSound (state_after w h)
+  sound = reached-sound w h (state_after w h) world (arrives w h legal)
 
-  looked-same : (v m n : Known S Event) → LookedOnly (world_machine shard_part w) v m → n ≡ m → LookedOnly (world_machine shard_part w) v (gave_back n 0)
-  looked-same v m n look same = subst (λ (k : Known S Event). LookedOnly (world_machine shard_part w) v (gave_back k 0)) (sym same) (record {
-    goes_on = look.goes_on;
-    legal = look.legal;
-    own = look.own;
-    looks = look.looks;
-    mine = look.mine;
-    commits = look.commits;
-    missed = look.missed;
-    met = look.met;
-    party = look.party;
-    start = look.start;
-  })
+  -- what the event of a front reaches
+  pub front-reach : (rank : ℕ) (e : Entry) (outcome : Outcome) → IsPostsOf (state_after w h) rank p → front_entry p t ≡ Some e → event_reach w.limits p.posts (event_of t outcome) ≡ transfer_footprint w.limits.ranks t e.kind
+  front-reach rank e outcome is next =
+      subst (λ (l : Limits). event_reach l p.posts (event_of t outcome) ≡ transfer_footprint l.ranks t e.kind) (limits-are w h legal) (laws.footprint (state_after w h) p t e outcome sound (by-me (state_after w h) rank p is) front next)
 
-  -- what was tried behind a look, before the shard is given back
-  pub moves-is : (v m n : Known S Event) (origin : ℕ) (x : WorldPart) (moving : Result Moving NoMemory) → LookedOnly (world_machine shard_part w) v m → Holds w x n → MovesHeld w origin m moving n → Moves w origin v moving (gave_back n 0)
-  moves-is v m n origin x (Ok Moved) look holds (e, is, added) = (
-    e,
-    length m.seen,
-    is,
-    record {
-      before = m.seen;
-      seen = added.seen;
-      legal = reached-legal w (m.seen ++ e ∷ []) x.state (ap (reached w) (sym added.seen) ∙ holds.state);
-      goes_on = look.goes_on;
-      place_is = refl;
-      own = holds.own;
-      mine = added.mine ∙ ap (λ (es : List Event). mine_after (party_of w e) es e) look.mine;
-      commits = added.commits ∙ ap (λ (places : List ℕ). places ++ length m.seen ∷ []) look.commits;
-      looks = (length m.seen, added.looks ∙ look.looks, prefix-length v.seen m.seen look.goes_on, omega arith);
-      missed = added.missed ∙ look.missed;
-      met = added.met ∙ look.met;
-      party = added.party ∙ look.party;
-      start = added.start ∙ look.start;
-    },
-  )
-  moves-is v m n origin x (Ok Busy) look holds moved = absurd moved
-  moves-is v m n origin x (Ok Empty) look holds (same, none, active) = (looked-same v m n look same, subst (λ (k : Known S Event). HasNoTransfer w k.seen origin) (sym same) none, subst (λ (k : Known S Event). HasActive w k.seen origin) (sym same) active)
-  moves-is v m n origin x (Ok Ended) look holds (same, none, ended) = (looked-same v m n look same, subst (λ (k : Known S Event). HasNoTransfer w k.seen origin) (sym same) none, subst (λ (k : Known S Event). HaveEnded w k.seen origin) (sym same) ended)
-  moves-is v m n origin x (Err none) look holds same = looked-same v m n look same
+  -- a front is listed
+  pub front-listed : (rank : ℕ) → IsPostsOf (state_after w h) rank p → (k : ℕ) × (slice_get (transfers (state_after w h).limits (state_after w h).posts) k ≡ Some t)
+  front-listed rank is = listed-at (state_after w h) t (laws.steps (state_after w h) p t sound (by-me (state_after w h) rank p is) front)
+
+  -- its other shard is one of the event's
+  pub front-among : (rank : ℕ) (e : Entry) (j : ℕ) → IsPostsOf (state_after w h) rank p → front_entry p t ≡ Some e → rank_other w.limits.ranks (transfer_footprint w.limits.ranks t e.kind) ≡ Some j
+      → list_any (eqb j) (numbers_of (by_ranks w).number (state_after w h) (transfer_event (state_after w h) t)) ≡ true
+  front-among rank e j is next other =
+      let event = machine-event (state_after w h) t in
+      let o = event.0 in
+      let owner : owner_of (event_of t o) ≡ rank = owner-origin t o ∙ (front.mine ∙ is.me) in
+      let there : slice_get (state_after w h).posts (owner_of (event_of t o)) ≡ Some p.posts = ap (λ (r : ℕ). slice_get (state_after w h).posts r) owner ∙ is.posts in
+      let reach : rank_other w.limits.ranks (event_reach w.limits p.posts (event_of t o)) ≡ Some j = ap (rank_other w.limits.ranks) (front-reach rank e o is next) ∙ other in
+      let either : IsEither (owner_of (event_of t o)) (rank_other w.limits.ranks (event_reach w.limits p.posts (event_of t o))) j =
+      subst (λ (x : Option ℕ). IsEither (owner_of (event_of t o)) x j) (sym reach) (inr refl) in
+      subst (λ (y : Event). list_any (eqb j) (numbers_of (by_ranks w).number (state_after w h) y) ≡ true) event.1 (either-event w h (event_of t o) p.posts j legal there either)
+
+-- Threads of a rank that have not ended.
+some-running : (list : List ThreadState) → list_any is_running list ≡ true → (k : ℕ) × (t : ThreadState) × (slice_get list k ≡ Some t) × (is_running t ≡ true)
+some-running [] any = absurd (let no : ⊥ = cc in no)
+some-running (t ∷ list) any = go (λ some. some-running list some) (is_running t) refl any
+  where
+    go : (list_any is_running list ≡ true → (k : ℕ) × (x : ThreadState) × (slice_get list k ≡ Some x) × (is_running x ≡ true)) → (b : Bool) → is_running t ≡ b → (b || list_any is_running list) ≡ true
+        → (k : ℕ) × (x : ThreadState) × (slice_get (t ∷ list) k ≡ Some x) × (is_running x ≡ true)
+    go later true is any = (zero, t, refl, is)
+    go later false is any = (let rest = later any in (suc rest.0, rest.1, rest.2, rest.3))
+
+none-running : (list : List ThreadState) (k : ℕ) (t : ThreadState) → list_any is_running list ≡ false → slice_get list k ≡ Some t → is_running t ≡ false
+none-running [] k t none at = absurd (let no : ⊥ = cc in no)
+none-running (x ∷ list) k t none at = go (λ j rest there. none-running list j t rest there) k (is_running x) refl none at
+  where
+    go : ((j : ℕ) → list_any is_running list ≡ false → slice_get list j ≡ Some t → is_running t ≡ false) → (k : ℕ) (b : Bool) → is_running x ≡ b → (b || list_any is_running list) ≡ false → slice_get (x ∷ list) k ≡ Some t
+        → is_running t ≡ false
+    go later k true is none at = absurd (let no : ⊥ = cc in no)
+    go later zero false is none at = (let same : x ≡ t = cc in ap is_running (sym same) ∙ is)
+    go later (suc k) false is none at = later k none at
+
+active-in : (s : State) (rank thread : ℕ) (posts : Posts) → slice_get s.posts rank ≡ Some posts → is_active s rank thread ≡ is_running (thread_at posts thread)
+active-in s rank thread posts at = rw at refl
+
+thread-there : (posts : Posts) (k : ℕ) (t : ThreadState) → slice_get posts.threads k ≡ Some t → thread_at posts k ≡ t
+thread-there posts k t at = rw at refl
+
+none-active : (posts : Posts) (thread : ℕ) → list_any is_running posts.threads ≡ false → is_running (thread_at posts thread) ≡ false
+none-active posts thread none = go (slice_get posts.threads thread) refl
+  where
+    go : (o : Option ThreadState) → slice_get posts.threads thread ≡ o → is_running (thread_at posts thread) ≡ false
+    go None at = rw at refl
+    go (Some t) at = ap is_running (thread-there posts thread t at) ∙ none-running posts.threads thread t none at
+
+module _ (w : World) (h : List Event) (legal : is_legal w h ≡ true) (rank : ℕ) (p : PostsValue) (is : IsPostsOf (state_after w h) rank p) where
+  -- a thread of the rank has not ended after the history; all have
+  pub has-active : list_any is_running p.posts.threads ≡ true → HasActive w h rank
+  has-active any =
+      let thread = some-running p.posts.threads any in
+      (state_after w h, arrives w h legal, (thread.0, active-in (state_after w h) rank thread.0 p.posts is.posts ∙ (ap is_running (thread-there p.posts thread.0 thread.1 thread.2) ∙ thread.3)))
+
+  pub have-ended : list_any is_running p.posts.threads ≡ false → HaveEnded w h rank
+  have-ended none s reached_is thread =
+      subst (λ (x : State). is_active x rank thread ≡ false) (state-is w h s reached_is) (active-in (state_after w h) rank thread p.posts is.posts ∙ none-active p.posts thread none)
+
+  -- no transfer of the rank may come next, where no lane may be moved
+  pub no-transfer : NoneLaw → ((queue target : ℕ) → is_movable_lane p.posts.queues queue target ≡ false) → HasNoTransfer w h rank
+  no-transfer law none s reached_is k t at mine =
+      law (state_after w h) p t k (by-me (state_after w h) rank p is) none (subst (λ (x : State). slice_get (transfers x.limits x.posts) k ≡ Some t) (sym (state-is w h s reached_is)) at) (mine ∙ sym is.me)

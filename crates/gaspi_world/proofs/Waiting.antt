@@ -202,7 +202,7 @@ module _ {S : Type 0} (w : World) (c : CallerId) (call : Call) where
       legal-part s more legal = prefix w h more.0 (subst (λ (es : List Event). is_legal w es ≡ true) (sym more.1) legal)
 
   -- a missed shard is no look
-  pub waited-busy : (v m n : Known S Event) (earlier : List (List Event)) → HasWaited w c call earlier v m → IsBusy w c m n → HasWaited w c call earlier v n
+  pub waited-busy : (v m n : Known S Event) (earlier : List (List Event)) → HasWaited w c call earlier v m → IsBusy w c call m n → HasWaited w c call earlier v n
   waited-busy v m n earlier waited busy =
       let seen : m.seen ≡ n.seen = sym busy.missed.seen in
       record {
@@ -298,19 +298,19 @@ module _ {S : Type 0} (w : World) (c : CallerId) (call : Call) where
 
   pub stopped-empty : (v m n : Known S Event) (earlier : List (List Event)) (timeout : timeouts.Timeout) → IsWorld w → HasWaited w c call earlier v m → IsOutOfMemory w c call m n → HasLook (left_after (length earlier) (looks_of timeout)) → IsStopped w c call timeout false v n
   stopped-empty v m n earlier timeout world waited stop left =
-      let pending = pending-next v m n earlier stop.history world waited stop.looked.is_look stop.goes_on.legal in
+      let pending = pending-next v m n earlier n.seen world waited stop.looked.is_look stop.goes_on.legal in
       record {
         goes_on = on-from v m n earlier waited stop.goes_on;
         earlier = earlier;
-        last = stop.history;
-        looks = looks-more v m n earlier stop.history waited.seen waited.looks stop.looked.is_look stop.looked.looks;
+        last = n.seen;
+        looks = looks-more v m n earlier n.seen waited.seen waited.looks stop.looked.is_look stop.looked.looks;
         within = few-looks (length earlier) (looks_of timeout) left;
         unready = waited.unready;
         roomy = waited.roomy;
-        joins = waited.joins ++ stop.joins;
-        joined = joined-more w c call earlier stop.history waited.joins stop.joins waited.joined pending stop.joined;
-        mine = stop.mine ∙ (ap (λ (es : List Event). es ++ stop.joins) waited.mine ∙ append_assoc v.mine waited.joins stop.joins);
-        commits = committed-both v m n waited.joins stop.joins waited.commits stop.commits;
+        joins = waited.joins;
+        joined = subst (JoinedFirst w c call (earlier ++ n.seen ∷ [])) (append-nil waited.joins) (joined-more w c call earlier n.seen waited.joins [] waited.joined pending (inl refl));
+        mine = stop.mine ∙ waited.mine;
+        commits = record { places = waited.commits.places; commits = stop.commits ∙ waited.commits.commits; many = waited.commits.many };
         room = stop.room;
         now = λ full. (let no : ⊥ = cc in absurd no);
       }

@@ -1,5 +1,5 @@
--- What is done of a call while its pass holds the shard.
-use Rattle.std.proofs.Common.{◌≡◌, ℕ, ◌+◌, ◌<◌, ◌≤◌, Bool, true, false, not, List, [], ◌∷◌, ◌++◌, length, length-append, Option, Some, Result, Ok, Err, inl, inr, refl, sym, ap, ◌∙◌, subst, arith}
+-- What is done of a call while its pass holds the call's shards.
+use Rattle.std.proofs.Common.{◌≡◌, ℕ, ◌+◌, ◌<◌, ◌≤◌, Bool, true, false, not, List, [], ◌∷◌, ◌++◌, length, length-append, Option, None, Some, Result, Ok, Err, inl, inr, refl, sym, ap, ◌∙◌, subst, arith}
 use Rattle.std.specs.List.{list_any}
 use Rattle.std.proofs.lemmas.Bool.{lt-ltb}
 use Rattle.std.proofs.lemmas.List.{append_assoc, append-nil}
@@ -17,24 +17,27 @@ use Rattle.gaspi_types.specs.declared.replies.Reply.TheVariants as replies
 use Rattle.gaspi_types.specs.declared.shapes.CallerId.{CallerId}
 use Rattle.gaspi_model.specs.Calls.{recorded_reply}
 use Rattle.gaspi_model.specs.CollectiveCalls.{is_joining, join_event}
-use Rattle.gaspi_model.specs.Step.{answer_in, is_active, is_pending, room_taken, is_full_in}
+use Rattle.gaspi_model.specs.Parties.{party_of, caller_party, number_of}
+use Rattle.gaspi_model.specs.Step.{answer_in, is_active, is_pending, room_taken, is_full_in, is_legal}
 use Rattle.gaspi_model.specs.declared.states.State.{State}
 use Rattle.timeout_state.specs.declared.budget.Look.{Look}
 use Rattle.timeout_state.specs.declared.budget.Look.TheVariants.{More, Final}
 use Rattle.commit_table.specs.Attempts.{LookedOnly, Missed}
+use Rattle.commit_table.specs.Machine.{IsOwn}
 use Rattle.commit_table.specs.Views.{mine_after, gave_back}
 use Rattle.commit_table.specs.declared.views.Known.{Known}
-use Rattle.gaspi_world.specs.Attempts.{is_waiting, found_after, is_full_after, GoesOn, HasCommitted, LookedOnce, IsBusy, Attempted}
+use Rattle.commit_table.specs.declared.views.LockOp.{LockOp}
+use Rattle.commit_table.proofs.Lists.{prefix_self, prefix_more, prefix_trans}
+use Rattle.world_shards.specs.RankShards.{IsEither, call_other}
+use Rattle.world_shards.specs.ShardLaws.{arrives}
+use Rattle.world_shards.specs.ShardMachine.{state_after}
+use Rattle.gaspi_world.specs.Attempts.{is_waiting, found_after, is_full_after, GoesOn, HasCommitted, LookedOnce, Attempted}
 use Rattle.gaspi_world.specs.Callers.{IsPassOf}
-use Rattle.gaspi_world.specs.Holds.{Holds, Added}
-use Rattle.gaspi_world.specs.Shards.{shard_part}
-use Rattle.gaspi_world.specs.WorldMachine.{WorldPart, world_machine}
-use Rattle.gaspi_model.specs.Parties.{party_of, caller_party, number_of}
+use Rattle.gaspi_world.specs.Holds.{Added, left_by}
+use Rattle.gaspi_world.specs.WorldMachine.{world_machine}
 use Rattle.gaspi_world.specs.Works.{is_early, Settled, Worked, WorkedOut}
 use Rattle.gaspi_world.specs.declared.attempts.Halt.{Halt}
 use Rattle.gaspi_world.specs.declared.attempts.Halt.TheVariants.{Busy, NotYet, NoMemory, EventLimit}
-use Rattle.commit_table.proofs.Lists.{prefix_self, prefix_more, prefix_trans}
-use Rattle.gaspi_world.proofs.Holdings.{legal-reached}
 use Rattle.gaspi_world.proofs.OwnEvents.{mine-events}
 use Rattle.gaspi_world.proofs.Timely.{never-timeout}
 
@@ -52,8 +55,8 @@ module _ {S : Type 0} where
   committed-none : (v : Known S Event) → HasCommitted [] v v
   committed-none v = record { places = []; commits = sym (append-nil v.commits); many = refl }
 
-  committed-one : (v n : Known S Event) (e : Event) → n.commits ≡ v.commits ++ length v.seen ∷ [] → HasCommitted (e ∷ []) v n
-  committed-one v n e is = record { places = length v.seen ∷ []; commits = is; many = refl }
+  committed-one : (v n : Known S Event) (e : Event) (place : ℕ) → n.commits ≡ v.commits ++ place ∷ [] → HasCommitted (e ∷ []) v n
+  committed-one v n e place is = record { places = place ∷ []; commits = is; many = refl }
 
   pub committed-both : (v m n : Known S Event) (first second : List Event) → HasCommitted first v m → HasCommitted second m n → HasCommitted (first ++ second) v n
   committed-both v m n first second one two = record {
@@ -61,9 +64,6 @@ module _ {S : Type 0} where
     commits = two.commits ∙ (ap (λ (ks : List ℕ). ks ++ two.places) one.commits ∙ append_assoc v.commits one.places two.places);
     many = length-append one.places two.places ∙ (ap (λ (k : ℕ). k + length two.places) one.many ∙ (ap (λ (k : ℕ). length first + k) two.many ∙ sym (length-append first second)));
   }
-
-  committed-more : (v m n : Known S Event) (events : List Event) (e : Event) → HasCommitted events v m → n.commits ≡ m.commits ++ length m.seen ∷ [] → HasCommitted (events ++ e ∷ []) v n
-  committed-more v m n events e before is = committed-both v m n events (e ∷ []) before (committed-one m n e is)
 
   committed-all : (v n : Known S Event) (events : List Event) → HasCommitted (events ++ []) v n → HasCommitted events v n
   committed-all v n events all = subst (λ (es : List Event). HasCommitted es v n) (append-nil events) all
@@ -76,21 +76,25 @@ module _ {S : Type 0} where
     many = all.many;
   }
 
-  -- nor does giving the shard back
-  committed-back : (v n : Known S Event) (events : List Event) → HasCommitted events v n → HasCommitted events v (gave_back n 0)
-  committed-back v n events all = record { places = all.places; commits = all.commits; many = all.many }
+  -- shards are given back: what a pass holds and its turns are no matter
+  committed-back : (v n : Known S Event) (events : List Event) (held : List (ℕ × Option (List Event))) (turns : List (ℕ × LockOp)) → HasCommitted events v n → HasCommitted events v (record n { held = held; turns = turns })
+  committed-back v n events held turns all = record { places = all.places; commits = all.commits; many = all.many }
+
+module _ (w : World) (c : CallerId) (call : Call) where
+  -- what a look finds after a legal history is what it finds in the state after it
+  pub found-in : (h : List Event) → is_legal w h ≡ true → found_after w c call h ≡ answer_in (state_after w h) c.rank c.thread call
+  found-in h legal = rw (arrives w h legal) refl
+
+  pub full-in : (h : List Event) → is_legal w h ≡ true → is_full_after w c call h ≡ is_full_in (state_after w h) c call
+  full-in h legal = rw (arrives w h legal) refl
 
 module _ {S : Type 0} (w : World) (c : CallerId) (call : Call) where
-  pub found-in : (x : WorldPart) (v : Known S Event) → Holds w x v → found_after w c call v.seen ≡ answer_in x.state c.rank c.thread call
-  found-in x v holds = rw holds.state refl
-
-  pub full-in : (x : WorldPart) (v : Known S Event) → Holds w x v → is_full_after w c call v.seen ≡ is_full_in x.state c call
-  full-in x v holds = rw holds.state refl
-
   -- what was committed so far: nothing, the join, the call, or both
   pub worked-none : (v n : Known S Event) → n ≡ v → Worked w c call [] [] v n
   worked-none v n same = subst (Worked w c call [] [] v) (sym same) (record {
-    seen = sym (append-nil (v.seen ++ []) ∙ append-nil v.seen);
+    before = v.seen;
+    seen = sym (append-nil v.seen);
+    later = prefix_self v.seen;
     mine = sym (append-nil (v.mine ++ []) ∙ append-nil v.mine);
     commits = committed-none v;
     joined = inl refl;
@@ -105,59 +109,69 @@ module _ {S : Type 0} (w : World) (c : CallerId) (call : Call) where
 
   pub worked-joined : (v n : Known S Event) (args : Args) → IsPassOf w c v → found_after w c call v.seen ≡ Some (ready.Join args) → Added w v (join_event c call args) n → Worked w c call (join_event c call args ∷ []) [] v n
   worked-joined v n args pass found added = record {
-    seen = added.seen ∙ sym (append-nil (v.seen ++ join_event c call args ∷ []));
+    before = added.before ++ join_event c call args ∷ [];
+    seen = added.seen ∙ sym (append-nil (added.before ++ join_event c call args ∷ []));
+    later = prefix_more v.seen added.before (join_event c call args ∷ []) added.later;
     mine = mine-more v n (join_event c call args) pass refl added ∙ sym (append-nil (v.mine ++ join_event c call args ∷ []));
-    commits = committed-one v n (join_event c call args) added.commits;
+    commits = committed-one v n (join_event c call args) (length added.before) added.commits;
     joined = inr (args, refl, found);
     looks = added.looks;
     missed = added.missed;
-    party = added.party;
+    party = added.party_is;
     start = added.start;
   }
 
   worked-called : (joins : List Event) (v m n : Known S Event) (reply : Reply) → IsPassOf w c v → Worked w c call joins [] v m → Added w m (Called c call reply) n → Worked w c call joins (Called c call reply ∷ []) v n
-  worked-called joins v m n reply pass worked added = record {
-    seen = added.seen ∙ ap (λ (es : List Event). es ++ Called c call reply ∷ []) (worked.seen ∙ append-nil (v.seen ++ joins));
-    mine = mine-more m n (Called c call reply) (pass.0, worked.party ∙ pass.1) refl added ∙ ap (λ (es : List Event). es ++ Called c call reply ∷ []) (worked.mine ∙ append-nil (v.mine ++ joins));
-    commits = committed-more v m n joins (Called c call reply) (committed-all v m joins worked.commits) added.commits;
-    joined = worked.joined;
-    looks = added.looks ∙ worked.looks;
-    missed = added.missed ∙ worked.missed;
-    party = added.party ∙ worked.party;
-    start = added.start ∙ worked.start;
-  }
+  worked-called joins v m n reply pass worked added =
+      let seen : worked.before ≡ m.seen = sym (worked.seen ∙ append-nil worked.before) in
+      record {
+        before = added.before;
+        seen = added.seen;
+        later = prefix_trans v.seen m.seen added.before (subst (IsPrefix v.seen) seen worked.later) added.later;
+        mine = mine-more m n (Called c call reply) (pass.0, worked.party ∙ pass.1) refl added ∙ ap (λ (es : List Event). es ++ Called c call reply ∷ []) (worked.mine ∙ append-nil (v.mine ++ joins));
+        commits = committed-both v m n joins (Called c call reply ∷ []) (committed-all v m joins worked.commits) (committed-one m n (Called c call reply) (length added.before) added.commits);
+        joined = worked.joined;
+        looks = added.looks ∙ worked.looks;
+        missed = added.missed ∙ worked.missed;
+        party = added.party_is ∙ worked.party;
+        start = added.start ∙ worked.start;
+      }
 
-  -- what settles a call that was looked at, after its join where it had to join
-  pub settled-worked : (x : WorldPart) (joins : List Event) (look : Look) (found : Ready) (v m n : Known S Event) (r : Result Reply Halt) → IsPassOf w c v → Holds w x m → Worked w c call joins [] v m
-      → is_full_after w c call v.seen ≡ false → answer_in x.state c.rank c.thread call ≡ Some found → is_joining found ≡ false → (found ≡ ready.NotReady → is_waiting (found_after w c call v.seen) ≡ true)
-      → Settled w c call found look m r n → WorkedOut w c call look v r n
-  settled-worked x joins look found v m n (Ok reply) pass holds worked room answered unjoined waits settled =
-      (joins, worked-called joins v m n reply pass worked settled.2, room, last found answered settled.0 settled.1 unjoined look, unready found answered settled.0 unjoined waits)
+  -- A call was recorded as a look found it, after its join where it had to join.
+  pub recorded-worked : (joins : List Event) (look : Look) (found : Ready) (v m n : Known S Event) (reply : Reply) → IsPassOf w c v → is_legal w m.seen ≡ true → found_after w c call m.seen ≡ Some found → is_joining found ≡ false
+      → Worked w c call joins [] v m → is_full_after w c call v.seen ≡ false → (found ≡ ready.NotReady → is_waiting (found_after w c call v.seen) ≡ true)
+      → reply ≡ recorded_reply found → is_early found look ≡ false → Added w m (Called c call reply) n → WorkedOut w c call look v (Ok reply) n
+  recorded-worked joins look found v m n reply pass legal finds unjoined worked room waits is early added =
+      (joins, worked-called joins v m n reply pass worked added, room, last found finds is early unjoined, unready found finds is unjoined waits)
     where
-      timely : (r : Reply) → answer_in x.state c.rank c.thread call ≡ Some (ready.Reply r) → reply ≡ r → reply ≡ replies.Timeout → ⊥
-      timely r answer is times = never-timeout x.state c.rank c.thread call (answer ∙ ap (λ (q : Reply). Some (ready.Reply q)) (sym is ∙ times))
+      timely : (r : Reply) → found_after w c call m.seen ≡ Some (ready.Reply r) → reply ≡ r → reply ≡ replies.Timeout → ⊥
+      timely r answer same times = never-timeout (state_after w m.seen) c.rank c.thread call (sym (found-in w c call m.seen legal) ∙ (answer ∙ ap (λ (q : Reply). Some (ready.Reply q)) (sym same ∙ times)))
 
-      last : (f : Ready) → answer_in x.state c.rank c.thread call ≡ Some f → reply ≡ recorded_reply f → is_early f look ≡ false → is_joining f ≡ false → (l : Look) → reply ≡ replies.Timeout → look ≡ Final
-      last (ready.Reply r) answer is early joins l times = absurd (timely r answer is times)
-      last (ready.Join args) answer is early joins l times = absurd (let no : ⊥ = cc in no)
-      last ready.NotReady answer is early joins l times = final look early
+      last : (f : Ready) → found_after w c call m.seen ≡ Some f → reply ≡ recorded_reply f → is_early f look ≡ false → is_joining f ≡ false → reply ≡ replies.Timeout → look ≡ Final
+      last (ready.Reply r) answer same early joins times = absurd (timely r answer same times)
+      last (ready.Join args) answer same early joins times = absurd (let no : ⊥ = cc in no)
+      last ready.NotReady answer same early joins times = final look early
         where
           final : (k : Look) → is_early ready.NotReady k ≡ false → k ≡ Final
           final More early = absurd (let no : ⊥ = cc in no)
           final Final early = refl
 
-      unready : (f : Ready) → answer_in x.state c.rank c.thread call ≡ Some f → reply ≡ recorded_reply f → is_joining f ≡ false → (f ≡ ready.NotReady → is_waiting (found_after w c call v.seen) ≡ true) → reply ≡ replies.Timeout
+      unready : (f : Ready) → found_after w c call m.seen ≡ Some f → reply ≡ recorded_reply f → is_joining f ≡ false → (f ≡ ready.NotReady → is_waiting (found_after w c call v.seen) ≡ true) → reply ≡ replies.Timeout
           → is_waiting (found_after w c call v.seen) ≡ true
-      unready (ready.Reply r) answer is joins waits times = absurd (timely r answer is times)
-      unready (ready.Join args) answer is joins waits times = absurd (let no : ⊥ = cc in no)
-      unready ready.NotReady answer is joins waits times = waits refl
-  settled-worked x joins look found v m n (Err NotYet) pass holds worked room answered unjoined waits settled = (
+      unready (ready.Reply r) answer same joins waits times = absurd (timely r answer same times)
+      unready (ready.Join args) answer same joins waits times = absurd (let no : ⊥ = cc in no)
+      unready ready.NotReady answer same joins waits times = waits refl
+
+  -- It was not ready, and is left for another look.
+  pub early-worked : (joins : List Event) (look : Look) (found : Ready) (v m n : Known S Event) → found_after w c call m.seen ≡ Some found → Worked w c call joins [] v m → is_full_after w c call v.seen ≡ false
+      → (found ≡ ready.NotReady → is_waiting (found_after w c call v.seen) ≡ true) → is_early found look ≡ true → n ≡ m → WorkedOut w c call look v (Err NotYet) n
+  early-worked joins look found v m n finds worked room waits early same = (
     joins,
-    subst (Worked w c call joins [] v) (sym settled.1) worked,
+    subst (Worked w c call joins [] v) (sym same) worked,
     room,
-    more found look settled.0,
-    waits (early found look settled.0),
-    ap (λ (k : Known S Event). found_after w c call k.seen) settled.1 ∙ (found-in x m holds ∙ (answered ∙ ap (λ (f : Ready). Some f) (early found look settled.0))),
+    more found look early,
+    waits (unready found look early),
+    ap (λ (k : Known S Event). found_after w c call k.seen) same ∙ (finds ∙ ap (λ (f : Ready). Some f) (unready found look early)),
   )
     where
       more : (f : Ready) (l : Look) → is_early f l ≡ true → l ≡ More
@@ -166,110 +180,118 @@ module _ {S : Type 0} (w : World) (c : CallerId) (call : Call) where
       more (ready.Reply r) l is = absurd (let no : ⊥ = cc in no)
       more (ready.Join args) l is = absurd (let no : ⊥ = cc in no)
 
-      early : (f : Ready) (l : Look) → is_early f l ≡ true → f ≡ ready.NotReady
-      early ready.NotReady l is = refl
-      early (ready.Reply r) l is = absurd (let no : ⊥ = cc in no)
-      early (ready.Join args) l is = absurd (let no : ⊥ = cc in no)
-  settled-worked x joins look found v m n (Err NoMemory) pass holds worked room answered unjoined waits settled = (joins, subst (Worked w c call joins [] v) (sym settled) worked, room)
-  settled-worked x joins look found v m n (Err Busy) pass holds worked room answered unjoined waits settled = absurd settled
-  settled-worked x joins look found v m n (Err EventLimit) pass holds worked room answered unjoined waits settled = absurd settled
+      unready : (f : Ready) (l : Look) → is_early f l ≡ true → f ≡ ready.NotReady
+      unready ready.NotReady l is = refl
+      unready (ready.Reply r) l is = absurd (let no : ⊥ = cc in no)
+      unready (ready.Join args) l is = absurd (let no : ⊥ = cc in no)
 
--- a list goes on by what stands behind it
-seen-more : {S : Type 0} (m n : Known S Event) (joins calls : List Event) → n.seen ≡ (m.seen ++ joins) ++ calls → IsPrefix m.seen n.seen
-seen-more m n joins calls is = subst (IsPrefix m.seen) (sym is) (prefix_more m.seen (m.seen ++ joins) calls (prefix_more m.seen m.seen joins (prefix_self m.seen)))
+  -- what settles a call that was looked at and has not joined
+  pub settled-worked : (look : Look) (found : Ready) (v n : Known S Event) (r : Result Reply Halt) → IsPassOf w c v → is_legal w v.seen ≡ true → found_after w c call v.seen ≡ Some found → is_joining found ≡ false
+      → is_full_after w c call v.seen ≡ false → Settled w c call found look v r n → WorkedOut w c call look v r n
+  settled-worked look found v n (Ok reply) pass legal finds unjoined room settled =
+      recorded-worked [] look found v v n reply pass legal finds unjoined (worked-none v v refl) room (waits found finds) settled.0 settled.1 settled.2
+    where
+      waits : (f : Ready) → found_after w c call v.seen ≡ Some f → f ≡ ready.NotReady → is_waiting (found_after w c call v.seen) ≡ true
+      waits f finds is = ap is_waiting (finds ∙ ap (λ (x : Ready). Some x) is)
+  settled-worked look found v n (Err NotYet) pass legal finds unjoined room settled =
+      early-worked [] look found v v n finds (worked-none v v refl) room (λ is. ap is_waiting (finds ∙ ap (λ (x : Ready). Some x) is)) settled.0 settled.1
+  settled-worked look found v n (Err NoMemory) pass legal finds unjoined room settled = (settled, room)
+  settled-worked look found v n (Err Busy) pass legal finds unjoined room settled = absurd settled
+  settled-worked look found v n (Err EventLimit) pass legal finds unjoined room settled = absurd settled
 
-module _ {S : Type 0} (w : World) (c : CallerId) where
-  -- an attempt tells what was done while the shard was held, and the one look before it
-  goes-on : (v m n : Known S Event) (joins calls : List Event) (call : Call) → IsWorld w → IsPassOf w c v → LookedOnly (world_machine shard_part w) v m → (x : WorldPart) → Holds w x n → Worked w c call joins calls m n → GoesOn w c v (gave_back n 0)
-  goes-on v m n joins calls call world pass look x holds worked = record {
-    seen = prefix_trans v.seen m.seen n.seen look.goes_on (seen-more m n joins calls worked.seen);
-    legal = rw holds.state refl;
-    own = sym (mine-events w c n.seen world pass.0) ∙ holds.own (number_of w.callers c) (worked.party ∙ (look.party ∙ pass.1));
+module _ {S : Type 0} (w : World) (c : CallerId) (call : Call) where
+  seen-more : (m u : Known S Event) (joins calls : List Event) → Worked w c call joins calls m u → IsPrefix m.seen u.seen
+  seen-more m u joins calls worked = subst (IsPrefix m.seen) (sym worked.seen) (prefix_more m.seen worked.before calls worked.later)
+
+  goes-on : (v m u : Known S Event) (joins calls : List Event) (held : List (ℕ × Option (List Event))) (turns : List (ℕ × LockOp)) → IsWorld w → IsPassOf w c v → LookedOnly (world_machine w) v m → is_legal w u.seen ≡ true → IsOwn (world_machine w) u.party u.seen u.mine
+      → Worked w c call joins calls m u → GoesOn w c v (record u { held = held; turns = turns })
+  goes-on v m u joins calls held turns world pass look legal own worked = record {
+    seen = prefix_trans v.seen m.seen u.seen look.goes_on (seen-more m u joins calls worked);
+    legal = legal;
+    own = sym (mine-events w c u.seen world pass.0) ∙ own (number_of w.callers c) (worked.party ∙ (look.party ∙ pass.1));
     party = worked.party ∙ look.party;
     start = worked.start ∙ look.start;
   }
 
-  looked-once : (v m n : Known S Event) (joins calls : List Event) (call : Call) → IsWorld w → IsPassOf w c v → LookedOnly (world_machine shard_part w) v m → Worked w c call joins calls m n → LookedOnce w c v (gave_back n 0) m.seen
-  looked-once v m n joins calls call world pass look worked = record {
+  looked-once : (v m u : Known S Event) (joins calls : List Event) (held : List (ℕ × Option (List Event))) (turns : List (ℕ × LockOp)) → IsWorld w → IsPassOf w c v → LookedOnly (world_machine w) v m → Worked w c call joins calls m u
+      → LookedOnce w c v (record u { held = held; turns = turns }) m.seen
+  looked-once v m u joins calls held turns world pass look worked = record {
     looks = worked.looks ∙ look.looks;
     is_look = record {
       later = look.goes_on;
-      earlier = seen-more m n joins calls worked.seen;
+      earlier = seen-more m u joins calls worked;
       own = sym (mine-events w c m.seen world pass.0) ∙ (look.own (number_of w.callers c) (look.party ∙ pass.1) ∙ look.mine);
     };
     missed = worked.missed ∙ look.missed;
   }
 
-  pub attempted : (call : Call) (look : Look) (v m n : Known S Event) (x : WorldPart) (r : Result Reply Halt) → IsWorld w → IsPassOf w c v → LookedOnly (world_machine shard_part w) v m → Holds w x n → WorkedOut w c call look m r n → Attempted w c call look v r (gave_back n 0)
-  attempted call look v m n x (Ok reply) world pass looks holds (joins, worked, room, last, unready) = record {
-    goes_on = goes-on v m n joins (Called c call reply ∷ []) call world pass looks x holds worked;
+  -- An attempt tells what was done while the shards were held, and the one look before it.
+  attempted : (look : Look) (v m u : Known S Event) (r : Result Reply Halt) (held : List (ℕ × Option (List Event))) (turns : List (ℕ × LockOp)) → IsWorld w → IsPassOf w c v → LookedOnly (world_machine w) v m → is_legal w u.seen ≡ true → IsOwn (world_machine w) u.party u.seen u.mine
+      → WorkedOut w c call look m r u → Attempted w c call look v r (record u { held = held; turns = turns })
+  attempted look v m u (Ok reply) held turns world pass looks legal own (joins, worked, room, last, unready) = record {
+    goes_on = goes-on v m u joins (Called c call reply ∷ []) held turns world pass looks legal own worked;
     history = m.seen;
-    looked = looked-once v m n joins (Called c call reply ∷ []) call world pass looks worked;
-    before = m.seen ++ joins;
+    looked = looked-once v m u joins (Called c call reply ∷ []) held turns world pass looks worked;
+    before = worked.before;
     ends = worked.seen;
-    after_look = prefix_more m.seen m.seen joins (prefix_self m.seen);
+    after_look = worked.later;
     joins = joins;
     joined = worked.joined;
     mine = worked.mine ∙ ap (λ (es : List Event). (es ++ joins) ++ Called c call reply ∷ []) looks.mine;
-    commits = committed-back v n (joins ++ Called c call reply ∷ []) (committed-since v m n (joins ++ Called c call reply ∷ []) looks.commits worked.commits);
+    commits = committed-back v u (joins ++ Called c call reply ∷ []) held turns (committed-since v m u (joins ++ Called c call reply ∷ []) looks.commits worked.commits);
     room = room;
     last = last;
     unready = unready;
   }
-  attempted call look v m n x (Err NotYet) world pass looks holds (joins, worked, room, more, unready, still) = record {
-    goes_on = goes-on v m n joins [] call world pass looks x holds worked;
+  attempted look v m u (Err NotYet) held turns world pass looks legal own (joins, worked, room, more, unready, still) = record {
+    goes_on = goes-on v m u joins [] held turns world pass looks legal own worked;
     history = m.seen;
-    looked = looked-once v m n joins [] call world pass looks worked;
+    looked = looked-once v m u joins [] held turns world pass looks worked;
     joins = joins;
     joined = worked.joined;
     mine = worked.mine ∙ (append-nil (m.mine ++ joins) ∙ ap (λ (es : List Event). es ++ joins) looks.mine);
-    commits = committed-back v n joins (committed-since v m n joins looks.commits (committed-all m n joins worked.commits));
+    commits = committed-back v u joins held turns (committed-since v m u joins looks.commits (committed-all m u joins worked.commits));
     room = room;
     more = more;
     unready = unready;
     still = still;
   }
-  attempted call look v m n x (Err NoMemory) world pass looks holds (joins, worked, room) = record {
-    goes_on = goes-on v m n joins [] call world pass looks x holds worked;
-    history = m.seen;
-    looked = looked-once v m n joins [] call world pass looks worked;
-    joins = joins;
-    joined = worked.joined;
-    mine = worked.mine ∙ (append-nil (m.mine ++ joins) ∙ ap (λ (es : List Event). es ++ joins) looks.mine);
-    commits = committed-back v n joins (committed-since v m n joins looks.commits (committed-all m n joins worked.commits));
-    room = room;
-  }
-  attempted call look v m n x (Err EventLimit) world pass looks holds (same, full) =
-      let worked = worked-none w c call m n same in
-      let seen : m.seen ≡ n.seen = ap (λ (k : Known S Event). k.seen) (sym same) in
+  attempted look v m u (Err NoMemory) held turns world pass looks legal own (same, room) =
+      let worked = worked-none w c call m u same in
+      let seen : m.seen ≡ u.seen = ap (λ (k : Known S Event). k.seen) (sym same) in
       record {
-        goes_on = goes-on v m n [] [] call world pass looks x holds worked;
-        looked = subst (LookedOnce w c v (gave_back n 0)) seen (looked-once v m n [] [] call world pass looks worked);
+        goes_on = goes-on v m u [] [] held turns world pass looks legal own worked;
+        looked = subst (LookedOnce w c v (record u { held = held; turns = turns })) seen (looked-once v m u [] [] held turns world pass looks worked);
+        mine = ap (λ (k : Known S Event). k.mine) same ∙ looks.mine;
+        commits = ap (λ (k : Known S Event). k.commits) same ∙ looks.commits;
+        room = ap (is_full_after w c call) (sym seen) ∙ room;
+      }
+  attempted look v m u (Err EventLimit) held turns world pass looks legal own (same, full) =
+      let worked = worked-none w c call m u same in
+      let seen : m.seen ≡ u.seen = ap (λ (k : Known S Event). k.seen) (sym same) in
+      record {
+        goes_on = goes-on v m u [] [] held turns world pass looks legal own worked;
+        looked = subst (LookedOnce w c v (record u { held = held; turns = turns })) seen (looked-once v m u [] [] held turns world pass looks worked);
         mine = ap (λ (k : Known S Event). k.mine) same ∙ looks.mine;
         commits = ap (λ (k : Known S Event). k.commits) same ∙ looks.commits;
         full = ap (is_full_after w c call) (sym seen) ∙ full;
       }
-  attempted call look v m n x (Err Busy) world pass looks holds never = absurd never
+  attempted look v m u (Err Busy) held turns world pass looks legal own never = absurd never
 
-  -- and a miss tells that nothing was done
-  pub missed-attempt : (v n : Known S Event) → IsWorld w → IsPassOf w c v → Missed (world_machine shard_part w) v (λ i. i ≡ 0) n → IsBusy w c v n
-  missed-attempt v n world pass miss = record {
+  pub attempted-left : (look : Look) (v m u : Known S Event) (r : Result Reply Halt) (own : ℕ) (other : Option ℕ) → IsWorld w → IsPassOf w c v → LookedOnly (world_machine w) v m → is_legal w u.seen ≡ true → IsOwn (world_machine w) u.party u.seen u.mine
+      → WorkedOut w c call look m r u → Attempted w c call look v r (left_by own other u)
+  attempted-left look v m u r own None world pass looks legal owns worked = attempted look v m u r (gave_back u own).held (gave_back u own).turns world pass looks legal owns worked
+  attempted-left look v m u r own (Some j) world pass looks legal owns worked = attempted look v m u r (gave_back (gave_back u j) own).held (gave_back (gave_back u j) own).turns world pass looks legal owns worked
+
+  -- A miss tells that no look was made.
+  pub missed-busy : (look : Look) (v n : Known S Event) → IsWorld w → IsPassOf w c v → Missed (world_machine w) v (IsEither c.rank (call_other w c call)) n → Attempted w c call look v (Err Busy) n
+  missed-busy look v n world pass missed = record {
     goes_on = record {
-      seen = subst (IsPrefix v.seen) (sym miss.seen) (prefix_self v.seen);
-      legal = (let s = legal-reached w n.seen miss.legal in rw s.1 refl);
-      own = sym (mine-events w c n.seen world pass.0) ∙ miss.own (number_of w.callers c) (miss.party ∙ pass.1);
-      party = miss.party;
-      start = miss.start;
+      seen = subst (IsPrefix v.seen) (sym missed.seen) (prefix_self v.seen);
+      legal = missed.legal;
+      own = sym (mine-events w c n.seen world pass.0) ∙ missed.own (number_of w.callers c) (missed.party ∙ pass.1);
+      party = missed.party;
+      start = missed.start;
     };
-    missed = miss;
-  }
-
-  -- a look tells what goes on
-  pub looked-goes-on : (v n : Known S Event) → IsWorld w → IsPassOf w c v → LookedOnly (world_machine shard_part w) v n → GoesOn w c v n
-  looked-goes-on v n world pass look = record {
-    seen = look.goes_on;
-    legal = (let s = legal-reached w n.seen look.legal in rw s.1 refl);
-    own = sym (mine-events w c n.seen world pass.0) ∙ look.own (number_of w.callers c) (look.party ∙ pass.1);
-    party = look.party;
-    start = look.start;
+    missed = missed;
   }

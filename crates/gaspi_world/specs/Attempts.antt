@@ -20,7 +20,7 @@ use Rattle.timeout_state.specs.declared.budget.Look.TheVariants.{More, Final}
 use Rattle.commit_table.specs.Attempts.{Missed}
 use Rattle.commit_table.specs.declared.views.Known.{Known}
 use Rattle.gaspi_model.specs.CallerEvents.{events_of}
-use Rattle.gaspi_world.specs.Shards.{shard_part}
+use Rattle.world_shards.specs.RankShards.{IsEither, call_other}
 use Rattle.gaspi_world.specs.WorldMachine.{world_machine}
 use Rattle.gaspi_world.specs.declared.attempts.Halt.{Halt}
 use Rattle.gaspi_world.specs.declared.attempts.Halt.TheVariants.{Busy, NotYet, NoMemory, EventLimit}
@@ -128,25 +128,22 @@ module _ {S : Type 0} (w : World) (c : CallerId) where
     pub commits : n.commits ≡ v.commits
     pub full : is_full_after w c call n.seen ≡ true
 
-  -- There was no memory. The call may have joined; it is not recorded.
+  -- There was no memory. Nothing was committed.
   pub record IsOutOfMemory (call : Call) (v n : Known S Event) : Type 0 where
     pub goes_on : GoesOn v n
-    pub history : List Event
-    pub looked : LookedOnce v n history
-    pub joins : List Event
-    pub joined : MayHaveJoined w c call history joins
-    pub mine : n.mine ≡ v.mine ++ joins
-    pub commits : HasCommitted joins v n
-    pub room : is_full_after w c call history ≡ false
+    pub looked : LookedOnce v n n.seen
+    pub mine : n.mine ≡ v.mine
+    pub commits : n.commits ≡ v.commits
+    pub room : is_full_after w c call n.seen ≡ false
 
-  -- The shard was missed, which another pass held, and no look was made.
-  pub record IsBusy (v n : Known S Event) : Type 0 where
+  -- A shard of the call was missed, which another pass held, and no look was made.
+  pub record IsBusy (call : Call) (v n : Known S Event) : Type 0 where
     pub goes_on : GoesOn v n
-    pub missed : Missed (world_machine shard_part w) v (λ i. i ≡ 0) n
+    pub missed : Missed (world_machine w) v (IsEither c.rank (call_other w c call)) n
 
   abbrev pub Attempted : Call → Look → Known S Event → Result Reply Halt → Known S Event → Type 0
   Attempted call look v (Ok reply) n = IsRecorded call look reply v n
-  Attempted call look v (Err Busy) n = IsBusy v n
+  Attempted call look v (Err Busy) n = IsBusy call v n
   Attempted call look v (Err NotYet) n = IsNotYet call look v n
   Attempted call look v (Err EventLimit) n = IsAtLimit call v n
   Attempted call look v (Err NoMemory) n = IsOutOfMemory call v n

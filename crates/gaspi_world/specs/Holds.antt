@@ -1,39 +1,61 @@
--- What a pass knows while it holds the shard of its world, and what one more event adds to it.
-use Rattle.std.specs.Prelude.{◌≡◌, ℕ, ◌*◌, [], ◌∷◌, ◌++◌, length, None, Some, Ok}
+-- The nodes that a pass holds, as values of shards.
+use Rattle.std.specs.Prelude.{◌≡◌, ℕ, ◌+◌, ◌<◌, List, [], ◌∷◌, Option, None, Some}
 use Rattle.gaspi_types.specs.World.{World}
 use Rattle.gaspi_types.specs.declared.events.Event.{Event}
-use Rattle.gaspi_model.specs.Step.{reached, step}
-use Rattle.gaspi_model.specs.declared.states.State.{State}
-use Rattle.commit_table.specs.Machine.{IsOwn}
-use Rattle.commit_table.specs.Views.{held_at, mine_after}
-use Rattle.commit_table.specs.declared.views.Known.{Known}
-use Rattle.gaspi_world.specs.Shards.{shard_part}
-use Rattle.gaspi_world.specs.WorldLaws.{placed}
-use Rattle.gaspi_world.specs.WorldMachine.{WorldPart, world_machine}
 use Rattle.gaspi_model.specs.Parties.{party_of}
+use Rattle.commit_table.specs.Views.{gave_back}
+use Rattle.commit_table.specs.declared.views.Known.{Known}
+use Rattle.rank_node.specs.declared.held_nodes.OtherNode.{OtherNode}
+use Rattle.rank_node.specs.declared.held_nodes.OtherNode.TheVariants.{Nothing, Rank, Group}
+use Rattle.world_shards.specs.Holds as held
+use Rattle.world_shards.specs.Numbering.{by_ranks}
+use Rattle.world_shards.specs.ShardMachine.{AgreeAt}
+use Rattle.gaspi_world.specs.Shards.{node_meaning}
+use Rattle.gaspi_world.specs.declared.holding.HeldShards.{HeldShards}
+use Rattle.gaspi_world.specs.declared.shards.WorldShard.{WorldShard}
+use Rattle.gaspi_world.specs.declared.shards.WorldShard.TheVariants as shards
+
+-- the value of the other shard, where there is one
+abbrev pub other_value : Option ℕ → OtherNode → List (ℕ × WorldShard)
+other_value None other = []
+other_value (Some i) Nothing = []
+other_value (Some i) (Rank node) = (i, shards.Rank node) ∷ []
+other_value (Some i) (Group node) = (i, shards.Group node) ∷ []
+
+abbrev pub values_of : HeldShards → List (ℕ × WorldShard)
+values_of h = (h.own, shards.Rank h.nodes.own) ∷ other_value h.other h.nodes.other
+
+-- another node is held exactly where there is another shard
+abbrev pub IsOther : Option ℕ → OtherNode → Type 0
+IsOther None Nothing = Unit {0}
+IsOther None (Rank node) = ⊥
+IsOther None (Group node) = ⊥
+IsOther (Some i) Nothing = ⊥
+IsOther (Some i) (Rank node) = Unit {0}
+IsOther (Some i) (Group node) = Unit {0}
+
+-- the other shard is there, and is not the own one
+abbrev pub IsOtherShard : World → ℕ → Option ℕ → Type 0
+IsOtherShard w own None = Unit {0}
+IsOtherShard w own (Some other) = (other < w.limits.ranks + 8) × (other ≡ own → ⊥)
+
+-- what is left where the shards were given back
+abbrev pub left_by : {S : Type 0} → ℕ → Option ℕ → Known S Event → Known S Event
+left_by own None v = gave_back v own
+left_by own (Some other) v = gave_back (gave_back v other) own
 
 module _ {S : Type 0} (w : World) where
-  -- the pass holds the shard and no other, what lies there stands for all that the pass has seen, and the events of the pass's
-  -- party there are its own
-  pub record Holds (x : WorldPart) (v : Known S Event) : Type 0 where
-    pub state : reached w v.seen ≡ Ok x.state
-    pub journal : x.journal ≡ placed 0 v.seen
-    pub room : x.room ≡ w.limits.ranks * w.limits.events
-    pub held : held_at v.held 0 ≡ Some v.seen
-    pub others : (i : ℕ) → held_at ((0, None) ∷ v.held) i ≡ None
-    pub own : IsOwn (world_machine shard_part w) v.party v.seen v.mine
+  -- the pass holds the shards of these nodes and no other, and what lies there stands for all that it has seen
+  pub record Holds (h : HeldShards) (v : Known S Event) : Type 0 where
+    pub shards : held.Holds (by_ranks w) w (node_meaning w) (party_of w) (values_of h) v
+    pub fits : IsOther h.other h.nodes.other
+    pub own : h.own < w.limits.ranks
+    pub apart : IsOtherShard w h.own h.other
 
-  -- the same, but that the machine in the shard has made one step more
-  abbrev pub HoldsBefore : Event → WorldPart → Known S Event → Type 0
-  HoldsBefore e x v = (s : State) × Holds (record x { state = s }) v × (step s e ≡ Ok x.state)
+  -- an event was committed behind what had been seen; others may have been committed between, on other shards
+  abbrev pub Added : Known S Event → Event → Known S Event → Type 0
+  Added v e n = held.Added (by_ranks w) w (party_of w) v e n
 
-  -- an event was committed right behind what had been seen
-  pub record Added (v : Known S Event) (e : Event) (n : Known S Event) : Type 0 where
-    pub seen : n.seen ≡ v.seen ++ e ∷ []
-    pub mine : n.mine ≡ mine_after (party_of w e) v.mine e
-    pub commits : n.commits ≡ v.commits ++ length v.seen ∷ []
-    pub looks : n.looks ≡ v.looks
-    pub missed : n.missed ≡ v.missed
-    pub met : n.met ≡ v.met
-    pub party : n.party ≡ v.party
-    pub start : n.start ≡ v.start
+  -- a history agrees with what was seen on the shards that are held
+  abbrev pub AgreesOn : HeldShards → Known S Event → List Event → Type 0
+  AgreesOn h v k = (i : ℕ) (x : WorldShard) → held.value_at (values_of h) i ≡ Some x → AgreeAt (by_ranks w) w i v.seen k

@@ -1,20 +1,35 @@
 -- What a try to make a transfer of a rank tells.
-use Rattle.std.specs.Prelude.{◌≡◌, ◌≢◌, ◌==◌, ℕ, Bool, true, false, List, Some, Result, Ok, Err, slice_get}
+use Rattle.std.specs.Prelude.{◌≡◌, ◌≢◌, ◌==◌, ◌⊎◌, eqb, ℕ, Bool, true, false, List, [], ◌∷◌, ◌++◌, length, Some, Ok, slice_get}
+use Rattle.std.specs.List.{list_any}
+use mathlib.Core.List.{IsPrefix}
 use Rattle.gaspi_types.specs.World.{World}
 use Rattle.gaspi_types.specs.declared.events.Event.{Event}
 use Rattle.gaspi_types.specs.declared.events.Event.TheVariants.{Called, Joined, Take, Put}
 use Rattle.gaspi_types.specs.declared.events.Transfer.{Transfer}
-use Rattle.gaspi_types.specs.declared.memory.NoMemory.{NoMemory}
-use Rattle.gaspi_model.specs.Step.{reached, is_active}
+use Rattle.gaspi_types.specs.declared.entries.Entry.{Entry}
+use Rattle.gaspi_model.specs.Shards.{numbers_of}
+use Rattle.gaspi_model.specs.Step.{reached, is_active, transfer_event}
 use Rattle.gaspi_model.specs.Transfers.{transfers}
 use Rattle.gaspi_model.specs.declared.states.State.{State}
+use Rattle.commit_table.specs.Machine.{Machine, IsOwn}
 use Rattle.commit_table.specs.Attempts.{Recorded, Missed, LookedOnly}
+use Rattle.commit_table.specs.Calls.{HoldsNone}
+use Rattle.commit_table.specs.Turns.{holder_in, turns_by, GoOn}
 use Rattle.commit_table.specs.declared.views.Known.{Known}
-use Rattle.gaspi_world.specs.Holds.{Added}
-use Rattle.gaspi_world.specs.Shards.{shard_part}
+use Rattle.commit_table.specs.declared.views.LockOp.{LockOp}
+use Rattle.commit_table.specs.declared.views.LockOp.TheVariants as lock_op
+use Rattle.commit_table.specs.declared.views.Turn.{Turn}
+use Rattle.rank_node.specs.Fronts.{IsFront, front_entry, transfer_footprint}
+use Rattle.world_shards.specs.Numbering.{by_ranks}
+use Rattle.world_shards.specs.RankShards.{rank_other}
+use Rattle.gaspi_world.specs.Holds.{Holds, Added}
 use Rattle.gaspi_world.specs.WorldMachine.{world_machine}
+use Rattle.gaspi_world.specs.declared.holding.HeldShards.{HeldShards}
 use Rattle.gaspi_world.specs.declared.moving.Moving.{Moving}
 use Rattle.gaspi_world.specs.declared.moving.Moving.TheVariants.{Moved, Busy, Empty, Ended}
+use Rattle.gaspi_world.specs.declared.transfers.Tried as tried
+use Rattle.gaspi_world.specs.declared.transfers.Tried.TheVariants.{Still, Ready}
+use Rattle.gaspi_world.specs.declared.transfers.Tried.TheVariants as tries
 
 -- a take or a put of an origin
 abbrev pub is_transfer_of : ℕ → Event → Bool
@@ -22,6 +37,30 @@ is_transfer_of origin (Called c call reply) = false
 is_transfer_of origin (Joined c id args) = false
 is_transfer_of origin (Take o queue target number outcome) = o == origin
 is_transfer_of origin (Put o queue target number outcome) = o == origin
+
+module _ {S X E : Type 0} (m : Machine X E) where
+  -- nothing was committed, one look was made, and a shard was missed that such a try may miss after what it saw
+  pub record MissedLooking (v : Known S E) (May : List E → ℕ → Type 0) (n : Known S E) : Type 0 where
+    pub shard : ℕ
+    pub may : May n.seen shard
+    pub missed : n.missed ≡ v.missed ++ shard ∷ []
+    -- as of a miss without a look
+    pub has_party : (p : ℕ) × (v.party ≡ Some p)
+    pub before : List Turn
+    pub first : (p : ℕ) → v.party ≡ Some p → n.met ≡ record { shard = shard; party = p; op = lock_op.Missed } ∷ before
+    pub met : GoOn v.met before
+    pub added : (p : ℕ) → v.party ≡ Some p → (earlier : List (ℕ × LockOp)) × (later : List (ℕ × LockOp)) × (turns_by p before ≡ earlier ++ v.turns) × (n.turns ≡ later ++ ((shard, lock_op.Missed) ∷ (earlier ++ v.turns)))
+    pub other : ℕ
+    pub holds : holder_in before shard ≡ Some other
+    pub apart : ¬ (v.party ≡ Some other)
+    pub goes_on : IsPrefix v.seen n.seen
+    pub legal : m.Legal n.seen
+    pub own : IsOwn m n.party n.seen n.mine
+    pub looks : n.looks ≡ v.looks ++ length n.seen ∷ []
+    pub mine : n.mine ≡ v.mine
+    pub commits : n.commits ≡ v.commits
+    pub party : n.party ≡ v.party
+    pub start : n.start ≡ v.start
 
 module _ (w : World) where
   -- after a history no transfer of an origin may come next
@@ -35,19 +74,42 @@ module _ (w : World) where
   abbrev pub HaveEnded : List Event → ℕ → Type 0
   HaveEnded history rank = (s : State) → reached w history ≡ Ok s → (thread : ℕ) → is_active s rank thread ≡ false
 
-  -- one transfer of the origin was committed; the shard was missed; after one look, nothing was committed, since no transfer of the
-  -- origin may come next, and a thread of that rank has not ended, or all have; or, for want of memory, nothing was
-  abbrev pub Moves : {S : Type 0} → ℕ → Known S Event → Result Moving NoMemory → Known S Event → Type 0
-  Moves origin v (Ok Moved) n = (e : Event) × (place : ℕ) × (is_transfer_of origin e ≡ true) × Recorded (world_machine shard_part w) v e place n
-  Moves origin v (Ok Busy) n = Missed (world_machine shard_part w) v (λ i. i ≡ 0) n
-  Moves origin v (Ok Empty) n = LookedOnly (world_machine shard_part w) v n × HasNoTransfer n.seen origin × HasActive n.seen origin
-  Moves origin v (Ok Ended) n = LookedOnly (world_machine shard_part w) v n × HasNoTransfer n.seen origin × HaveEnded n.seen origin
-  Moves origin v (Err none) n = LookedOnly (world_machine shard_part w) v n
+  -- after a history a transfer of an origin may come next which has this shard
+  pub record MayTransfer (origin : ℕ) (history : List Event) (shard : ℕ) : Type 0 where
+    pub state : State
+    pub reached_is : reached w history ≡ Ok state
+    pub transfer : Transfer
+    pub place : ℕ
+    pub listed : slice_get (transfers state.limits state.posts) place ≡ Some transfer
+    pub origin_is : transfer.origin ≡ origin
+    pub among : list_any (eqb shard) (numbers_of (by_ranks w).number state (transfer_event state transfer)) ≡ true
 
-  -- the same of a pass that holds the shard: the look was made before, so a transfer is right behind what had been seen
-  abbrev pub MovesHeld : {S : Type 0} → ℕ → Known S Event → Result Moving NoMemory → Known S Event → Type 0
-  MovesHeld origin v (Ok Moved) n = (e : Event) × (is_transfer_of origin e ≡ true) × Added w v e n
-  MovesHeld origin v (Ok Busy) n = ⊥
-  MovesHeld origin v (Ok Empty) n = (n ≡ v) × HasNoTransfer v.seen origin × HasActive v.seen origin
-  MovesHeld origin v (Ok Ended) n = (n ≡ v) × HasNoTransfer v.seen origin × HaveEnded v.seen origin
-  MovesHeld origin v (Err none) n = n ≡ v
+  -- Busy: the origin's shard was missed, and no look was made; or, after one look, a transfer of the origin may come next, and one of its
+  -- shards was missed.
+  abbrev pub IsBusyMove : {S : Type 0} → ℕ → Known S Event → Known S Event → Type 0
+  IsBusyMove origin v n = Missed (world_machine w) v (λ i. i ≡ origin) n ⊎ MissedLooking (world_machine w) v (MayTransfer origin) n
+
+  -- one transfer of the origin was committed; a shard was missed; or, after one look, nothing was committed, since no transfer of the
+  -- origin may come next, and a thread of that rank has not ended, or all have
+  abbrev pub Moves : {S : Type 0} → ℕ → Known S Event → Moving → Known S Event → Type 0
+  Moves origin v Moved n = (e : Event) × (place : ℕ) × (is_transfer_of origin e ≡ true) × Recorded (world_machine w) v e place n
+  Moves origin v Busy n = IsBusyMove origin v n
+  Moves origin v Empty n = LookedOnly (world_machine w) v n × HasNoTransfer n.seen origin × HasActive n.seen origin
+  Moves origin v Ended n = LookedOnly (world_machine w) v n × HasNoTransfer n.seen origin × HaveEnded n.seen origin
+
+  -- a transfer is the front of a lane of the rank whose node is held, with the other node that it reaches
+  pub record IsFrontHeld (t : Transfer) (h : HeldShards) : Type 0 where
+    pub front : IsFront h.nodes.own.value.posts t
+    pub own : h.own ≡ t.origin
+    pub other : (e : Entry) → front_entry h.nodes.own.value.posts t ≡ Some e → h.other ≡ rank_other w.limits.ranks (transfer_footprint w.limits.ranks t e.kind)
+
+  -- one transfer of the origin was committed behind what had been seen
+  abbrev pub IsMovedBehind : {S : Type 0} → ℕ → Known S Event → Known S Event → Type 0
+  IsMovedBehind origin v n = (e : Event) × (is_transfer_of origin e ≡ true) × Added w v e n
+
+  -- what comes of a try to take the shards of the next transfer of a rank
+  abbrev pub Tries : {S : Type 0} → ℕ → Known S Event → tried.Tried → Known S Event → Type 0
+  Tries origin v tries.Busy n = HoldsNone n × IsBusyMove origin v n
+  Tries origin v (Still true) n = HoldsNone n × LookedOnly (world_machine w) v n × HasNoTransfer n.seen origin × HaveEnded n.seen origin
+  Tries origin v (Still false) n = HoldsNone n × LookedOnly (world_machine w) v n × HasNoTransfer n.seen origin × HasActive n.seen origin
+  Tries origin v (Ready t h) n = Holds w h n × LookedOnly (world_machine w) v n × IsFrontHeld t h × (t.origin ≡ origin)

@@ -1,222 +1,242 @@
 //! One attempt to make a call, which never waits.
 
-ghost use Rattle.std.specs.Prelude.{◌≡◌, ◌≢◌, false, true, Some, Err, Ok, IfOk, IfErr, IsOk};
-ghost use Rattle.gaspi_types.specs.Copies.{is_listless_reply};
+ghost use Rattle.std.specs.Prelude.{◌≡◌, ◌≢◌, ◌≤◌, ◌<◌, ℕ, false, Some, None, Err, IsSome, IfOk, IfErr};
+ghost use Rattle.gaspi_types.specs.CallRows.{row_of};
 ghost use Rattle.gaspi_types.specs.World.{IsWorld};
-ghost use Rattle.gaspi_types.specs.declared.calls.Call.TheVariants.{End};
 ghost use Rattle.gaspi_types.specs.declared.events.Event.TheVariants.{Called};
-ghost use Rattle.gaspi_types.specs.declared.replies.Ready.TheVariants.{Join};
+ghost use Rattle.gaspi_types.specs.declared.replies.Ready.TheVariants as ready;
 ghost use Rattle.gaspi_model.specs.Calls.{recorded_reply};
 ghost use Rattle.gaspi_model.specs.CollectiveCalls.{is_joining, join_event};
-ghost use Rattle.gaspi_model.specs.Step.{step, answer_in, is_full_in};
-ghost use Rattle.plain_machine.specs.Looking.{MayJoinWith, MayRecord};
 ghost use Rattle.commit_table.specs.Calls.{IsOf, HoldsNone};
+ghost use Rattle.rank_node.specs.Rooms.{IsRecordRoom, IsRoomFor, FitsReserved};
 ghost use Rattle.gaspi_world.specs.Attempts.{Attempted};
 ghost use Rattle.gaspi_world.specs.Callers.{IsPassOf};
 ghost use Rattle.gaspi_world.specs.Holds.{Holds, Added};
-ghost use Rattle.gaspi_world.specs.Shards.{shard_part};
-ghost use Rattle.gaspi_world.specs.Works.{is_early, IsHolder, Settled, WorkedOut};
-ghost use Rattle.gaspi_world.specs.declared.attempts.Halt.TheVariants.{NoMemory};
+ghost use Rattle.gaspi_world.specs.Works.{is_early, is_full_for, IsHolder, MayRecord, MayJoinAs, FitsMemory, FoundFits, Settled, WorkedOut};
+ghost use Rattle.gaspi_world.specs.declared.attempts.Halt.TheVariants as halts;
 
-use crate::holding::{advance, leave, open};
-use crate::shards::WorldShard;
+use crate::committing::{commit_call, commit_join};
+use crate::holding::{HeldShards, leave, open, reached_shard};
 use crate::starts::Start;
 use crate::worlds::Pass;
 use commit_table::CommitTable;
-use gaspi_types::{Args, Event, Invocation, Ready, Reply};
-use plain_calls::Finding;
+use gaspi_types::{Args, Call, CallRow, GroupId, Invocation, Ready, Reply};
+use rank_node::{Look, Room};
 use std::alloc::Global;
-use timeout_state::Look;
 
-/// Why an attempt made no call. The pass holds no shard then, and its calls are as they were.
+/// Why an attempt made no call. The pass holds no shard then, and its own calls are as they were.
 #[derive(Clone, Copy, Debug, PartialEq, Eq)]
 pub enum Halt {
-    /// Another thread held the shard, which was missed. It was no look.
+    /// Another thread held a shard of the call, which was missed. It was no look.
     Busy,
     /// The call is not ready, at a look that was not the last. A collective is pending then. (GASPI: timeouts)
     NotYet,
-    /// There was no memory. A collective may have joined its group.
+    /// There was no memory. Nothing has changed.
     NoMemory,
     /// The caller's rank has no room for the events that the call needs.
     EventLimit,
 }
 
-/// A copy of the reply with which a call is recorded as it was found.
-fn recorded_reply(alloc: Global, found: &Finding) -> Result<Reply, gaspi_types::NoMemory>
-    ensures reply { IfOk result (λ reply. reply ≡ recorded_reply found.now.ready) }
-    ensures listless { is_listless_reply (recorded_reply found.now.ready) ≡ true → IsOk result }
+/// The reply with which a call is recorded as it was found.
+fn recorded_reply(found: Ready) -> Reply
+    ensures { result ≡ recorded_reply found }
 {
-    match &found.ready {
-        Ready::Reply(reply) => reply.copy(alloc),
-        Ready::Join(_) | Ready::NotReady => Ok(Reply::Timeout),
+    match found {
+        Ready::Reply(reply) => reply,
+        Ready::Join(_) | Ready::NotReady => Reply::Timeout,
     }
 }
 
 /// The arguments with which a call that was found so may join its group; where it may not, what was found.
-fn join_args(found: Finding) -> Result<Args, Finding>
-    ensures joins { IfOk result (λ args. found.ready ≡ Join args) }
-    ensures other { IfErr result (λ same. (same ≡ found) × (is_joining found.ready ≡ false)) }
+fn join_args(found: Ready) -> Result<Args, Ready>
+    ensures joins { IfOk result (λ args. found ≡ ready.Join args) }
+    ensures other { IfErr result (λ same. (same ≡ found) × (is_joining found ≡ false)) }
 {
-    let Finding {
-        ready,
-        kinds,
-        message,
-    } = found;
-    match ready {
+    match found {
         Ready::Join(args) => Ok(args),
-        Ready::Reply(_) | Ready::NotReady => Err(Finding {
-            ready,
-            kinds,
-            message,
-        }),
+        Ready::Reply(reply) => Err(Ready::Reply(reply)),
+        Ready::NotReady => Err(Ready::NotReady),
     }
 }
 
 /// Whether a call is not ready, and there may be another look.
-fn is_early(found: &Finding, look: Look) -> bool
-    ensures { result ≡ is_early found.now.ready look }
+fn is_early(found: &Ready, look: Look) -> bool
+    ensures { result ≡ is_early found.now look }
 {
-    match (&found.ready, look) {
+    match (found, look) {
         (Ready::NotReady, Look::More) => true,
         _ => false,
     }
 }
 
-/// Records a call as it was found, and commits it. All memory is taken before anything changes.
-fn record(
+/// Records a call as it was found, with memory that is reserved for it, and commits it.
+fn record_with(
     table: &CommitTable<Start>,
     pass: &mut Pass,
-    alloc: Global,
-    shard: &mut WorldShard,
+    held: &mut HeldShards,
     invocation: &Invocation<'_>,
-    found: Finding,
-) -> Result<Reply, Halt>
-    requires holder { IsHolder table.now invocation.now.caller shard.old pass.old }
-    requires found { MayRecord found shard.old.machine invocation.now.caller invocation.now.call.now }
+    call: Call,
+    found: Ready,
+    mut room: Room,
+) -> Reply
+    requires world { IsWorld table.now.start.shape }
+    requires holder { IsHolder table.now invocation.now.caller call held.old pass.old }
+    requires found { MayRecord table.now.start.shape invocation.now.caller call found pass.old.known.seen }
+    requires fits { FoundFits table.now.start.shape invocation.now.caller call found room }
+    requires row { room.row ≡ row_of call }
+    requires room { (row_of call).group ≡ None → IsRecordRoom held.old.nodes.own.value.posts held.old.nodes.own.value.memory call room }
     ensures table { pass.new.table ≡ pass.old.table }
-    ensures held { Holds table.now.start.shape (shard_part shard.new) pass.new.known }
-    ensures reply { IfOk result (λ reply. reply ≡ recorded_reply found.ready) }
-    ensures added { IfOk result (λ reply. Added table.now.start.shape pass.old.known (Called invocation.now.caller invocation.now.call.now reply) pass.new.known) }
-    ensures halt { IfErr result (λ halt. (halt ≡ NoMemory) × (pass.new.known ≡ pass.old.known)) }
-    ensures ends { invocation.now.call.now ≡ End → result ≢ Err NoMemory }
+    ensures held { Holds table.now.start.shape held.new pass.new.known }
+    ensures reply { result ≡ recorded_reply found }
+    ensures added { Added table.now.start.shape pass.old.known (Called invocation.now.caller call result) pass.new.known }
 {
-    let (Ok(reply), Ok(call)) = (recorded_reply(alloc, &found), invocation.call.copy(alloc)) else {
-        return Err(Halt::NoMemory);
-    };
-    match shard.machine.record(alloc, invocation, found) {
-        Ok(recorded) => {
-            let event = Event::Called(invocation.caller, call, recorded);
-            advance(table, pass, shard, event);
-            Ok(reply)
-        }
-        Err(gaspi_types::NoMemory) => Err(Halt::NoMemory),
-    }
+    let reply = recorded_reply(found);
+    let told = room.again(&reply);
+    commit_call(table, pass, held, invocation.caller, call, reply, room);
+    told
 }
 
-/// Records a call as it was found, and commits it; or leaves it for another look, where it is not ready and there may be one.
+/// Records a call as it was found, and commits it; or leaves it for another look, where it is not ready and there may be one. All memory
+/// is taken before anything changes.
 fn settle(
     table: &CommitTable<Start>,
     pass: &mut Pass,
     alloc: Global,
-    shard: &mut WorldShard,
+    held: &mut HeldShards,
     invocation: &Invocation<'_>,
     look: Look,
-    found: Finding,
+    found: Ready,
 ) -> Result<Reply, Halt>
-    requires holder { IsHolder table.now invocation.now.caller shard.old pass.old }
-    requires found { MayRecord found shard.old.machine invocation.now.caller invocation.now.call.now }
+    requires world { IsWorld table.now.start.shape }
+    requires holder { IsHolder table.now invocation.now.caller invocation.now.call.now held.old pass.old }
+    requires found { MayRecord table.now.start.shape invocation.now.caller invocation.now.call.now found pass.old.known.seen }
+    requires fits { FitsMemory table.now.start.shape invocation.now.caller invocation.now.call.now found held.old }
     ensures table { pass.new.table ≡ pass.old.table }
-    ensures held { Holds table.now.start.shape (shard_part shard.new) pass.new.known }
-    ensures settled { Settled table.now.start.shape invocation.now.caller invocation.now.call.now found.ready look pass.old.known result pass.new.known }
-    ensures ends { invocation.now.call.now ≡ End → result ≢ Err NoMemory }
+    ensures held { Holds table.now.start.shape held.new pass.new.known }
+    ensures settled { Settled table.now.start.shape invocation.now.caller invocation.now.call.now found look pass.old.known result pass.new.known }
+    ensures ample { (row_of invocation.now.call.now).takes_memory ≡ false → result ≢ Err halts.NoMemory }
 {
     if is_early(&found, look) {
         return Err(Halt::NotYet);
     }
-    record(table, pass, alloc, shard, invocation, found)
+    let Ok(room) = held.nodes.room(alloc, invocation) else {
+        return Err(Halt::NoMemory);
+    };
+    let Ok(call) = invocation.call.copy(alloc) else {
+        return Err(Halt::NoMemory);
+    };
+    Ok(record_with(table, pass, held, invocation, call, found, room))
 }
 
-/// Joins a collective to its group, where a look found that it may, and commits the join. (GASPI: collectives)
-fn join(
-    table: &CommitTable<Start>,
-    pass: &mut Pass,
-    alloc: Global,
-    shard: &mut WorldShard,
-    invocation: &Invocation<'_>,
-    args: Args,
-) -> Result<(), Halt>
-    requires holder { IsHolder table.now invocation.now.caller shard.old pass.old }
-    requires joins { MayJoinWith args shard.old.machine invocation.now.caller invocation.now.call.now }
-    ensures table { pass.new.table ≡ pass.old.table }
-    ensures held { Holds table.now.start.shape (shard_part shard.new) pass.new.known }
-    ensures joined { IfOk result (λ done. step shard.old.machine (join_event invocation.now.caller invocation.now.call.now args) ≡ Ok shard.new.machine) }
-    ensures added { IfOk result (λ done. Added table.now.start.shape pass.old.known (join_event invocation.now.caller invocation.now.call.now args) pass.new.known) }
-    ensures halt { IfErr result (λ halt. (halt ≡ NoMemory) × (pass.new.known ≡ pass.old.known)) }
+/// The number of the group that a collective names.
+fn call_group(row: &CallRow) -> GroupId
+    requires { (id : ℕ) × (row.now.group ≡ Some id) × (id < 8) }
+    ensures { Some result ≡ row.now.group }
 {
-    match shard.machine.join(alloc, invocation, args) {
-        Ok(event) => {
-            advance(table, pass, shard, event);
-            Ok(())
-        }
-        Err(gaspi_types::NoMemory) => Err(Halt::NoMemory),
+    match row.group {
+        Some(id) => GroupId::of(id as u32),
+        None => unreachable!(),
     }
 }
 
-/// Joins a collective to its group, looks at it once more, and settles it. (GASPI: collectives)
+/// Joins a collective to its group, with memory that is reserved for it, and looks at it once more. (GASPI: collectives)
+fn join(
+    table: &CommitTable<Start>,
+    pass: &mut Pass,
+    held: &mut HeldShards,
+    invocation: &Invocation<'_>,
+    call: &Call,
+    args: Args,
+    room: &mut Room,
+) -> Ready
+    requires world { IsWorld table.now.start.shape }
+    requires holder { IsHolder table.now invocation.now.caller call.now held.old pass.old }
+    requires call { call.now ≡ invocation.now.call.now }
+    requires joins { MayJoinAs table.now.start.shape invocation.now.caller call.now args held.old pass.old.known }
+    requires fits { FitsReserved (ready.Join args) room.old }
+    requires room { IsRoomFor held.old.nodes.own.value.posts held.old.nodes.own.value.memory call.now room.old }
+    ensures table { pass.new.table ≡ pass.old.table }
+    ensures holder { IsHolder table.now invocation.now.caller call.now held.new pass.new }
+    ensures added { Added table.now.start.shape pass.old.known (join_event invocation.now.caller call.now args) pass.new.known }
+    ensures found { MayRecord table.now.start.shape invocation.now.caller call.now result pass.new.known.seen }
+    ensures fits { FoundFits table.now.start.shape invocation.now.caller call.now result room.new }
+    ensures row { room.new.row ≡ room.old.row }
+    ensures named { IsSome (row_of call.now).group }
+{
+    let group = call_group(&invocation.row);
+    commit_join(table, pass, held, invocation.caller, group, args, room);
+    held.nodes
+        .answer_in(invocation.caller, call, &mut room.numbers)
+}
+
+/// Joins a collective to its group, looks at it once more, and settles it. All memory is taken before it joins. (GASPI: collectives)
 fn join_first(
     table: &CommitTable<Start>,
     pass: &mut Pass,
     alloc: Global,
-    shard: &mut WorldShard,
+    held: &mut HeldShards,
     invocation: &Invocation<'_>,
     look: Look,
     args: Args,
 ) -> Result<Reply, Halt>
     requires world { IsWorld table.now.start.shape }
-    requires holder { IsHolder table.now invocation.now.caller shard.old pass.old }
-    requires room { is_full_in shard.old.machine invocation.now.caller invocation.now.call.now ≡ false }
-    requires joins { answer_in shard.old.machine invocation.now.caller.rank invocation.now.caller.thread invocation.now.call.now ≡ Some (Join args) }
+    requires holder { IsHolder table.now invocation.now.caller invocation.now.call.now held.old pass.old }
+    requires joins { MayJoinAs table.now.start.shape invocation.now.caller invocation.now.call.now args held.old pass.old.known }
+    requires fits { FitsMemory table.now.start.shape invocation.now.caller invocation.now.call.now (ready.Join args) held.old }
     ensures table { pass.new.table ≡ pass.old.table }
-    ensures held { Holds table.now.start.shape (shard_part shard.new) pass.new.known }
+    ensures held { Holds table.now.start.shape held.new pass.new.known }
     ensures worked { WorkedOut table.now.start.shape invocation.now.caller invocation.now.call.now look pass.old.known result pass.new.known }
-    ensures ends { invocation.now.call.now ≢ End }
+    ensures ample { (row_of invocation.now.call.now).takes_memory ≡ false → result ≢ Err halts.NoMemory }
 {
-    join(table, pass, alloc, shard, invocation, args)?;
-    let Ok(found) = shard.machine.look(alloc, invocation) else {
+    let Ok(mut room) = held.nodes.room(alloc, invocation) else {
         return Err(Halt::NoMemory);
     };
-    settle(table, pass, alloc, shard, invocation, look, found)
+    let Ok(call) = invocation.call.copy(alloc) else {
+        return Err(Halt::NoMemory);
+    };
+    let found = join(table, pass, held, invocation, &call, args, &mut room);
+    if is_early(&found, look) {
+        return Err(Halt::NotYet);
+    }
+    Ok(record_with(table, pass, held, invocation, call, found, room))
 }
 
-/// Makes a call while the shard is held: tests the room, looks, joins where it must, and settles.
+/// Whether the caller's rank has no room for the events that a call needs. (own choice)
+fn lacks_room(held: &HeldShards, invocation: &Invocation<'_>) -> bool
+    ensures { result ≡ is_full_for held.now.nodes.own.value.posts invocation.now.caller.thread invocation.now.call.now }
+{
+    held.nodes.own.room() < held.nodes.own.need(invocation)
+}
+
+/// Makes a call while its shards are held: tests the room, looks, joins where it must, and settles.
 fn work(
     table: &CommitTable<Start>,
     pass: &mut Pass,
     alloc: Global,
-    shard: &mut WorldShard,
+    held: &mut HeldShards,
     invocation: &Invocation<'_>,
     look: Look,
 ) -> Result<Reply, Halt>
     requires world { IsWorld table.now.start.shape }
-    requires holder { IsHolder table.now invocation.now.caller shard.old pass.old }
+    requires holder { IsHolder table.now invocation.now.caller invocation.now.call.now held.old pass.old }
     ensures table { pass.new.table ≡ pass.old.table }
-    ensures held { Holds table.now.start.shape (shard_part shard.new) pass.new.known }
+    ensures held { Holds table.now.start.shape held.new pass.new.known }
     ensures worked { WorkedOut table.now.start.shape invocation.now.caller invocation.now.call.now look pass.old.known result pass.new.known }
-    ensures ends { invocation.now.call.now ≡ End → result ≢ Err NoMemory }
+    ensures ample { (row_of invocation.now.call.now).takes_memory ≡ false → result ≢ Err halts.NoMemory }
 {
-    if shard.machine.is_full(invocation) {
+    if lacks_room(held, invocation) {
         return Err(Halt::EventLimit);
     }
-    let Ok(found) = shard.machine.look(alloc, invocation) else {
+    let Ok(found) = held.nodes.answer(alloc, invocation) else {
         return Err(Halt::NoMemory);
     };
     match join_args(found) {
-        Ok(args) => join_first(table, pass, alloc, shard, invocation, look, args),
-        Err(found) => settle(table, pass, alloc, shard, invocation, look, found),
+        Ok(args) => join_first(table, pass, alloc, held, invocation, look, args),
+        Err(found) => settle(table, pass, alloc, held, invocation, look, found),
     }
 }
 
-/// One attempt of a caller to make a call: it takes the shard, looks, does what the look allows, and gives the shard back.
+/// One attempt of a caller to make a call: it takes the call's shards, looks, does what the look allows, and gives the shards back.
 pub fn attempt(
     table: &CommitTable<Start>,
     pass: &mut Pass,
@@ -231,12 +251,15 @@ pub fn attempt(
     ensures table { pass.new.table ≡ pass.old.table }
     ensures free { HoldsNone pass.new.known }
     ensures attempted { Attempted table.now.start.shape invocation.now.caller invocation.now.call.now look pass.old.known result pass.new.known }
-    ensures ends { invocation.now.call.now ≡ End → result ≢ Err NoMemory }
+    ensures ample { (row_of invocation.now.call.now).takes_memory ≡ false → result ≢ Err halts.NoMemory }
 {
-    let Some(mut shard) = open(table, pass) else {
+    let ranks = table.start().shape.ranks();
+    let own = invocation.caller.rank;
+    let other = reached_shard(ranks, invocation.row.touch.reach(ranks, own));
+    let Some(mut held) = open(table, pass, own.number(), other) else {
         return Err(Halt::Busy);
     };
-    let told = work(table, pass, alloc, &mut shard, invocation, look);
-    leave(table, pass, shard);
+    let told = work(table, pass, alloc, &mut held, invocation, look);
+    leave(table, pass, held);
     told
 }

@@ -1,8 +1,8 @@
 //! A call of a caller, which waits by looking again.
 
-ghost use Rattle.std.specs.Prelude.{◌≡◌, ◌≢◌, Err};
+ghost use Rattle.std.specs.Prelude.{◌≡◌, ◌≢◌, Err, false};
+ghost use Rattle.gaspi_types.specs.CallRows.{row_of};
 ghost use Rattle.gaspi_types.specs.World.{IsWorld};
-ghost use Rattle.gaspi_types.specs.declared.calls.Call.TheVariants.{End};
 ghost use Rattle.timeout_state.specs.Looks.{looks_of, HasLook};
 ghost use Rattle.commit_table.specs.Calls.{IsOf, HoldsNone};
 ghost use Rattle.gaspi_world.specs.Callers.{IsPassOf};
@@ -15,20 +15,20 @@ use crate::worlds::Pass;
 use commit_table::CommitTable;
 use gaspi_types::{Invocation, Reply, Timeout};
 use pauses::Pauses;
+use rank_node::Budget;
 use std::alloc::Global;
 use std::sync::Wait;
-use timeout_state::Budget;
 
 /// Why a call was not made. The pass holds no shard then, and its calls are as they were.
 #[derive(Clone, Copy, Debug, PartialEq, Eq)]
 pub enum Stop {
-    /// There was no memory. A collective may have joined its group.
+    /// There was no memory. A collective may have joined its group at an earlier look.
     NoMemory,
     /// The caller's rank has no room for the events that the call needs.
     EventLimit,
 }
 
-/// Makes a call: it looks until the call is recorded, pausing between looks, and never holds the shard meanwhile. A missed shard is
+/// Makes a call: it looks until the call is recorded, pausing between looks, and never holds a shard meanwhile. A missed shard is
 /// no look. The call's row is computed once for all of its looks. (GASPI: timeouts)
 pub fn call<R: Wait>(
     rt: &R,
@@ -45,7 +45,7 @@ pub fn call<R: Wait>(
     requires timeout { HasLook (looks_of timeout) }
     ensures table { pass.new.table ≡ pass.old.table }
     ensures free { HoldsNone pass.new.known }
-    ensures ends { invocation.now.call.now ≡ End → result ≢ Err NoMemory }
+    ensures ample { (row_of invocation.now.call.now).takes_memory ≡ false → result ≢ Err NoMemory }
     ensures calls { Calls table.now.start.shape invocation.now.caller invocation.now.call.now timeout pass.old.known result pass.new.known }
 {
     let mut pauses = Pauses::new();

@@ -1,17 +1,21 @@
 //! The end of a world: its journal, and what is known of its passes.
 
-ghost use Rattle.std.specs.Prelude.{◌≡◌, ◌*◌, ◌≤◌, true, Some, [], map, length, IfOk, IfErr};
-ghost use Rattle.commit_table.specs.Calls.{AreWhole};
+ghost use Rattle.std.specs.Prelude.{◌≡◌, ◌+◌, ◌*◌, ◌≤◌, ◌++◌, true, Some, List, [], map, length, IfOk, IfErr};
+ghost use Rattle.commit_table.specs.Calls.{AreShards, AreWhole};
+ghost use Rattle.gaspi_types.specs.World as shapes;
+ghost use Rattle.gaspi_types.specs.World.{IsWorld};
+ghost use Rattle.gaspi_types.specs.declared.events.Event.{Event};
 ghost use Rattle.gaspi_model.specs.Step.{is_legal};
-ghost use Rattle.gaspi_world.specs.Closing.{HaveSeen, HaveDone};
+ghost use Rattle.gaspi_world.specs.Closing.{HaveSeen, HaveDone, journals_of};
+ghost use Rattle.gaspi_world.specs.WorldMachine.{world_machine};
 
-use crate::shards::Placed;
+use crate::shards::WorldShard;
 use crate::starts::Start;
 use crate::worlds::{Passes, World};
-use buffers::Buffer;
 use commit_table::Ended;
-use journal_texts::{Journal, ReservedJournal};
+use journal_texts::{Journal, MergeRoom};
 use std::alloc::Global;
+use std::boxed::Box;
 
 /// What is known of a closed world: its journal, and of each pass what it saw, did and looked at.
 pub type Tally = commit_table::Tally<Start>;
@@ -23,22 +27,32 @@ pub struct Unclosed {
     pub passes: Passes,
 }
 
-/// Moves the events into the room, in order.
-fn move_events(placed: Buffer<Placed>, mut room: ReservedJournal) -> Journal
-    requires empty { room.items ≡ [] }
-    requires room { placed.room ≤ room.room }
-    ensures { result ≡ map (λ p. p.event) placed.items }
+/// Adds the rank journal of a shard, where the shard is a rank's.
+fn add_journal(room: &mut MergeRoom, shard: WorldShard)
+    requires { length room.old.lists + length (journals_of shard) ≤ room.old.ranks }
+    ensures { room.new ≡ record room.old { lists = room.old.lists ++ journals_of shard } }
 {
-    for one in placed.into_rows().into_vec() {
-        room.push(one.event);
+    match shard {
+        WorldShard::Rank(node) => room.add(Box::into_inner(node).into_journal()),
+        WorldShard::Group(node) => drop(node),
     }
-    room.into_rows()
 }
 
-/// Ends a world whose journal has room.
-fn close_with(world: World, passes: Passes, room: ReservedJournal) -> (Journal, Tally)
+/// The journal of which the rank journals in the shards of ranks are parts.
+fn merged(shards: Vec<WorldShard>, mut room: MergeRoom) -> Journal
+    requires room { (w : shapes.World) × (journal : List Event) × IsWorld w × AreShards (world_machine w) shards.items journal × (is_legal w journal ≡ true) × (room ≡ record { lists = []; ranks = w.limits.ranks; events = w.limits.ranks * w.limits.events }) }
+    ensures { (w : shapes.World) (journal : List Event) → IsWorld w → AreShards (world_machine w) shards.items journal → is_legal w journal ≡ true → result ≡ journal }
+{
+    for shard in shards {
+        add_journal(&mut room, shard);
+    }
+    room.merge()
+}
+
+/// Ends a world, with room for its journal.
+fn close_with(world: World, passes: Passes, room: MergeRoom) -> (Journal, Tally)
     requires whole { AreWhole world passes.items }
-    requires room { room ≡ record { items = []; room = world.start.shape.limits.ranks * world.start.shape.limits.events } }
+    requires room { room ≡ record { lists = []; ranks = world.start.shape.limits.ranks; events = world.start.shape.limits.ranks * world.start.shape.limits.events } }
     ensures tally { (result.1.start ≡ Some world.start) × (result.1.journal ≡ result.0) }
     ensures passes { result.1.passes ≡ map (λ p. p.known) passes.items }
     ensures legal { is_legal world.start.shape result.0 ≡ true }
@@ -46,11 +60,8 @@ fn close_with(world: World, passes: Passes, room: ReservedJournal) -> (Journal, 
     ensures done { HaveDone world.start.shape result.0 passes.items }
 {
     world.shape().limits();
-    let Ended { mut shards, tally } = world.into_table().close(passes);
-    let Some(shard) = shards.pop() else {
-        unreachable!()
-    };
-    (move_events(shard.journal, room), tally)
+    let Ended { shards, tally } = world.into_table().close(passes);
+    (merged(shards, room), tally)
 }
 
 impl World {
@@ -66,7 +77,8 @@ impl World {
         ensures unclosed { IfErr result (λ u. (u.world ≡ self) × (u.passes.items ≡ passes.items)) }
     {
         let limits = self.shape().limits();
-        match ReservedJournal::with_room(alloc, limits.ranks as usize * limits.events as usize) {
+        let ranks = limits.ranks as usize;
+        match MergeRoom::for_events(alloc, ranks, ranks * limits.events as usize) {
             Ok(room) => Ok(close_with(self, passes, room)),
             Err(_) => Err(Unclosed {
                 world: self,

@@ -1,57 +1,262 @@
-//! The shard of a world, taken, worked on and given back.
+//! The shards of an event, taken and given back.
 
-ghost use Rattle.std.specs.Prelude.{◌≡◌, ℕ, None, Some, IfSome, IfNone};
+ghost use Rattle.std.specs.Prelude.{◌≡◌, ℕ, ◌<◌, ◌≤◌, ◌+◌, ◌⊎◌, ◌∷◌, [], None, Some, IfSome, IfNone, IsSomeAnd};
+ghost use Rattle.gaspi_types.specs.World.{IsWorld};
 ghost use Rattle.commit_table.specs.Attempts.{LookedOnly, Missed};
 ghost use Rattle.commit_table.specs.Calls.{IsOf, HoldsNone};
-ghost use Rattle.commit_table.specs.Views.{gave_back};
-ghost use Rattle.gaspi_world.specs.Holds.{Holds, HoldsBefore, Added};
-ghost use Rattle.gaspi_world.specs.Shards.{shard_part};
+ghost use Rattle.world_shards.specs.Holds.{TookBoth};
+ghost use Rattle.world_shards.specs.RankShards.{IsEither, rank_other};
+ghost use Rattle.gaspi_world.specs.Holds.{Holds, values_of, other_value, IsOther, IsOtherShard, left_by};
+ghost use Rattle.gaspi_world.specs.Shards.{IsRankShard};
 ghost use Rattle.gaspi_world.specs.WorldMachine.{world_machine};
-ghost use Rattle.gaspi_model.specs.Parties.{party_of};
+ghost use Rattle.gaspi_world.specs.declared.shards.WorldShard.TheVariants as shards;
 
-use crate::shards::{Placed, WorldShard};
+use crate::shards::WorldShard;
 use crate::starts::Start;
 use crate::worlds::Pass;
 use commit_table::CommitTable;
-use gaspi_types::Event;
+use gaspi_types::Reach;
+use rank_node::{HeldNodes, Node, OtherNode};
+use std::boxed::Box;
 
-/// Takes the shard of a world and looks; or misses it.
-pub fn open(table: &CommitTable<Start>, pass: &mut Pass) -> Option<WorldShard>
+/// The shards that a pass holds for an event, by their numbers: that of its owner's rank and another, where it has one, with the nodes that
+/// lie there.
+#[derive(Drop)]
+pub struct HeldShards {
+    pub own: u32,
+    pub other: Option<u32>,
+    pub nodes: HeldNodes,
+}
+
+/// The shard that an event has beside its owner's, by what it reaches.
+pub fn reached_shard(ranks: u32, reach: Reach) -> Option<u32>
+    requires { ranks ≤ 16 }
+    ensures { result ≡ rank_other ranks reach }
+{
+    match reach {
+        Reach::Alone | Reach::OwnMemory => None,
+        Reach::PeerMemory(rank) | Reach::BothMemories(rank) | Reach::PeerPosts(rank) => {
+            Some(rank.number())
+        }
+        Reach::Group(id) | Reach::GroupAndMemory(id) => Some(ranks + id.number()),
+    }
+}
+
+/// The node of a rank that lies in a shard.
+pub fn into_rank(shard: WorldShard) -> Box<Node>
+    requires { IsRankShard shard }
+    ensures { shards.Rank result ≡ shard }
+{
+    match shard {
+        WorldShard::Rank(node) => node,
+        WorldShard::Group(_) => unreachable!(),
+    }
+}
+
+/// The node that lies in the other shard of an event.
+fn into_other(shard: WorldShard) -> OtherNode
+    ensures value { (i : ℕ) → other_value (Some i) result ≡ (i, shard) ∷ [] }
+    ensures fits { (i : ℕ) → IsOther (Some i) result }
+{
+    match shard {
+        WorldShard::Rank(node) => OtherNode::Rank(node),
+        WorldShard::Group(node) => OtherNode::Group(node),
+    }
+}
+
+/// Two shards of an event, with what lies there.
+pub fn both_held(own: u32, mine: WorldShard, other: u32, theirs: WorldShard) -> HeldShards
+    requires { IsRankShard mine }
+    ensures values { values_of result ≡ (own, mine) ∷ (other, theirs) ∷ [] }
+    ensures fits { IsOther result.other result.nodes.other }
+    ensures own { result.own ≡ own }
+    ensures other { result.other ≡ Some other }
+{
+    HeldShards {
+        own,
+        other: Some(other),
+        nodes: HeldNodes {
+            own: into_rank(mine),
+            other: into_other(theirs),
+        },
+    }
+}
+
+/// The shard of a rank, with what lies there.
+pub fn one_held(own: u32, mine: WorldShard) -> HeldShards
+    requires { IsRankShard mine }
+    ensures values { values_of result ≡ (own, mine) ∷ [] }
+    ensures fits { IsOther result.other result.nodes.other }
+    ensures own { result.own ≡ own }
+    ensures other { result.other ≡ None }
+{
+    HeldShards {
+        own,
+        other: None,
+        nodes: HeldNodes {
+            own: into_rank(mine),
+            other: OtherNode::Nothing,
+        },
+    }
+}
+
+/// What lies in the other shard of an event, from its node.
+fn from_other(other: OtherNode) -> Option<WorldShard>
+    ensures { (i : ℕ) → IsOther (Some i) other → IsSomeAnd result (λ shard. other_value (Some i) other ≡ (i, shard) ∷ []) }
+{
+    match other {
+        OtherNode::Nothing => None,
+        OtherNode::Rank(node) => Some(WorldShard::Rank(node)),
+        OtherNode::Group(node) => Some(WorldShard::Group(node)),
+    }
+}
+
+/// Takes two shards in rising order, or neither.
+fn take_both(
+    table: &CommitTable<Start>,
+    pass: &mut Pass,
+    low: u32,
+    high: u32,
+) -> Option<(WorldShard, WorldShard)>
     requires pass { IsOf table.now pass.old }
     requires free { HoldsNone pass.old.known }
+    requires order { low < high }
+    requires there { high < table.now.start.shape.limits.ranks + 8 }
     ensures table { pass.new.table ≡ pass.old.table }
-    ensures held { IfSome result (λ shard. Holds table.now.start.shape (shard_part shard) pass.new.known) }
-    ensures looked { IfSome result (λ shard. LookedOnly (world_machine shard_part table.now.start.shape) pass.old.known pass.new.known) }
-    ensures missed { IfNone result (Missed (world_machine shard_part table.now.start.shape) pass.old.known (λ i. i ≡ 0) pass.new.known) }
+    ensures start { pass.new.known.start ≡ pass.old.known.start }
+    ensures both { IfSome result (λ r. TookBoth (world_machine table.now.start.shape) pass.old.known low high r.0 r.1 pass.new.known) }
+    ensures missed { IfNone result (Missed (world_machine table.now.start.shape) pass.old.known (λ i. (i ≡ low) ⊎ (i ≡ high)) pass.new.known) }
     ensures free { IfNone result (HoldsNone pass.new.known) }
 {
-    let Some(shard) = table.try_take(pass, 0) else {
+    let Some(first) = table.try_take(pass, low) else {
+        return None;
+    };
+    let Some(second) = table.try_take(pass, high) else {
+        table.give_back(pass, low, first);
+        return None;
+    };
+    Some((first, second))
+}
+
+/// Takes two shards, of which the first is a rank's, and looks.
+fn open_both(
+    table: &CommitTable<Start>,
+    pass: &mut Pass,
+    own: u32,
+    other: u32,
+) -> Option<HeldShards>
+    requires world { IsWorld table.now.start.shape }
+    requires pass { IsOf table.now pass.old }
+    requires free { HoldsNone pass.old.known }
+    requires own { own < table.now.start.shape.limits.ranks }
+    requires there { other < table.now.start.shape.limits.ranks + 8 }
+    requires apart { other ≡ own → ⊥ }
+    ensures table { pass.new.table ≡ pass.old.table }
+    ensures held { IfSome result (λ held. Holds table.now.start.shape held pass.new.known) }
+    ensures shards { IfSome result (λ held. (held.own ≡ own) × (held.other ≡ Some other)) }
+    ensures looked { IfSome result (λ held. LookedOnly (world_machine table.now.start.shape) pass.old.known pass.new.known) }
+    ensures missed { IfNone result (Missed (world_machine table.now.start.shape) pass.old.known (IsEither own (Some other)) pass.new.known) }
+    ensures free { IfNone result (HoldsNone pass.new.known) }
+{
+    if own < other {
+        let Some((mine, value)) = take_both(table, pass, own, other) else {
+            return None;
+        };
+        table.look(pass);
+        return Some(both_held(own, mine, other, value));
+    }
+    let Some((value, mine)) = take_both(table, pass, other, own) else {
         return None;
     };
     table.look(pass);
-    Some(shard)
+    Some(both_held(own, mine, other, value))
 }
 
-/// Commits an event by which the machine in the shard has stepped, and notes it there with its place.
-pub fn advance(table: &CommitTable<Start>, pass: &mut Pass, shard: &mut WorldShard, event: Event)
+/// Takes the shard of a rank, and looks.
+fn open_own(table: &CommitTable<Start>, pass: &mut Pass, own: u32) -> Option<HeldShards>
+    requires world { IsWorld table.now.start.shape }
     requires pass { IsOf table.now pass.old }
-    requires held { HoldsBefore table.now.start.shape event (shard_part shard.old) pass.old.known }
-    requires party { (p : ℕ) → party_of table.now.start.shape event ≡ Some p → pass.old.known.party ≡ Some p }
+    requires free { HoldsNone pass.old.known }
+    requires own { own < table.now.start.shape.limits.ranks }
     ensures table { pass.new.table ≡ pass.old.table }
-    ensures machine { shard.new.machine ≡ shard.old.machine }
-    ensures held { Holds table.now.start.shape (shard_part shard.new) pass.new.known }
-    ensures added { Added table.now.start.shape pass.old.known event pass.new.known }
+    ensures held { IfSome result (λ held. Holds table.now.start.shape held pass.new.known) }
+    ensures shards { IfSome result (λ held. (held.own ≡ own) × (held.other ≡ None)) }
+    ensures looked { IfSome result (λ held. LookedOnly (world_machine table.now.start.shape) pass.old.known pass.new.known) }
+    ensures missed { IfNone result (Missed (world_machine table.now.start.shape) pass.old.known (IsEither own None) pass.new.known) }
+    ensures free { IfNone result (HoldsNone pass.new.known) }
 {
-    let place = table.commit(pass, &event);
-    shard.journal.push(Placed { place, event });
+    let Some(mine) = table.try_take(pass, own) else {
+        return None;
+    };
+    table.look(pass);
+    Some(one_held(own, mine))
 }
 
-/// Gives the shard back.
-pub fn leave(table: &CommitTable<Start>, pass: &mut Pass, shard: WorldShard)
+/// Takes the shards of an event in rising order, that of a rank and another where it has one, and looks; or misses one of them, and
+/// then holds none.
+pub fn open(
+    table: &CommitTable<Start>,
+    pass: &mut Pass,
+    own: u32,
+    other: Option<u32>,
+) -> Option<HeldShards>
+    requires world { IsWorld table.now.start.shape }
     requires pass { IsOf table.now pass.old }
-    requires held { Holds table.now.start.shape (shard_part shard) pass.old.known }
-    ensures left { pass.new ≡ record pass.old { known = gave_back pass.old.known 0 } }
+    requires free { HoldsNone pass.old.known }
+    requires own { own < table.now.start.shape.limits.ranks }
+    requires other { IsOtherShard table.now.start.shape own other }
+    ensures table { pass.new.table ≡ pass.old.table }
+    ensures held { IfSome result (λ held. Holds table.now.start.shape held pass.new.known) }
+    ensures shards { IfSome result (λ held. (held.own ≡ own) × (held.other ≡ other)) }
+    ensures looked { IfSome result (λ held. LookedOnly (world_machine table.now.start.shape) pass.old.known pass.new.known) }
+    ensures missed { IfNone result (Missed (world_machine table.now.start.shape) pass.old.known (IsEither own other) pass.new.known) }
+    ensures free { IfNone result (HoldsNone pass.new.known) }
+{
+    match other {
+        Some(other) => open_both(table, pass, own, other),
+        None => open_own(table, pass, own),
+    }
+}
+
+/// Gives two shards back.
+fn leave_both(table: &CommitTable<Start>, pass: &mut Pass, own: u32, other: u32, nodes: HeldNodes)
+    requires pass { IsOf table.now pass.old }
+    requires held { Holds table.now.start.shape (record { own = own; other = Some other; nodes = nodes }) pass.old.known }
+    ensures left { pass.new ≡ record pass.old { known = left_by own (Some other) pass.old.known } }
     ensures free { HoldsNone pass.new.known }
 {
-    table.give_back(pass, 0, shard);
+    let HeldNodes {
+        own: mine,
+        other: node,
+    } = nodes;
+    let Some(value) = from_other(node) else {
+        unreachable!()
+    };
+    table.give_back(pass, other, value);
+    table.give_back(pass, own, WorldShard::Rank(mine));
+}
+
+/// Gives the shard of a rank back.
+fn leave_own(table: &CommitTable<Start>, pass: &mut Pass, own: u32, nodes: HeldNodes)
+    requires pass { IsOf table.now pass.old }
+    requires held { Holds table.now.start.shape (record { own = own; other = None; nodes = nodes }) pass.old.known }
+    ensures left { pass.new ≡ record pass.old { known = left_by own None pass.old.known } }
+    ensures free { HoldsNone pass.new.known }
+{
+    let HeldNodes { own: mine, .. } = nodes;
+    table.give_back(pass, own, WorldShard::Rank(mine));
+}
+
+/// Gives the shards of an event back.
+pub fn leave(table: &CommitTable<Start>, pass: &mut Pass, held: HeldShards)
+    requires pass { IsOf table.now pass.old }
+    requires held { Holds table.now.start.shape held pass.old.known }
+    ensures left { pass.new ≡ record pass.old { known = left_by held.own held.other pass.old.known } }
+    ensures free { HoldsNone pass.new.known }
+{
+    let HeldShards { own, other, nodes } = held;
+    match other {
+        Some(other) => leave_both(table, pass, own, other, nodes),
+        None => leave_own(table, pass, own, nodes),
+    }
 }

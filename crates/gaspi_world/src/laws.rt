@@ -12,14 +12,13 @@ ghost use Rattle.gaspi_model.specs.Step.{is_legal, own_calls};
 ghost use Rattle.timeout_state.specs.Looks.{looks_of};
 ghost use Rattle.commit_table.specs.declared.views.Known.{Known};
 ghost use Rattle.gaspi_world.specs.Calling.{IsCalled, IsStopped};
-ghost use Rattle.gaspi_world.specs.Shards.{shard_part};
 ghost use Rattle.gaspi_world.specs.Waits.{Waited, HaveWaited};
 ghost use Rattle.gaspi_world.specs.declared.starts.Start.{Start};
 ghost use Rattle.gaspi_world.specs.WorldMachine.{world_machine};
 
 /// A history may be committed in a world exactly where it is a legal history of the machine from the world's start.
 pub fn world_histories()
-    ensures { (w : World) (history : List Event) → (world_machine shard_part w).Legal history ↔ (is_legal w history ≡ true) }
+    ensures { (w : World) (history : List Event) → (world_machine w).Legal history ↔ (is_legal w history ≡ true) }
 {}
 
 /// Timeouts that came only when their looks were spent stay so in every history that goes on from what was seen and has of the

@@ -1,4 +1,4 @@
-//! A world of ranks as threads: the whole state of the machine in one shard, and one history that all threads commit to.
+//! A world of ranks as threads: each rank and each group has a lock of its own, and all threads commit to one history.
 //! (GASPI: ranks)
 //!
 //! A `World` is made with a `Pass` for each caller and each worker. What is committed through the passes of a world is one legal
@@ -10,6 +10,7 @@ mod attempts;
 mod callers;
 mod calling;
 mod closing;
+mod committing;
 mod holding;
 mod launching;
 mod laws;
@@ -28,6 +29,6 @@ pub use launching::{Body, Task, launch};
 pub use laws::{waits_last, waits_on, world_histories};
 pub use moving::Moving;
 pub use ranks::{Note, Rank};
-pub use shards::{Placed, WorldShard};
+pub use shards::WorldShard;
 pub use starts::Start;
 pub use worlds::{Pass, Passes, Started, World};

@@ -5,7 +5,7 @@
 pub enum Moving {
     /// One transfer was made.
     Moved,
-    /// Another thread held the shard, which was missed.
+    /// Another thread held the rank's shard, or another that its next transfer needs.
     Busy,
     /// No transfer of that rank may come next, and one of its threads has not ended.
     Empty,

@@ -1,9 +1,9 @@
 //! What a caller does in its world.
 
-ghost use Rattle.std.specs.Prelude.{◌≡◌, ◌≢◌, ◌<◌, Err};
+ghost use Rattle.std.specs.Prelude.{◌≡◌, ◌≢◌, ◌<◌, Err, false};
 ghost use mathlib.Core.List.{IsPrefix};
 ghost use Rattle.commit_table.specs.Attempts.{LookedOnly};
-ghost use Rattle.gaspi_types.specs.declared.calls.Call.TheVariants.{End};
+ghost use Rattle.gaspi_types.specs.CallRows.{row_of};
 ghost use Rattle.gaspi_types.specs.declared.shapes.CallerId.{CallerId};
 ghost use Rattle.timeout_state.specs.Looks.{looks_of, HasLook};
 ghost use Rattle.commit_table.specs.Calls.{IsOf, HoldsNone, misses_in};
@@ -11,7 +11,6 @@ ghost use Rattle.commit_table.specs.Views.{noted};
 ghost use Rattle.gaspi_world.specs.Attempts.{Attempted, GoesOn};
 ghost use Rattle.gaspi_world.specs.Callers.{IsPassOf};
 ghost use Rattle.gaspi_world.specs.Calling.{MayCall, CallsBy};
-ghost use Rattle.gaspi_world.specs.Shards.{shard_part};
 ghost use Rattle.gaspi_world.specs.WorldMachine.{world_machine};
 ghost use Rattle.gaspi_world.specs.declared.attempts.Halt.TheVariants as halts;
 ghost use Rattle.gaspi_world.specs.declared.calling.Stop.TheVariants as stops;
@@ -23,9 +22,9 @@ use crate::starts::Start;
 use crate::worlds::{Pass, World};
 use commit_table::CommitTable;
 use gaspi_types::{Call, Invocation, Reply, Timeout};
+use rank_node::Look;
 use std::alloc::Global;
 use std::sync::Wait;
-use timeout_state::Look;
 
 /// What a pass has seen, to be told to another pass of its world.
 pub type Note = commit_table::Note<Start>;
@@ -40,15 +39,12 @@ pub struct Rank<'a> {
 impl<'a> Rank<'a> {
     /// One attempt to make a call, at a look that is the last or not; it never waits. What its answers mean is said at `Halt`.
     /// (GASPI: timeouts)
-    ///
-    /// While the whole world is one shard, every call but the end of a caller may want memory, and for want of memory too a
-    /// collective may have joined.
     pub fn attempt(&mut self, alloc: Global, call: &Call, look: Look) -> Result<Reply, Halt>
         requires { MayCall self.old.world.now self.old.pass.now }
         ensures same { (self.new.world.now ≡ self.old.world.now) × (self.new.pass.ghost_name ≡ self.old.pass.ghost_name) }
         ensures table { self.new.pass.now.table ≡ self.old.pass.now.table }
         ensures free { HoldsNone self.new.pass.now.known }
-        ensures ends { call.now ≡ End → result ≢ Err halts.NoMemory }
+        ensures ample { (row_of call.now).takes_memory ≡ false → result ≢ Err halts.NoMemory }
         ensures on { MayCall self.old.world.now self.new.pass.now }
         ensures attempted { (c : CallerId) → IsPassOf self.old.world.now.start.shape c self.old.pass.now.known
             → Attempted self.old.world.now.start.shape c call.now look self.old.pass.now.known result self.new.pass.now.known }
@@ -71,7 +67,7 @@ impl<'a> Rank<'a> {
         requires pass { MayCall self.old.world.now self.old.pass.now }
         requires timeout { HasLook (looks_of timeout) }
         ensures same { (self.new.world.now ≡ self.old.world.now) × (self.new.pass.ghost_name ≡ self.old.pass.ghost_name) }
-        ensures ends { call.now ≡ End → result ≢ Err stops.NoMemory }
+        ensures ample { (row_of call.now).takes_memory ≡ false → result ≢ Err stops.NoMemory }
         ensures on { MayCall self.old.world.now self.new.pass.now }
         ensures calls { CallsBy self.old.world.now call.now timeout self.old.pass.now result self.new.pass.now }
     {
@@ -98,7 +94,7 @@ impl<'a> Rank<'a> {
         requires note { note.table ≡ self.old.world.now.table }
         ensures same { (self.new.world.now ≡ self.old.world.now) × (self.new.pass.ghost_name ≡ self.old.pass.ghost_name) }
         ensures table { self.new.pass.now.table ≡ self.old.pass.now.table }
-        ensures looked { LookedOnly (world_machine shard_part self.old.world.now.start.shape) self.old.pass.now.known self.new.pass.now.known }
+        ensures looked { LookedOnly (world_machine self.old.world.now.start.shape) self.old.pass.now.known self.new.pass.now.known }
         ensures held { self.new.pass.now.known.held ≡ self.old.pass.now.known.held }
         ensures goes_on { (c : CallerId) → IsPassOf self.old.world.now.start.shape c self.old.pass.now.known
             → GoesOn self.old.world.now.start.shape c self.old.pass.now.known self.new.pass.now.known × (self.new.pass.now.known.mine ≡ self.old.pass.now.known.mine) }
@@ -111,7 +107,7 @@ impl<'a> Rank<'a> {
     /// How often the pass missed a shard. A count that stands at the type's end stays there.
     pub fn misses(&self, shard: u32) -> u64
         requires pass { IsOf self.now.world.now self.now.pass.now }
-        requires shard { shard < (world_machine shard_part self.now.world.now.start.shape).shards }
+        requires shard { shard < (world_machine self.now.world.now.start.shape).shards }
         ensures { result ≡ misses_in self.now.pass.now.known.missed shard }
     {
         self.world.table().start();

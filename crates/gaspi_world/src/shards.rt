@@ -1,20 +1,57 @@
-//! What lies in the one shard of a world.
+//! What lies in the shards of a world.
 
-use buffers::Buffer;
-use gaspi_types::Event;
-use plain_machine::Machine;
+ghost use Rattle.std.specs.Prelude.{◌≡◌, ◌<◌, ◌≤◌, ◌+◌, [], IfOk};
+ghost use Rattle.gaspi_types.specs.World.{World, IsWorld};
+ghost use Rattle.commit_table.specs.Calls.{AreShards};
+ghost use Rattle.gaspi_world.specs.Shards.{IsOpeningShard};
+ghost use Rattle.gaspi_world.specs.WorldMachine.{world_machine};
 
-/// An event at its place in the journal.
+use gaspi_types::{GroupId, NoMemory, RankId, Shape};
+use rank_node::{GroupNode, Node};
+use std::alloc::Global;
+use std::boxed::Box;
+
+/// What lies in a shard: the node of a rank, or that of a group. What leaves a shard and comes back is a pointer, however large the node
+/// is.
 #[derive(Drop)]
-pub struct Placed {
-    pub(crate) place: u64,
-    pub(crate) event: Event,
+pub enum WorldShard {
+    Rank(Box<Node>),
+    Group(Box<GroupNode>),
 }
 
-/// What lies in the shard: the machine, and the events that were recorded, with room for all that the ranks may record. It is
-/// made by `World::start` alone, so that no other table of this machine can be.
-#[derive(Drop)]
-pub struct WorldShard {
-    pub(crate) machine: Machine,
-    pub(crate) journal: Buffer<Placed>,
+/// The shard of a rank at the start.
+fn rank_shard(alloc: Global, shape: &Shape, rank: u32) -> Result<WorldShard, NoMemory>
+    requires { rank < shape.now.limits.ranks }
+    ensures { IfOk result (λ shard. IsOpeningShard shape.now rank shard) }
+{
+    shape.limits();
+    let node = Node::new(alloc, shape, RankId::of(rank))?;
+    Ok(WorldShard::Rank(Box::new(alloc, node)?))
+}
+
+/// The shard of a group at the start.
+fn group_shard(alloc: Global, ranks: u32, id: u32) -> Result<WorldShard, NoMemory>
+    requires ranks { ranks ≤ 16 }
+    requires id { id < 8 }
+    ensures { (w : World) → w.limits.ranks ≡ ranks → IfOk result (λ shard. IsOpeningShard w (ranks + id) shard) }
+{
+    let node = GroupNode::new(alloc, GroupId::of(id), ranks)?;
+    Ok(WorldShard::Group(Box::new(alloc, node)?))
+}
+
+/// What lies in the shards at the start: of each rank, and then of each group. All memory that is wanted for what the ranks record is
+/// taken here.
+pub fn opening_shards(alloc: Global, shape: &Shape) -> Result<Vec<WorldShard>, NoMemory>
+    requires { IsWorld shape.now }
+    ensures { IfOk result (λ shards. AreShards (world_machine shape.now) shards.items []) }
+{
+    let ranks = shape.ranks();
+    let mut shards = Vec::with_capacity(alloc, ranks as usize + 8)?;
+    for rank in 0..ranks {
+        shards.push(rank_shard(alloc, shape, rank)?)?;
+    }
+    for id in 0..8 {
+        shards.push(group_shard(alloc, ranks, id)?)?;
+    }
+    Ok(shards)
 }

@@ -7,10 +7,11 @@ use commit_table::Sharded;
 use gaspi_types::{Event, NoMemory, Shape};
 use std::alloc::Global;
 
-/// The start of a world, by its shape.
+/// The start of a world, by its shape. It is made by `World::start` alone, so that no other table of this machine can be.
 #[derive(Drop)]
 pub struct Start {
     pub shape: Shape,
+    sealed: (),
     pub ghost valid: { ∥ IsWorld shape ∥₁ },
 }
 
@@ -18,12 +19,12 @@ impl Start {
     ghost use Rattle.std.specs.Prelude.{◌≡◌, IfOk};
 
     /// That of a shape.
-    pub fn of(alloc: Global, shape: &Shape) -> Result<Start, NoMemory>
+    pub(crate) fn of(alloc: Global, shape: &Shape) -> Result<Start, NoMemory>
         ensures { IfOk result (λ start. start.shape ≡ shape.now) }
     {
         shape.limits();
         let shape = shape.copy(alloc)?;
-        Ok(Start { shape })
+        Ok(Start { shape, sealed: () })
     }
 }
 
@@ -32,11 +33,10 @@ impl Sharded for Start {
 
     type Event = Event;
 
-    ghost use Rattle.gaspi_world.specs.Shards.{shard_part};
     ghost use Rattle.gaspi_world.specs.WorldMachine.{world_machine};
     ghost use Rattle.gaspi_world.specs.WorldLaws.{world_lawful};
 
-    ghost machine = { λ start. world_machine shard_part start.shape };
+    ghost machine = { λ start. world_machine start.shape };
 
-    ghost lawful = { λ start. world_lawful shard_part start.shape start.valid };
+    ghost lawful = { λ start. world_lawful start.shape start.valid };
 }

@@ -1,117 +1,168 @@
 //! The transfers of a rank in a world, made one at a time.
 
-ghost use Rattle.std.specs.Prelude.{◌≡◌, ℕ, ◌<◌, IsOk, OnOk, OnErr, if◌then◌else◌};
-ghost use Rattle.std.specs.List.{list_any, range_with_len};
+ghost use Rattle.std.specs.Prelude.{◌≡◌, ℕ, ◌<◌, ◌≤◌, IfSome, IfNone, Some, false};
+ghost use Rattle.gaspi_types.specs.World.{IsWorld};
+ghost use Rattle.gaspi_types.specs.declared.entries.Entry.{Entry};
+ghost use Rattle.gaspi_model.specs.Sound.{IsSound};
+ghost use Rattle.gaspi_model.specs.declared.states.State.{State};
 ghost use Rattle.commit_table.specs.Calls.{IsOf, HoldsNone};
-ghost use Rattle.gaspi_model.specs.Step.{step, is_active, transfer_event};
+ghost use Rattle.post_queue.specs.MovableLanes.{is_movable_lane};
+ghost use Rattle.rank_node.specs.Fronts.{IsFront, front_entry, transfer_footprint};
+ghost use Rattle.rank_node.specs.Lending.{IsPostsOf};
+ghost use Rattle.rank_node.specs.Transfers.{event_of};
+ghost use Rattle.world_shards.specs.RankShards.{rank_other};
 ghost use Rattle.gaspi_world.specs.Callers.{IsWorkers};
-ghost use Rattle.gaspi_world.specs.Holds.{Holds, Added};
-ghost use Rattle.gaspi_world.specs.Moves.{Moves, MovesHeld};
-ghost use Rattle.gaspi_world.specs.Shards.{shard_part};
+ghost use Rattle.gaspi_world.specs.Holds.{Holds};
+ghost use Rattle.gaspi_world.specs.Moves.{Moves, Tries, IsMovedBehind, IsFrontHeld};
 
-use crate::holding::{advance, leave, open};
+use crate::holding::{HeldShards, both_held, into_rank, leave, one_held, reached_shard};
 use crate::moving::Moving;
 use crate::shards::WorldShard;
 use crate::starts::Start;
 use crate::worlds::{Pass, World};
 use commit_table::CommitTable;
-use gaspi_model::{StepFault, enabled, soundness};
-use gaspi_types::{CallerId, NoMemory, RankId, ThreadId, Transfer};
-use plain_machine::Machine;
-use std::alloc::Global;
+use gaspi_types::{Event, Outcome, QueueId, RankId, Transfer};
+use rank_node::{Node, front_footprints, fronts_are_steps, movable_lanes_have_fronts};
 
-/// Whether a thread of a rank has not ended.
-fn has_active(machine: &Machine, rank: RankId) -> bool
-    ensures { result ≡ list_any (is_active machine.now rank) (range_with_len 0 4) }
+/// The transfer of a rank that comes next: the front of a lane that may move. Which lane comes first goes on with the room that calls
+/// take, so that no lane waits for ever behind another.
+fn next_front(node: &Node) -> Option<Transfer>
+    requires { (s : State) × IsSound s × IsPostsOf s node.now.posts.me node.now.posts }
+    ensures front { IfSome result (IsFront node.now.posts) }
+    ensures none { IfNone result ((queue target : ℕ) → is_movable_lane node.now.posts.posts.queues queue target ≡ false) }
 {
-    (0..4).any(|number| {
-        let thread = ThreadId::of(number);
-        machine.is_active(CallerId { rank, thread })
-    })
+    movable_lanes_have_fronts();
+    let room = node.room();
+    let after = (
+        QueueId::of((room / 16 % 8) as u32),
+        RankId::of((room % 16) as u32),
+    );
+    let (queue, target) = node.next_lane(after)?;
+    node.front(queue, target)
 }
 
-/// Makes a transfer that may come next in the machine of the shard, and commits it.
-fn make_one(
-    alloc: Global,
-    table: &CommitTable<Start>,
-    pass: &mut Pass,
-    shard: &mut WorldShard,
-    transfer: &Transfer,
-) -> Result<(), NoMemory>
-    requires pass { IsOf table.now pass.old }
-    requires held { Holds table.now.start.shape (shard_part shard.old) pass.old.known }
-    requires next { IsOk (step shard.old.machine (transfer_event shard.old.machine transfer.now)) }
-    ensures table { pass.new.table ≡ pass.old.table }
-    ensures held { Holds table.now.start.shape (shard_part shard.new) pass.new.known }
-    ensures added { OnOk result (Added table.now.start.shape pass.old.known (transfer_event shard.old.machine transfer.now) pass.new.known) }
-    ensures same { OnErr result (pass.new.known ≡ pass.old.known) }
+/// The shard that the front of a lane has beside its origin's.
+fn front_shard(node: &Node, ranks: u32, t: &Transfer) -> Option<u32>
+    requires front { IsFront node.now.posts t.now }
+    requires ranks { ranks ≤ 16 }
+    ensures { (e : Entry) → front_entry node.now.posts t.now ≡ Some e → result ≡ rank_other ranks (transfer_footprint ranks t.now e.kind) }
 {
-    match shard.machine.make(alloc, transfer) {
-        Ok(event) => {
-            advance(table, pass, shard, event);
-            Ok(())
-        }
-        Err(StepFault::Illegal(_)) => unreachable!(),
-        Err(StepFault::NoMemory) => Err(NoMemory),
+    let kind = node.kind(t);
+    let touch = if t.put {
+        kind.put_touch(t.target)
+    } else {
+        kind.take_touch(t.target)
+    };
+    reached_shard(ranks, touch.reach(ranks, t.origin))
+}
+
+/// The event of a transfer that ends so.
+fn event_of(t: &Transfer, outcome: Outcome) -> Event
+    ensures { result ≡ event_of t.now outcome }
+{
+    if t.put {
+        Event::Put(t.origin, t.queue, t.target, t.number, outcome)
+    } else {
+        Event::Take(t.origin, t.queue, t.target, t.number, outcome)
     }
 }
 
-/// Makes the first transfer of a rank that may come next in the machine of the shard, where one may.
-fn move_held(
-    alloc: Global,
-    table: &CommitTable<Start>,
-    pass: &mut Pass,
-    shard: &mut WorldShard,
-    origin: RankId,
-) -> Result<Moving, NoMemory>
-    requires pass { IsOf table.now pass.old }
-    requires held { Holds table.now.start.shape (shard_part shard.old) pass.old.known }
-    ensures table { pass.new.table ≡ pass.old.table }
-    ensures held { Holds table.now.start.shape (shard_part shard.new) pass.new.known }
-    ensures moves { MovesHeld table.now.start.shape origin pass.old.known result pass.new.known }
-{
-    table.start().shape.limits();
-    soundness();
-    enabled();
-    let Some(transfer) = shard.machine.transfer_of(origin) else {
-        if has_active(&shard.machine, origin) {
-            return Ok(Moving::Empty);
-        }
-        return Ok(Moving::Ended);
-    };
-    make_one(alloc, table, pass, shard, &transfer)?;
-    Ok(Moving::Moved)
+/// What comes of a try to take the shards of the next transfer of a rank.
+#[derive(Drop)]
+enum Tried {
+    /// The origin's shard was missed, or the other shard of a transfer that may come next.
+    Busy,
+    /// No transfer of the rank may come next; whether all its threads have ended.
+    Still(bool),
+    /// The shards of this transfer are held.
+    Ready(Transfer, HeldShards),
 }
 
-/// Takes the shard, tries to make a transfer of a rank, and gives the shard back.
-fn move_one(
-    alloc: Global,
-    table: &CommitTable<Start>,
-    pass: &mut Pass,
-    origin: RankId,
-) -> Result<Moving, NoMemory>
+/// Takes the shards of the next transfer of a rank, and looks once, after the last of them was taken or missed: the origin's node alone
+/// tells the transfer.
+fn try_front(table: &CommitTable<Start>, pass: &mut Pass, origin: RankId) -> Tried
+    requires world { IsWorld table.now.start.shape }
     requires pass { IsOf table.now pass.old }
     requires free { HoldsNone pass.old.known }
+    requires rank { origin < table.now.start.shape.limits.ranks }
+    ensures table { pass.new.table ≡ pass.old.table }
+    ensures tries { Tries table.now.start.shape origin pass.old.known result pass.new.known }
+{
+    fronts_are_steps();
+    front_footprints();
+    movable_lanes_have_fronts();
+    let own = origin.number();
+    let Some(mine) = table.try_take(pass, own) else {
+        return Tried::Busy;
+    };
+    let node = into_rank(mine);
+    let Some(t) = next_front(&node) else {
+        let ended = node.all_ended();
+        table.look(pass);
+        table.give_back(pass, own, WorldShard::Rank(node));
+        return Tried::Still(ended);
+    };
+    let Some(other) = front_shard(&node, table.start().shape.ranks(), &t) else {
+        table.look(pass);
+        return Tried::Ready(t, one_held(own, WorldShard::Rank(node)));
+    };
+    let Some(theirs) = table.try_take(pass, other) else {
+        table.look(pass);
+        table.give_back(pass, own, WorldShard::Rank(node));
+        return Tried::Busy;
+    };
+    table.look(pass);
+    Tried::Ready(t, both_held(own, WorldShard::Rank(node), other, theirs))
+}
+
+/// Commits a transfer that is the front of its lane, and records it in the nodes that are held.
+fn commit_front(table: &CommitTable<Start>, pass: &mut Pass, held: &mut HeldShards, t: Transfer)
+    requires world { IsWorld table.now.start.shape }
+    requires pass { IsOf table.now pass.old }
+    requires held { Holds table.now.start.shape held.old pass.old.known }
+    requires front { IsFrontHeld table.now.start.shape t held.old }
+    ensures table { pass.new.table ≡ pass.old.table }
+    ensures held { Holds table.now.start.shape held.new pass.new.known }
+    ensures shards { (held.new.own ≡ held.old.own) × (held.new.other ≡ held.old.other) }
+    ensures moved { IsMovedBehind table.now.start.shape t.origin pass.old.known pass.new.known }
+{
+    fronts_are_steps();
+    front_footprints();
+    let outcome = held.nodes.outcome(&t);
+    let place = table.commit(pass, &event_of(&t, outcome));
+    if t.put {
+        held.nodes.put(place, t);
+    } else {
+        held.nodes.take(place, t);
+    }
+}
+
+/// Makes the next transfer of a rank, where there is one and its shards are free.
+fn move_one(table: &CommitTable<Start>, pass: &mut Pass, origin: RankId) -> Moving
+    requires world { IsWorld table.now.start.shape }
+    requires pass { IsOf table.now pass.old }
+    requires free { HoldsNone pass.old.known }
+    requires rank { origin < table.now.start.shape.limits.ranks }
     ensures table { pass.new.table ≡ pass.old.table }
     ensures free { HoldsNone pass.new.known }
     ensures moves { Moves table.now.start.shape origin pass.old.known result pass.new.known }
 {
-    let Some(mut shard) = open(table, pass) else {
-        return Ok(Moving::Busy);
-    };
-    let moving = move_held(alloc, table, pass, &mut shard, origin);
-    leave(table, pass, shard);
-    moving
+    match try_front(table, pass, origin) {
+        Tried::Busy => Moving::Busy,
+        Tried::Still(true) => Moving::Ended,
+        Tried::Still(false) => Moving::Empty,
+        Tried::Ready(t, mut held) => {
+            commit_front(table, pass, &mut held, t);
+            leave(table, pass, held);
+            Moving::Moved
+        }
+    }
 }
 
 impl World {
-    /// Makes one transfer of a rank, the first that may come next, where one may. (GASPI: one-sided communication)
-    pub fn transfer(
-        &self,
-        alloc: Global,
-        pass: &mut Pass,
-        origin: RankId,
-    ) -> Result<Moving, NoMemory>
+    /// Makes one transfer of a rank, the next of a lane, where one may come next and no other pass holds its shards. It takes no memory.
+    /// (GASPI: one-sided communication)
+    pub fn transfer(&self, pass: &mut Pass, origin: RankId) -> Moving
         requires pass { IsOf self.now pass.old }
         requires free { HoldsNone pass.old.known }
         requires worker { IsWorkers self.now.start.shape pass.old.known }
@@ -120,6 +171,7 @@ impl World {
         ensures free { HoldsNone pass.new.known }
         ensures moves { Moves self.now.start.shape origin pass.old.known result pass.new.known }
     {
-        move_one(alloc, self.table(), pass, origin)
+        self.shape().limits();
+        move_one(self.table(), pass, origin)
     }
 }

@@ -10,12 +10,10 @@ ghost use Rattle.gaspi_world.specs.Passes.{has_number, are_all, AreAll};
 ghost use Rattle.gaspi_world.specs.declared.starts.Start.{Start};
 
 use crate::callers::all_numbered;
-use crate::shards::WorldShard;
+use crate::shards::opening_shards;
 use crate::starts::Start;
-use buffers::Buffer;
 use commit_table::CommitTable;
 use gaspi_types::{CallerId, NoMemory, Rows, Shape};
-use plain_machine::Machine;
 use std::alloc::Global;
 use std::marker::Model;
 
@@ -83,10 +81,8 @@ impl World {
             → slice_get started.passes.items k ≡ Some (record { table = started.world.table; known = new_pass started.world.start (Some k) [] })) }
         ensures callers { IfOk result (λ started. (k : ℕ) → k < length shape.now.callers → (c : CallerId) × IsPassOf {S = Start} {E = Event} shape.now c (new_pass started.world.start (Some k) [])) }
     {
-        let limits = shape.limits();
-        let machine = Machine::start(alloc, shape)?;
-        let journal = Buffer::with_room(alloc, limits.ranks as usize * limits.events as usize)?;
-        let shards = vec![in alloc; WorldShard { machine, journal }]?;
+        shape.limits();
+        let shards = opening_shards(alloc, shape)?;
         let count = shape.callers().len() as u32 + workers;
         let callers = all_numbered(alloc, shape.callers())?;
         let start = Start::of(alloc, shape)?;
@@ -106,7 +102,7 @@ impl World {
         are_all(self.passes, passes.as_slice())
     }
 
-    /// The table of its one shard.
+    /// The table of its shards.
     pub(crate) fn table(&self) -> &CommitTable<Start>
         ensures { result.now ≡ self.now }
     {

@@ -1,6 +1,7 @@
 //! A run of a script, call by call.
 
-ghost use Rattle.std.specs.Prelude.{◌≡◌, ◌≢◌, Err};
+ghost use Rattle.std.specs.Prelude.{◌≡◌, ◌≢◌, Err, false};
+ghost use Rattle.gaspi_types.specs.CallRows.{row_of};
 ghost use Rattle.gaspi_types.specs.World.{IsWorld};
 ghost use Rattle.gaspi_types.specs.declared.calls.Call.TheVariants.{End};
 ghost use Rattle.gaspi_types.specs.declared.calls.Timeout.TheVariants.{Looks};
@@ -35,7 +36,7 @@ fn make<R: Wait>(
 ) -> Result<Reply, Stop>
     requires pass { MayCall world.now pass.old }
     requires timeout { HasLook (looks_of timeout) }
-    ensures ends { call.now ≡ End → result ≢ Err NoMemory }
+    ensures ample { (row_of call.now).takes_memory ≡ false → result ≢ Err NoMemory }
     ensures calls { CallsBy world.now call.now timeout pass.old result pass.new }
 {
     Rank { world, pass }.call(rt, alloc, call, timeout)

@@ -1,5 +1,5 @@
 -- What a round of tries comes to, try by try.
-use Rattle.std.proofs.Common.{◌≡◌, ◌≢◌, ◌==◌, nat_le, ℕ, ◌+◌, ◌*◌, ◌-◌, ◌%◌, ◌<◌, ◌≤◌, Bool, true, false, List, [], ◌∷◌, ◌++◌, length, length-append, Option, None, Result, Ok, Err, refl, sym, ap, ◌∙◌, subst, arith, ◌⊎◌, inl, inr}
+use Rattle.std.proofs.Common.{◌≡◌, ◌≢◌, ◌==◌, nat_le, ℕ, ◌+◌, ◌*◌, ◌-◌, ◌%◌, ◌<◌, ◌≤◌, Bool, true, false, List, [], ◌∷◌, ◌++◌, length, length-append, Option, None, Ok, refl, sym, ap, ◌∙◌, subst, arith, ◌⊎◌, inl, inr}
 use Rattle.std.specs.Prelude.{◌↔◌}
 use Rattle.std.proofs.lemmas.List.{append_assoc, append-nil}
 use Rattle.std.proofs.lemmas.Bool.{eqb-true, eqb-false, leb-true, leb-false}
@@ -9,17 +9,15 @@ use mathlib.Core.List.{IsPrefix}
 use Rattle.gaspi_types.specs.World.{World, IsWorld}
 use Rattle.gaspi_types.specs.declared.events.Event.{Event}
 use Rattle.gaspi_types.specs.declared.events.Event.TheVariants.{Called, Joined, Take, Put}
-use Rattle.gaspi_types.specs.declared.memory.NoMemory.{NoMemory}
 use Rattle.gaspi_model.specs.State.{opening}
 use Rattle.gaspi_model.specs.Step.{after, reached, is_legal}
 use Rattle.gaspi_model.specs.declared.states.State.{State}
 use Rattle.gaspi_model.proofs.Histories.{after-both, after-limits, leads, reached-sound}
-use Rattle.commit_table.specs.Attempts.{Missed, LookedOnly}
+use Rattle.commit_table.specs.Attempts.{LookedOnly}
 use Rattle.commit_table.specs.Calls.{HoldsNone, PassValue}
 use Rattle.commit_table.specs.Views.{mine_after}
 use Rattle.commit_table.specs.declared.views.Known.{Known}
-use Rattle.gaspi_world.specs.Moves.{is_transfer_of, HasNoTransfer, HasActive, HaveEnded, Moves}
-use Rattle.gaspi_world.specs.Shards.{shard_part}
+use Rattle.gaspi_world.specs.Moves.{is_transfer_of, HasNoTransfer, HasActive, HaveEnded, IsBusyMove, Moves}
 use Rattle.gaspi_world.specs.WorldMachine.{world_machine}
 use Rattle.gaspi_model.specs.Parties.{party_of}
 use Rattle.gaspi_world.specs.declared.moving.Moving.{Moving}
@@ -100,7 +98,7 @@ no-party w origin (Put o queue target number outcome) is = refl
 
 module _ {S : Type 0} (w : World) where
   -- what each try leaves
-  looked-on : (v n : Known S Event) → LookedOnly (world_machine shard_part w) v n → GoesOn v n × (world_machine shard_part w).Legal n.seen
+  looked-on : (v n : Known S Event) → LookedOnly (world_machine w) v n → GoesOn v n × (world_machine w).Legal n.seen
   looked-on v n look = (
     record {
       seen = look.goes_on;
@@ -114,8 +112,8 @@ module _ {S : Type 0} (w : World) where
     look.legal,
   )
 
-  pub moves-on : (origin : ℕ) (v n : Known S Event) (r : Result Moving NoMemory) → Moves w origin v r n → GoesOn v n × (world_machine shard_part w).Legal n.seen
-  moves-on origin v n (Ok moves.Moved) (e, place, is, told) = (
+  pub moves-on : (origin : ℕ) (v n : Known S Event) (r : Moving) → Moves w origin v r n → GoesOn v n × (world_machine w).Legal n.seen
+  moves-on origin v n moves.Moved (e, place, is, told) = (
     record {
       seen = prefix-then v.seen told.before n.seen told.goes_on (more-prefix told.before n.seen (e ∷ []) told.seen);
       commits = more-prefix v.commits n.commits (place ∷ []) told.commits;
@@ -125,9 +123,9 @@ module _ {S : Type 0} (w : World) where
       party = told.party;
       start = told.start;
     },
-    subst (world_machine shard_part w).Legal (sym told.seen) told.legal,
+    subst (world_machine w).Legal (sym told.seen) told.legal,
   )
-  moves-on origin v n (Ok moves.Busy) told = (
+  moves-on origin v n moves.Busy (inl told) = (
     record {
       seen = same-prefix v.seen n.seen told.seen;
       commits = same-prefix v.commits n.commits told.commits;
@@ -139,9 +137,20 @@ module _ {S : Type 0} (w : World) where
     },
     told.legal,
   )
-  moves-on origin v n (Ok moves.Empty) told = looked-on v n told.0
-  moves-on origin v n (Ok moves.Ended) told = looked-on v n told.0
-  moves-on origin v n (Err none) told = looked-on v n told
+  moves-on origin v n moves.Busy (inr told) = (
+    record {
+      seen = told.goes_on;
+      commits = same-prefix v.commits n.commits told.commits;
+      looks = more-prefix v.looks n.looks (length n.seen ∷ []) told.looks;
+      missed = more-prefix v.missed n.missed (told.shard ∷ []) told.missed;
+      mine = told.mine;
+      party = told.party;
+      start = told.start;
+    },
+    told.legal,
+  )
+  moves-on origin v n moves.Empty told = looked-on v n told.0
+  moves-on origin v n moves.Ended told = looked-on v n told.0
 
   -- what the tries come to, none of which moved
   abbrev pub SoFar : (ℕ → Type 0) → ℕ → Known S Event → Turn → Known S Event → Type 0
@@ -156,10 +165,7 @@ module _ {S : Type 0} (w : World) where
   none-committed Is tries v n Idle is = is.0.commits
   none-committed Is tries v n Drained is = is.0.commits
 
-  pub err-turned : (Is : ℕ → Type 0) (tries origin : ℕ) (v m n : Known S Event) (so_far : Turn) → SoFar Is tries v so_far m → LookedOnly (world_machine shard_part w) m n → n.commits ≡ v.commits
-  err-turned Is tries origin v m n so_far is look = look.commits ∙ none-committed Is tries v m so_far is
-
-  pub moved-turned : (Is : ℕ → Type 0) (tries origin : ℕ) (v m n : Known S Event) (so_far : Turn) → origin < w.limits.ranks → SoFar Is tries v so_far m → GoesOn v m → Moves w origin m (Ok moves.Moved) n → IsMoved w v n
+  pub moved-turned : (Is : ℕ → Type 0) (tries origin : ℕ) (v m n : Known S Event) (so_far : Turn) → origin < w.limits.ranks → SoFar Is tries v so_far m → GoesOn v m → Moves w origin m moves.Moved n → IsMoved w v n
   moved-turned Is tries origin v m n so_far rank is on (e, place, transfer, told) = record {
     origin = origin;
     rank = rank;
@@ -177,23 +183,21 @@ module _ {S : Type 0} (w : World) where
   abbrev still-now : (v m n : Known S Event) (rank : ℕ) → GoesOn v m → IsPrefix m.seen n.seen → HasNoTransfer w n.seen rank → IsStill w v n rank
   still-now v m n rank on look none = record { history = n.seen; since = prefix-then v.seen m.seen n.seen on.seen look; until = same-prefix n.seen n.seen refl; none = none }
 
-  missed-then : (v m n : Known S Event) → IsMissed w v m → LookedOnly (world_machine shard_part w) m n → IsMissed w v n
-  missed-then v m n is look = record { commits = look.commits ∙ is.commits; missed = (is.missed.0, look.missed ∙ is.missed.1) }
+  busy-commits : (origin : ℕ) (m n : Known S Event) → IsBusyMove w origin m n → n.commits ≡ m.commits
+  busy-commits origin m n (inl told) = told.commits
+  busy-commits origin m n (inr told) = told.commits
 
-  missed-first : (v m n : Known S Event) → m.commits ≡ v.commits → m.missed ≡ v.missed → Missed (world_machine shard_part w) m (λ i. i ≡ 0) n → IsMissed w v n
-  missed-first v m n commits missed told = record {
-    commits = told.commits ∙ commits;
-    missed = ([], told.missed ∙ (ap (λ (i : ℕ). m.missed ++ i ∷ []) told.may ∙ ap (λ (is : List ℕ). is ++ 0 ∷ []) missed));
-  }
+  missed-then : (v m n : Known S Event) → IsMissed w v m → LookedOnly (world_machine w) m n → IsMissed w v n
+  missed-then v m n is look = record { commits = look.commits ∙ is.commits; origin = is.origin; rank = is.rank; before = is.before; after = is.after; since = is.since; busy = is.busy; until = goes-then is.after m n is.until (looked-on m n look).0 }
 
-  missed-again : (v m n : Known S Event) → IsMissed w v m → Missed (world_machine shard_part w) m (λ i. i ≡ 0) n → IsMissed w v n
-  missed-again v m n is told = record {
-    commits = told.commits ∙ is.commits;
-    missed = (is.missed.0 ++ 0 ∷ [], told.missed ∙ (ap (λ (i : ℕ). m.missed ++ i ∷ []) told.may ∙ (ap (λ (is : List ℕ). is ++ 0 ∷ []) is.missed.1 ∙ append_assoc v.missed (0 ∷ is.missed.0) (0 ∷ []))));
-  }
+  missed-first : (origin : ℕ) (v m n : Known S Event) → origin < w.limits.ranks → m.commits ≡ v.commits → GoesOn v m → IsBusyMove w origin m n → IsMissed w v n
+  missed-first origin v m n rank commits on told = record { commits = busy-commits origin m n told ∙ commits; origin = origin; rank = rank; before = m; after = n; since = on; busy = told; until = goes-same n }
+
+  missed-again : (origin : ℕ) (v m n : Known S Event) → IsMissed w v m → IsBusyMove w origin m n → IsMissed w v n
+  missed-again origin v m n is told = record { commits = busy-commits origin m n told ∙ is.commits; origin = is.origin; rank = is.rank; before = is.before; after = is.after; since = is.since; busy = is.busy; until = goes-then is.after m n is.until (moves-on origin m n moves.Busy told).0 }
 
   module _ (first ranks tries origin : ℕ) (place : origin ≡ (first + tries) % ranks) where
-    tried-more : (v m n : Known S Event) → AreTried w (Was first ranks tries) tries v m → GoesOn v m → LookedOnly (world_machine shard_part w) m n → HasNoTransfer w n.seen origin → AreTried w (Was first ranks (tries + 1)) (tries + 1) v n
+    tried-more : (v m n : Known S Event) → AreTried w (Was first ranks tries) tries v m → GoesOn v m → LookedOnly (world_machine w) m n → HasNoTransfer w n.seen origin → AreTried w (Was first ranks (tries + 1)) (tries + 1) v n
     tried-more v m n is on look none = record {
       commits = look.commits ∙ is.commits;
       missed = look.missed ∙ is.missed;
@@ -220,21 +224,21 @@ module _ {S : Type 0} (w : World) where
         by-rank (inr last) = subst (IsEnded w v n) (place ∙ sym last) (still-now v m n origin on look none, have)
 
     -- one try more
-    pub try-more : (v m n : Known S Event) (so_far : Turn) (moving : Moving) → SoFar (Was first ranks tries) tries v so_far m → GoesOn v m → Moves w origin m (Ok moving) n → moving ≢ moves.Moved
+    pub try-more : (v m n : Known S Event) (so_far : Turn) (moving : Moving) → origin < w.limits.ranks → SoFar (Was first ranks tries) tries v so_far m → GoesOn v m → Moves w origin m moving n → moving ≢ moves.Moved
         → SoFar (Was first ranks (tries + 1)) (tries + 1) v (with_try so_far moving) n
-    try-more v m n so_far moves.Moved is on told stays = absurd (stays refl)
-    try-more v m n Moved moves.Busy is on told stays = absurd is
-    try-more v m n Busy moves.Busy is on told stays = missed-again v m n is told
-    try-more v m n Idle moves.Busy is on told stays = missed-first v m n is.0.commits is.0.missed told
-    try-more v m n Drained moves.Busy is on told stays = missed-first v m n is.0.commits is.0.missed told
-    try-more v m n Moved moves.Empty is on told stays = absurd is
-    try-more v m n Busy moves.Empty is on told stays = missed-then v m n is told.0
-    try-more v m n Idle moves.Empty is on (look, none, active) stays = (tried-more v m n is.0 on look none, active-then v m n look.goes_on is.1)
-    try-more v m n Drained moves.Empty is on (look, none, active) stays = (tried-more v m n is.0 on look none, active-now v m n on look.goes_on none active)
-    try-more v m n Moved moves.Ended is on told stays = absurd is
-    try-more v m n Busy moves.Ended is on told stays = missed-then v m n is told.0
-    try-more v m n Idle moves.Ended is on (look, none, ended) stays = (tried-more v m n is.0 on look none, active-then v m n look.goes_on is.1)
-    try-more v m n Drained moves.Ended is on (look, none, ended) stays = (tried-more v m n is.0 on look none, ended-more v m n is.1 on look.goes_on none ended)
+    try-more v m n so_far moves.Moved rank is on told stays = absurd (stays refl)
+    try-more v m n Moved moves.Busy rank is on told stays = absurd is
+    try-more v m n Busy moves.Busy rank is on told stays = missed-again origin v m n is told
+    try-more v m n Idle moves.Busy rank is on told stays = missed-first origin v m n rank is.0.commits on told
+    try-more v m n Drained moves.Busy rank is on told stays = missed-first origin v m n rank is.0.commits on told
+    try-more v m n Moved moves.Empty rank is on told stays = absurd is
+    try-more v m n Busy moves.Empty rank is on told stays = missed-then v m n is told.0
+    try-more v m n Idle moves.Empty rank is on (look, none, active) stays = (tried-more v m n is.0 on look none, active-then v m n look.goes_on is.1)
+    try-more v m n Drained moves.Empty rank is on (look, none, active) stays = (tried-more v m n is.0 on look none, active-now v m n on look.goes_on none active)
+    try-more v m n Moved moves.Ended rank is on told stays = absurd is
+    try-more v m n Busy moves.Ended rank is on told stays = missed-then v m n is told.0
+    try-more v m n Idle moves.Ended rank is on (look, none, ended) stays = (tried-more v m n is.0 on look none, active-then v m n look.goes_on is.1)
+    try-more v m n Drained moves.Ended rank is on (look, none, ended) stays = (tried-more v m n is.0 on look none, ended-more v m n is.1 on look.goes_on none ended)
 
   -- no try yet
   pub none-tried : (first ranks : ℕ) (v : Known S Event) → SoFar (Was first ranks 0) 0 v Drained v
@@ -269,7 +273,7 @@ module _ {S : Type 0} (w : World) where
     still = λ rank less. is.still rank (was-all first w.limits.ranks rank at less);
   }
 
-  pub all-turned : (first : ℕ) (v n : Known S Event) (so_far : Turn) → IsWorld w → first < w.limits.ranks → is_legal w n.seen ≡ true → SoFar (Was first w.limits.ranks w.limits.ranks) w.limits.ranks v so_far n → Turned w v (Ok so_far) n
+  pub all-turned : (first : ℕ) (v n : Known S Event) (so_far : Turn) → IsWorld w → first < w.limits.ranks → is_legal w n.seen ≡ true → SoFar (Was first w.limits.ranks w.limits.ranks) w.limits.ranks v so_far n → Turned w v so_far n
   all-turned first v n Moved world at legal is = absurd is
   all-turned first v n Busy world at legal is = is
   all-turned first v n Idle world at legal (tried, (rank, was, active)) = (all-tried first v n at tried, (rank, was-rank first w.limits.ranks rank at was, active))
@@ -286,20 +290,20 @@ module _ {S : Type 0} (w : World) where
   pub round-begins : (first ranks : ℕ) (old : PassValue S Event) → HoldsNone old.known → IsRound first ranks 0 old Drained old
   round-begins first ranks old free = record { table = refl; free = free; goes_on = goes-same old.known; legal = λ less. absurd (omega arith); tried = none-tried first ranks old.known }
 
-  pub round-goes : ((history : List Event) → (world_machine shard_part w).Legal history ↔ (is_legal w history ≡ true))
-      → (first ranks tries origin : ℕ) (old mid new : PassValue S Event) (so_far : Turn) (moving : Moving) → origin ≡ (first + tries) % ranks → IsRound first ranks tries old so_far mid
-      → new.table ≡ mid.table → HoldsNone new.known → Moves w origin mid.known (Ok moving) new.known → moving ≢ moves.Moved → IsRound first ranks (tries + 1) old (with_try so_far moving) new
-  round-goes law first ranks tries origin old mid new so_far moving place round table free told stays =
-      let on = moves-on origin mid.known new.known (Ok moving) told in
+  pub round-goes : ((history : List Event) → (world_machine w).Legal history ↔ (is_legal w history ≡ true))
+      → (first ranks tries origin : ℕ) (old mid new : PassValue S Event) (so_far : Turn) (moving : Moving) → origin ≡ (first + tries) % ranks → origin < w.limits.ranks → IsRound first ranks tries old so_far mid
+      → new.table ≡ mid.table → HoldsNone new.known → Moves w origin mid.known moving new.known → moving ≢ moves.Moved → IsRound first ranks (tries + 1) old (with_try so_far moving) new
+  round-goes law first ranks tries origin old mid new so_far moving place rank round table free told stays =
+      let on = moves-on origin mid.known new.known moving told in
       record {
         table = table ∙ round.table;
         free = free;
         goes_on = goes-then old.known mid.known new.known round.goes_on on.0;
         legal = λ less. (law new.known.seen).0 on.1;
-        tried = try-more first ranks tries origin place old.known mid.known new.known so_far moving round.tried round.goes_on told stays;
+        tried = try-more first ranks tries origin place old.known mid.known new.known so_far moving rank round.tried round.goes_on told stays;
       }
 
-  pub round-ends : (first ranks tries : ℕ) (old new : PassValue S Event) (so_far : Turn) → ranks ≡ w.limits.ranks → tries ≡ ranks → IsWorld w → first < w.limits.ranks → IsRound first ranks tries old so_far new → Turned w old.known (Ok so_far) new.known
+  pub round-ends : (first ranks tries : ℕ) (old new : PassValue S Event) (so_far : Turn) → ranks ≡ w.limits.ranks → tries ≡ ranks → IsWorld w → first < w.limits.ranks → IsRound first ranks tries old so_far new → Turned w old.known so_far new.known
   round-ends first ranks tries old new so_far is all world at round =
       let whole = subst (λ (n : ℕ). IsRound first n n old so_far new) is (subst (λ (n : ℕ). IsRound first ranks n old so_far new) all round) in
       all-turned first old.known new.known so_far world at (whole.legal (omega arith)) whole.tried

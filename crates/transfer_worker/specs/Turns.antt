@@ -1,14 +1,13 @@
 -- What a turn of a worker through all ranks of its world tells. (GASPI: one-sided communication)
-use Rattle.std.specs.Prelude.{◌≡◌, ℕ, ◌<◌, true, List, [], ◌∷◌, ◌++◌, length, Result, Ok, Err}
+use Rattle.std.specs.Prelude.{◌≡◌, ℕ, ◌<◌, true, List, [], ◌∷◌, ◌++◌, length, Ok}
 use mathlib.Core.List.{IsPrefix}
 use Rattle.gaspi_types.specs.World.{World}
 use Rattle.gaspi_types.specs.declared.events.Event.{Event}
-use Rattle.gaspi_types.specs.declared.memory.NoMemory.{NoMemory}
 use Rattle.gaspi_model.specs.Settled.{IsSettled}
 use Rattle.gaspi_model.specs.Step.{reached}
 use Rattle.gaspi_model.specs.declared.states.State.{State}
 use Rattle.commit_table.specs.declared.views.Known.{Known}
-use Rattle.gaspi_world.specs.Moves.{is_transfer_of, HasNoTransfer, HasActive, HaveEnded}
+use Rattle.gaspi_world.specs.Moves.{is_transfer_of, HasNoTransfer, HasActive, HaveEnded, IsBusyMove}
 use Rattle.gaspi_world.specs.declared.moving.Moving.{Moving}
 use Rattle.gaspi_world.specs.declared.moving.Moving.TheVariants as moves
 use Rattle.transfer_worker.specs.declared.turns.Turn.{Turn}
@@ -48,10 +47,17 @@ module _ (w : World) where
     pub seen : n.seen ≡ before ++ event ∷ []
     pub commits : n.commits ≡ v.commits ++ length before ∷ []
 
-  -- nothing was committed, and the shard was missed at least once
+  -- nothing was committed, and the try of one rank was busy: what was known before it goes on from what the turn began with, and what is
+  -- known goes on from what was known after it
   pub record IsMissed {S : Type 0} (v n : Known S Event) : Type 0 where
     pub commits : n.commits ≡ v.commits
-    pub missed : (more : List ℕ) × (n.missed ≡ v.missed ++ 0 ∷ more)
+    pub origin : ℕ
+    pub rank : origin < w.limits.ranks
+    pub before : Known S Event
+    pub after : Known S Event
+    pub since : GoesOn v before
+    pub busy : IsBusyMove w origin before after
+    pub until : GoesOn after n
 
   -- a history that was seen in the turn, after which no transfer of a rank may come next
   pub record IsStill {S : Type 0} (v n : Known S Event) (rank : ℕ) : Type 0 where
@@ -81,9 +87,8 @@ module _ (w : World) where
   abbrev pub AreDone : {S : Type 0} → Known S Event → Known S Event → Type 0
   AreDone v n = AreTried (λ rank. rank < w.limits.ranks) w.limits.ranks v n × IsDrained n.seen
 
-  abbrev pub Turned : {S : Type 0} → Known S Event → Result Turn NoMemory → Known S Event → Type 0
-  Turned v (Ok Moved) n = IsMoved v n
-  Turned v (Ok Busy) n = IsMissed v n
-  Turned v (Ok Idle) n = IsIdle v n
-  Turned v (Ok Drained) n = AreDone v n
-  Turned v (Err none) n = n.commits ≡ v.commits
+  abbrev pub Turned : {S : Type 0} → Known S Event → Turn → Known S Event → Type 0
+  Turned v Moved n = IsMoved v n
+  Turned v Busy n = IsMissed v n
+  Turned v Idle n = IsIdle v n
+  Turned v Drained n = AreDone v n

@@ -7,12 +7,11 @@ ghost use Rattle.gaspi_world.specs.Callers.{IsWorkers};
 ghost use Rattle.transfer_worker.specs.Turns.{GoesOn, Turned};
 
 use crate::turns::{Turn, with_try};
-use gaspi_types::{NoMemory, RankId};
+use gaspi_types::RankId;
 use gaspi_world::{Moving, Pass, World, world_histories};
-use std::alloc::Global;
 
 /// Tries all ranks in their order, from one rank on, and stops at the first that moved.
-pub fn try_all(world: &World, alloc: Global, pass: &mut Pass, first: u32) -> Result<Turn, NoMemory>
+pub fn try_all(world: &World, pass: &mut Pass, first: u32) -> Turn
     requires pass { IsOf world.now pass.old }
     requires free { HoldsNone pass.old.known }
     requires worker { IsWorkers world.now.start.shape pass.old.known }
@@ -28,11 +27,11 @@ pub fn try_all(world: &World, alloc: Global, pass: &mut Pass, first: u32) -> Res
     let mut so_far = Turn::Drained;
     for step in 0..ranks {
         let origin = RankId::of((first + step) % ranks);
-        let moving = world.transfer(alloc, pass, origin)?;
+        let moving = world.transfer(pass, origin);
         if moving == Moving::Moved {
-            return Ok(Turn::Moved);
+            return Turn::Moved;
         }
         so_far = with_try(so_far, moving);
     }
-    Ok(so_far)
+    so_far
 }

@@ -10,7 +10,7 @@ use gaspi_world::Moving;
 pub enum Turn {
     /// One transfer was made.
     Moved,
-    /// None was, and another thread held the shard at a try.
+    /// None was, and at a try another thread held a shard that the transfer needed.
     Busy,
     /// No rank had a transfer that might come next, and a caller has not ended.
     Idle,

@@ -1,6 +1,6 @@
 //! Workers.
 
-ghost use Rattle.std.specs.Prelude.{◌≡◌, ◌+◌, ◌%◌, ◌^◌, OnOk, true};
+ghost use Rattle.std.specs.Prelude.{◌≡◌, ◌+◌, ◌%◌, ◌^◌, true};
 ghost use Rattle.commit_table.specs.Calls.{IsOf, HoldsNone};
 ghost use Rattle.gaspi_model.specs.Step.{is_legal};
 ghost use Rattle.gaspi_world.specs.Callers.{IsWorkers};
@@ -8,10 +8,8 @@ ghost use Rattle.transfer_worker.specs.Turns.{GoesOn, Turned, IsDrained};
 
 use crate::rounds::try_all;
 use crate::turns::Turn;
-use gaspi_types::NoMemory;
 use gaspi_world::{Pass, World};
 use pauses::Pauses;
-use std::alloc::Global;
 use std::sync::Wait;
 
 /// A worker in its world, by its pass.
@@ -24,9 +22,9 @@ pub struct Worker<'a> {
 }
 
 impl<'a> Worker<'a> {
-    /// Tries each rank once, from another one on in each turn, and stops at the first that moved. It waits for nothing.
+    /// Tries each rank once, from another one on in each turn, and stops at the first that moved. It waits for nothing, and takes no memory.
     /// (GASPI: one-sided communication)
-    pub fn turn(&mut self, alloc: Global) -> Result<Turn, NoMemory>
+    pub fn turn(&mut self) -> Turn
         requires pass { IsOf self.old.world.now self.old.pass.now }
         requires free { HoldsNone self.old.pass.now.known }
         requires worker { IsWorkers self.old.world.now.start.shape self.old.pass.now.known }
@@ -41,12 +39,12 @@ impl<'a> Worker<'a> {
         let ranks = u64::from(self.world.shape().limits().ranks);
         let first = (self.turns % ranks) as u32;
         self.turns = self.turns.wrapping_add(1);
-        try_all(self.world, alloc, self.pass, first)
+        try_all(self.world, self.pass, first)
     }
 
-    /// Makes turns until all callers have ended and all that was posted has arrived, but for what waits in broken queues.
-    /// (GASPI: one-sided communication)
-    pub fn drain<R: Wait>(&mut self, rt: &R, alloc: Global) -> Result<(), NoMemory>
+    /// Makes turns until all callers have ended and all that was posted has arrived, but for what waits in broken queues. It takes no
+    /// memory. (GASPI: one-sided communication)
+    pub fn drain<R: Wait>(&mut self, rt: &R)
         requires pass { IsOf self.old.world.now self.old.pass.now }
         requires free { HoldsNone self.old.pass.now.known }
         requires worker { IsWorkers self.old.world.now.start.shape self.old.pass.now.known }
@@ -55,15 +53,15 @@ impl<'a> Worker<'a> {
         ensures free { HoldsNone self.new.pass.now.known }
         ensures goes_on { GoesOn self.old.pass.now.known self.new.pass.now.known }
         ensures legal { is_legal self.old.world.now.start.shape self.new.pass.now.known.seen ≡ true }
-        ensures drained { OnOk result (IsDrained self.old.world.now.start.shape self.new.pass.now.known.seen) }
+        ensures drained { IsDrained self.old.world.now.start.shape self.new.pass.now.known.seen }
     {
         let mut pauses = Pauses::new();
         for _ in rt.forever() {
-            match self.turn(alloc)? {
+            match self.turn() {
                 Turn::Moved => pauses.reset(),
                 Turn::Busy => pauses.pause(rt),
                 Turn::Idle => pauses.pause(rt),
-                Turn::Drained => return Ok(()),
+                Turn::Drained => return,
             }
         }
         unreachable!()

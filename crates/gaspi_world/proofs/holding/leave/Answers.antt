@@ -1,5 +1,11 @@
-use Rattle.gaspi_world.proofs.Holdings.{stands-there}
+use Rattle.std.proofs.Common.{Option, ℕ, subst}
+use Rattle.gaspi_world.specs.Holds.{Holds}
 use Rattle.gaspi_world.proofs.holding.leave.Goals as goal
 
-pub give_back-requires-clause-value : goal.give_back-requires-clause-value
-give_back-requires-clause-value c = stands-there c.args.table.now.start.shape c.args.pass.now.known c.args.shard c.requires.held
+pub leave_both-requires-clause-held : goal.leave_both-requires-clause-held
+leave_both-requires-clause-held c =
+    subst (λ (o : Option ℕ). Holds c.args.table.now.start.shape (record { own = c.args.held.own; other = o; nodes = c.args.held.nodes }) c.args.pass.now.known) c.in-Some.is c.requires.held
+
+pub leave_own-requires-clause-held : goal.leave_own-requires-clause-held
+leave_own-requires-clause-held c =
+    subst (λ (o : Option ℕ). Holds c.args.table.now.start.shape (record { own = c.args.held.own; other = o; nodes = c.args.held.nodes }) c.args.pass.now.known) c.in-None.is c.requires.held

@@ -1,9 +1,15 @@
-use Rattle.std.proofs.Common.{sym, ap, subst}
-use Rattle.gaspi_world.specs.Moves.{Moves}
-use Rattle.gaspi_world.proofs.Transferring.{moves-is}
+use Rattle.std.proofs.Common.{ℕ, ap, subst}
+use Rattle.gaspi_world.specs.Moves.{IsMovedBehind}
+use Rattle.gaspi_world.proofs.TransferCommits.{moved-left}
 use Rattle.gaspi_world.proofs.transfers.move_one.Goals as goal
 
-pub returns-clause-moves : goal.returns-clause-moves
-returns-clause-moves c =
-    let moves = moves-is c.args.table.now.start.shape c.args.pass.now.known c.open.new.pass.known c.move_held-moving.new.pass.known c.args.origin _ c.move_held-moving.result c.in-Some.ensures.looked c.move_held-moving.ensures.held c.move_held-moving.ensures.moves in
-    subst (Moves c.args.table.now.start.shape c.args.origin c.args.pass.now.known c.move_held-moving.result) (sym (ap (λ p. p.known) c.leave.ensures.left)) moves
+pub returns-in-Ready-clause-moves : goal.returns-in-Ready-clause-moves
+returns-in-Ready-clause-moves c =
+    let w = c.args.table.now.start.shape in
+    let tries = c.in-Ready.ensures.tries in
+    let v = c.args.pass.now.known in
+    let u = c.try_front.new.pass.known in
+    let z = c.commit_front.new.pass.known in
+    let held = c.commit_front.new.held in
+    moved-left w held v u z c.leave.new.pass.known c.args.origin held.own held.other tries.1 (subst (λ (n : ℕ). IsMovedBehind w n u z) tries.3 c.commit_front.ensures.moved) c.commit_front.ensures.held
+    (ap (λ p. p.known) c.leave.ensures.left)

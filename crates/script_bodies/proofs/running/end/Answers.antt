@@ -7,4 +7,4 @@ use Rattle.script_bodies.proofs.running.end.Goals as goal
 pub returns-clause-ends : goal.returns-clause-ends
 returns-clause-ends g c = λ caller is active.
     ends-done c.args.world.now.start.shape caller c.args.pass.now.known c.make.new.pass.known (subst IsWorld c.shape.ensures c.limits.ensures.world) is.0 active
-    c.replies.ensures.recorded (Looks 1) c.make.result (c.make.ensures.ends refl) (c.make.ensures.calls.2 caller is)
+    c.replies.ensures.recorded (Looks 1) c.make.result (c.make.ensures.ample refl) (c.make.ensures.calls.2 caller is)

@@ -1,0 +1,43 @@
+-- A try to make a transfer that took its origin's shard, missed another one, looked, and gave the first back.
+use Rattle.std.proofs.Common.{◌≡◌, ℕ, List, [], ◌∷◌, refl, ap, sym, subst, ◌∙◌}
+use Rattle.commit_table.specs.Machine.{Machine}
+use Rattle.commit_table.specs.Calls.{Looked, Met}
+use Rattle.commit_table.specs.Views.{took, missed, looked, gave_back}
+use Rattle.commit_table.specs.declared.views.Known.{Known}
+use Rattle.commit_table.specs.declared.views.LockOp.TheVariants as lock_op
+use Rattle.commit_table.specs.declared.views.Turn.{Turn}
+use Rattle.gaspi_world.specs.Moves.{MissedLooking}
+
+module _ {S X E : Type 0} (m : Machine X E) (May : List E → ℕ → Type 0) where
+  all-moves : (v : Known S E) (i j number : ℕ) (g h : List E) (turns : List Turn) → Met (took v i g) j turns → Looked m (missed (took v i g) j turns) number h (looked (missed (took v i g) j turns) h)
+      → May h j → MissedLooking m v May (gave_back (looked (missed (took v i g) j turns) h) i)
+  all-moves v i j number g h turns met l may = record {
+    shard = j;
+    may = may;
+    missed = refl;
+    has_party = met.has_party;
+    before = met.before;
+    first = met.first;
+    met = met.goes_on;
+    added = λ p its. ((i, lock_op.Took) ∷ [], (i, lock_op.GaveBack) ∷ [], met.own p its, refl);
+    other = met.other;
+    holds = met.holds;
+    apart = met.apart;
+    goes_on = l.seen;
+    legal = l.legal;
+    own = l.own;
+    looks = refl;
+    mine = refl;
+    commits = refl;
+    party = refl;
+    start = refl;
+  }
+
+  pub missed-looking : (v t u x z : Known S E) (i j number : ℕ) (g h : List E) (turns : List Turn) → t ≡ took v i g → u ≡ missed t j turns → Met t j turns → Looked m u number h x → z ≡ gave_back x i → May h j → MissedLooking m v May z
+  missed-looking v t u x z i j number g h turns took_is missed_is met l last may =
+      let first : u ≡ missed (took v i g) j turns = missed_is ∙ ap (λ (y : Known S E). missed y j turns) took_is in
+      let whole : x ≡ looked (missed (took v i g) j turns) h = l.is ∙ ap (λ (y : Known S E). looked y h) first in
+      let there : Looked m (missed (took v i g) j turns) number h (looked (missed (took v i g) j turns) h) =
+      subst (λ (y : Known S E). Looked m (missed (took v i g) j turns) number h y) whole (subst (λ (y : Known S E). Looked m y number h x) first l) in
+      subst (λ (y : Known S E). MissedLooking m v May y) (sym (last ∙ ap (λ (y : Known S E). gave_back y i) whole))
+      (all-moves v i j number g h turns (subst (λ (y : Known S E). Met y j turns) took_is met) there may)
