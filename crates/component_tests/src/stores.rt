@@ -1,7 +1,8 @@
-//! The parts of a runtime that no command uses: segments, slots, drafts, queues, inboxes, groups and their turns,
+//! The parts of a runtime on which `run` stands: segments, slots, drafts, queues, inboxes, groups and their turns,
 //! and the nodes that are made of them.
 
 mod drafts;
+mod driven_nodes;
 mod groups;
 mod lists;
 mod messages;
