@@ -10,7 +10,7 @@ from pathlib import Path
 
 TOP = Path(__file__).resolve().parent.parent
 SEEDS = ("0", "1", "4294967295")  # the seeds under which what `step` writes is judged
-RACES = 25  # how often a world with a race is run on threads
+RACES = 63  # how often a world with a race is run on threads
 COMMANDS = ("run", "run --brief", "step", "step --brief", "check")  # what reads a world text
 ENDINGS = {"failed": 3, "stuck": 3, "limit": 8}  # how a script may end early, and the status
 ESCAPES = {"t": "\t", "r": "\r", "\\": "\\", '"': '"'}
