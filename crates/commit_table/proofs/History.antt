@@ -15,10 +15,10 @@ use Rattle.atomic_table.proofs.Lists.{at_set, set_else}
 use Rattle.commit_table.specs.declared.views.Known.{Known}
 use Rattle.commit_table.specs.declared.views.View.{View}
 use Rattle.commit_table.specs.Machine.{Machine, Laws, is_party, events_by}
-use Rattle.commit_table.specs.Views.{held_at, mine_after, looked, committed, at_rest, hearing}
+use Rattle.commit_table.specs.Views.{held_at, mine_after, looked, committed, at_rest, recalling}
 use Rattle.commit_table.specs.Rule.{Held, IsShard, Answers, IsParty, Fits, Rule}
 use Rattle.commit_table.specs.Steps.{Sees, Adds, looks, adds}
-use Rattle.commit_table.proofs.Lists.{prefix_self, prefix_none, prefix_more, prefix_length, at_here, one_there, events_by-append, held_among, held_apart}
+use Rattle.commit_table.proofs.Lists.{prefix_self, prefix_none, prefix_trans, prefix_more, prefix_length, at_here, one_there, events_by-append, held_among, held_apart}
 use Rattle.commit_table.proofs.Turning.{turned_kept}
 use Rattle.commit_table.proofs.Moves.{with_view, still}
 use Rattle.commit_table.proofs.Holding.{rest_fits, told, own_shard}
@@ -48,10 +48,10 @@ by_own party p h e f = events_by-append party p h (e ∷ []) ∙ own_party p (pa
 
 module _ {S X E : Type 0} (of : S → Machine X E) (laws : (s : S) → Laws (of s)) (start : S) (n : ℕ) where
   look_rest : (slots id : ℕ) (v : Known S E) (heard : List E)
-      → Allows (Rule (of start) start n) slots id (hearing v heard, []) 0 (λ x. x) (looks of n (step slots 0 0 0 none) (hearing v heard, []))
+      → Allows (Rule (of start) start n) slots id (recalling v heard, []) 0 (λ x. x) (looks of n (step slots 0 0 0 none) (recalling v heard, []))
   look_rest slots id v heard s r wide at _ =
       let h = r.history in
-      let f = r.views id (hearing v heard) at in
+      let f = r.views id (recalling v heard) at in
       let w = at_rest (looked v h) in
       let longer : length v.seen ≤ length h = prefix_length v.seen h f.seen in
       let seen : All (λ k. k ≤ length h) (v.looks ++ length h ∷ []) = All-append (λ k. k ≤ length h) v.looks (length h ∷ []) (λ k d lt. let a = f.looks k d lt in omega arith) (all_one (λ k. k ≤ length h) (length h) (omega arith)) in
@@ -59,23 +59,23 @@ module _ {S X E : Type 0} (of : S → Machine X E) (laws : (s : S) → Laws (of 
         w,
         keeps,
         tt,
-        still (of start) start n s r id (hearing v heard) w at 0 refl refl (λ q a. a) fits (λ q its. its) (λ q a. a) (r.turned.met id (hearing v heard) at),
+        still (of start) start n s r id (recalling v heard) w at 0 refl refl (λ _. refl) (λ q a. a) fits (λ q its. its) (λ q a. a) (r.turned.met id (recalling v heard) at),
         (
           h,
           refl,
-          told of laws start n s r id (hearing v heard) at (λ z. Sees of z v heard (get_or s.words 0 0) h) (record {
+          told of laws start n s r id (recalling v heard) at (λ z. Sees of z v heard (get_or s.words 0 0) h) (record {
             number = r.word;
             legal = r.legal;
             seen = f.seen;
-            told = f.heard;
+            told = prefix_trans heard v.seen h f.heard f.seen;
             own = λ p e. (f.party p e).2;
-            held = λ i g e. let own = own_shard of laws start n s r id (hearing v heard) at i g e in (own.2, own.3);
+            held = λ i g e. let own = own_shard of laws start n s r id (recalling v heard) at i g e in (own.2, own.3);
           }),
           λ p e. (f.party p e).0,
         ),
       )
 
-  pub look_allowed : (slots id k : ℕ) (me : Me (Option X) (View S E)) → me ≡ (hearing me.0.known me.0.heard, []) → k ≡ n
+  pub look_allowed : (slots id k : ℕ) (me : Me (Option X) (View S E)) → me ≡ (recalling me.0.known me.0.heard, []) → k ≡ n
       → Allows (Rule (of start) start n) slots id me 0 (λ x. x) (looks of k (step slots 0 0 0 none) me)
   look_allowed slots id k me ready count = subst (λ c. Allows (Rule (of start) start n) slots id me 0 (λ x. x) (looks of c (step slots 0 0 0 none) me)) (sym count)
       (subst (λ z. Allows (Rule (of start) start n) slots id z 0 (λ x. x) (looks of n (step slots 0 0 0 none) z)) (sym ready) (look_rest slots id me.0.known me.0.heard))
@@ -131,7 +131,7 @@ module _ {S X E : Type 0} (of : S → Machine X E) (laws : (s : S) → Laws (of 
       record {
         begun = f.begun;
         seen = prefix_more u.known.seen h (e ∷ []) f.seen;
-        heard = prefix_more u.heard h (e ∷ []) f.heard;
+        heard = f.heard;
         looks = f.looks;
         own_seen = f.own_seen;
         party = λ q own. let a = f.party q own in (a.0, a.1, apart q a.1 ∙ a.2);
@@ -139,7 +139,7 @@ module _ {S X E : Type 0} (of : S → Machine X E) (laws : (s : S) → Laws (of 
         held = f.held;
         none = f.none;
         gathers = f.gathers;
-        gathered = λ on j w there. let a = f.gathered on j w there in record { seen = prefix_more w.seen h (e ∷ []) a.seen; party = λ q own. let b = a.party q own in (b.0, b.1, apart q b.1 ∙ b.2) };
+        gathered = λ on j w there. let a = f.gathered on j w there in record { seen = a.seen; party = λ q own. let b = a.party q own in (b.0, b.1, apart q b.1 ∙ b.2) };
         closed = λ on. let a = f.closed on in let there = a.2 p lt in let b = (f.gathered a.0 there.0 there.1 there.2).party p there.3 in absurd (ne (let c = b.1 in cc));
       }
 
@@ -202,6 +202,7 @@ module _ {S X E : Type 0} (of : S → Machine X E) (laws : (s : S) → Laws (of 
         size = length-set s.words 0 ((x + 1) % 2 ^ 64) ∙ r.size;
         legal = legal;
         word = get_or-set_same s.words 0 ((x + 1) % 2 ^ 64) 0 (omega arith) ∙ counted;
+        whole = (id, w, at_here s.views id w (at_rest v) at, refl);
         shards = λ j lt. ⊎_elim
             (λ on.
             let a = holds j on in

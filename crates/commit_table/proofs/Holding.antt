@@ -44,7 +44,7 @@ module _ {S X E : Type 0} (of : S → Machine X E) (laws : (s : S) → Laws (of 
   resting v out heard = record { known = v; out = out; heard = heard; gives = 0; ends = 0; gathers = false; gathered = []; closed = false }
 
   pub rest_fits : (h : List E) (holder seat : ℕ → Option ℕ) (id : ℕ) (v : K) (out : Option ℕ) (heard : List E)
-      → ((s : S) → v.start ≡ Some s → s ≡ start) → IsPrefix v.seen h → IsPrefix heard h → All (λ k. k ≤ length v.seen) v.looks → IsOwn m v.party v.seen v.mine
+      → ((s : S) → v.start ≡ Some s → s ≡ start) → IsPrefix v.seen h → IsPrefix heard v.seen → All (λ k. k ≤ length v.seen) v.looks → IsOwn m v.party v.seen v.mine
       → ((p : ℕ) → v.party ≡ Some p → (p < n) × (seat p ≡ Some id) × (events_by m.party p h ≡ v.mine))
       → ((i : ℕ) (g : List E) → held_at v.held i ≡ Some g → (i < m.shards) × (holder i ≡ Some id))
       → (v.party ≡ None → (i : ℕ) → held_at v.held i ≡ None)
@@ -177,7 +177,7 @@ module _ {S X E : Type 0} (of : S → Machine X E) (laws : (s : S) → Laws (of 
         carries i (Some is.1.value),
         is.1.slot,
         moved m start n s r id (at_rest v) w at i 1 (set s.homes i none) (Some id) (inl is.0)
-            (λ j ne. set_else s.homes i j none ne) (λ j ne. held_else v.held i j (Some h) ne) (λ j ne e. absurd cc) (λ q a. a) here fits
+            (λ j ne. set_else s.homes i j none ne) (λ j ne. held_else v.held i j (Some h) ne) (λ j ne e. absurd cc) (λ e. e) (λ q a. a) here fits
             (record { shard = i; party = p; op = lock_op.Took } ∷ r.turns) (turn_made m.shards s.views r.turns r.holder r.seat i p id (at_rest v) w true at party party refl refl refl refl (f.party p party).1 r.turned),
         λ j e. same_takes i j x v (w, (i, Some is.1.value) ∷ []) (known, inl (hit, (is.1.value, h, refl, f.seen, told s r id (at_rest v) at (λ z. z.Legal h × z.Stands i is.1.value h) (r.legal, is.1.stands)))) e,
       ))
@@ -188,7 +188,7 @@ module _ {S X E : Type 0} (of : S → Machine X E) (laws : (s : S) → Laws (of 
         w,
         keeps,
         tt,
-        still_with m start n s r id (at_rest v) w at (suc i) refl refl (λ q a. a) fits turns
+        still_with m start n s r id (at_rest v) w at (suc i) refl refl (λ e. e) (λ q a. a) fits turns
             (turn_missed m.shards s.views r.turns r.holder r.seat i p id (at_rest v) w at party party refl refl refl refl (f.party p party).1 r.turned),
         λ j e. same_takes i j x v (w, []) (known, inr (held_word s h i (r.holder i) (r.shards i lt) miss, (turns, refl, met_other s r id i p v at lt party free miss))) e,
       ))
@@ -219,7 +219,7 @@ module _ {S X E : Type 0} (of : S → Machine X E) (laws : (s : S) → Laws (of 
         gives,
         tt,
         moved m start n s r id (reaching v i) w at i x (set s.homes i (some y)) (Some id) (inr own.1)
-            (λ j ne. set_else s.homes i j (some y) ne) (λ j ne. refl) (λ j ne e. absurd (ne (cc))) (λ q a. a) here fits
+            (λ j ne. set_else s.homes i j (some y) ne) (λ j ne. refl) (λ j ne e. absurd (ne (cc))) (λ e. e) (λ q a. a) here fits
             r.turns (turned_kept m.shards s.views r.turns r.holder (updated m start n r.holder i (Some id)) r.seat id (reaching v i) w at (held_still s r id i own.1) (λ j lt e q its. its) (λ q a. a) (r.turned.met id (reaching v i) at) r.turned),
         refl,
       )
@@ -254,7 +254,7 @@ module _ {S X E : Type 0} (of : S → Machine X E) (laws : (s : S) → Laws (of 
         carries i home.0,
         home.1,
         moved m start n s r id (at_rest v) w at i x (set s.homes i none) (Some id) (inr own.1)
-            (λ j ne. set_else s.homes i j none ne) (λ j ne. refl) (λ j ne e. absurd cc) (λ q a. a) here fits
+            (λ j ne. set_else s.homes i j none ne) (λ j ne. refl) (λ j ne e. absurd cc) (λ e. e) (λ q a. a) here fits
             r.turns (turned_kept m.shards s.views r.turns r.holder (updated m start n r.holder i (Some id)) r.seat id (at_rest v) w at (held_still s r id i own.1) (λ j lt e q its. its) (λ q a. a) (r.turned.met id (at_rest v) at) r.turned),
         λ j e. subst (λ z. Reaches of z v (w, (i, home.0) ∷ [])) (let q : i ≡ j = omega arith in q) (home.0, refl),
       )
@@ -285,7 +285,7 @@ module _ {S X E : Type 0} (of : S → Machine X E) (laws : (s : S) → Laws (of 
         gives,
         tt,
         moved m start n s r id (reaching v i) w at i 0 (set s.homes i (some (Some x))) None (inr own.1)
-            (λ j ne. set_else s.homes i j (some (Some x)) ne) (λ j ne. held_else v.held i j None ne) (λ j ne e. absurd (ne (cc))) (λ q a. a) here fits
+            (λ j ne. set_else s.homes i j (some (Some x)) ne) (λ j ne. held_else v.held i j None ne) (λ j ne e. absurd (ne (cc))) (λ e. e) (λ q a. a) here fits
             (record { shard = i; party = taker.0; op = lock_op.GaveBack } ∷ r.turns) (turn_made m.shards s.views r.turns r.holder r.seat i taker.0 id (reaching v i) w false at taker.1 taker.1 refl refl refl refl (f.party taker.0 taker.1).1 r.turned),
         λ j e. let P : ℕ → Type 0 = λ z. ◌≡◌ {A = Mine} (w, []) (at_rest (gave_back v z), []) in subst P (let q : i ≡ j = omega arith in q) refl,
       )

@@ -16,14 +16,15 @@ use Rattle.atomic_table.proofs.Lists.{at_set, set_else, set_again, at_longer, at
 use Rattle.commit_table.specs.declared.views.Known.{Known}
 use Rattle.commit_table.specs.declared.views.View.{View}
 use Rattle.commit_table.specs.Machine.{Machine, Laws, events_by}
-use Rattle.commit_table.specs.Views.{held_at, new_pass, noted, at_rest, hearing, maker, gatherer, closer, tally_of, spent}
-use Rattle.commit_table.specs.Rule.{Free, Held, IsShard, Remembers, Answers, IsParty, Gathered, Fits, Rule}
+use Rattle.commit_table.specs.Views.{longer, shorter, held_at, new_pass, noted, at_rest, also_seen, hearing, maker, gatherer, closer, gathering, tally_of, spent}
+use Rattle.commit_table.specs.Rule.{Free, Held, IsShard, Remembers, Answers, IsParty, IsWhole, Gathered, Fits, Rule}
 use Rattle.commit_table.specs.Calls.{AreShards, Closed, PassValue}
 use Rattle.commit_table.specs.Steps.{Ends, opens, ends}
-use Rattle.commit_table.proofs.Lists.{prefix_self, prefix_none, at_here, one_there, at_end, found_there, get_some, some_get}
+use Rattle.commit_table.proofs.Lists.{prefix_self, prefix_none, prefix_trans, prefix_length, events_between, at_here, one_there, at_end, found_there, get_some, some_get, map_more}
 use Rattle.commit_table.specs.Turns.{turns_by, GoOn, AreTurns}
 use Rattle.commit_table.proofs.Turning.{none_before, own_turns, unmade_turns, taken_kept, taken_grown, turns_kept, turns_grown, turned_kept, turned_grown}
-use Rattle.commit_table.proofs.Moves.{with_view, shard_kept, party_kept, still, updated, updated_here, updated_else}
+use Rattle.commit_table.proofs.Seen.{longer_begins, first_begins, second_begins, shorter_begins, first_whole, second_whole}
+use Rattle.commit_table.proofs.Moves.{with_view, shard_kept, party_kept, whole_kept, still, updated, updated_here, updated_else}
 use Rattle.commit_table.proofs.Holding.{rest_fits}
 
 module _ {S X E : Type 0} (of : S → Machine X E) (laws : (s : S) → Laws (of s)) (start : S) (n : ℕ) where
@@ -51,6 +52,9 @@ module _ {S X E : Type 0} (of : S → Machine X E) (laws : (s : S) → Laws (of 
   party_grown s h u p None r = r
   party_grown s h u p (Some k) r = (r.0, at_longer s.views (u ∷ []) k r.0 r.1, r.2)
 
+  whole_grown : (views : List V) (h : List E) (u : V) → IsWhole M start n views h → IsWhole M start n (views ++ u ∷ []) h
+  whole_grown views h u r = (r.0, r.1, at_longer views (u ∷ []) r.0 r.1 r.2, r.3)
+
   -- a new view that has no party
   pub grown : (s : St) (r : R s) (u : V) → u.known.met ≡ [] → Fits M start n r.history r.holder r.seat (length s.views) u → R (with_one s u)
   grown s r u bare fits = record {
@@ -61,6 +65,7 @@ module _ {S X E : Type 0} (of : S → Machine X E) (laws : (s : S) → Laws (of 
     size = r.size;
     legal = r.legal;
     word = r.word;
+    whole = whole_grown s.views r.history u r.whole;
     shards = λ j lt. shard_grown s r.history u j (r.holder j) (r.shards j lt);
     parties = λ p. party_grown s r.history u p (r.seat p) (r.parties p);
     views = λ k w there. ⊎_elim (λ t. r.views k w t)
@@ -72,7 +77,7 @@ module _ {S X E : Type 0} (of : S → Machine X E) (laws : (s : S) → Laws (of 
   bare_fits : (h : List E) (holder seat : ℕ → Option ℕ) (id : ℕ) (v : Known S E) (out : Option ℕ) (heard : List E)
       → ((s : S) → v.start ≡ Some s → s ≡ start) → IsPrefix v.seen h → v.party ≡ None → v.looks ≡ [] → v.held ≡ [] → Fits M start n h holder seat id (at_rest v)
   bare_fits h holder seat id v out heard begun seen party looks held =
-      rest_fits of laws start n h holder seat id v None [] begun seen (prefix_none h)
+      rest_fits of laws start n h holder seat id v None [] begun seen (prefix_none v.seen)
       (subst (λ ks. All (λ k. k ≤ length v.seen) ks) (sym looks) (All-nil (λ k. k ≤ length v.seen)))
       (λ p e. absurd cc)
       (λ p e. absurd cc) (λ i g e. let a : held_at v.held i ≡ None = ap (λ z. held_at z i) held in absurd cc) (λ e i. ap (λ z. held_at z i) held)
@@ -87,13 +92,13 @@ module _ {S X E : Type 0} (of : S → Machine X E) (laws : (s : S) → Laws (of 
   -- a view that takes in passes, or remembers what they were
   keeper_fits : (h : List E) (holder seat : ℕ → Option ℕ) (id : ℕ) (v : V) → ((s : S) → v.known.start ≡ Some s → s ≡ start) → IsPrefix v.known.seen h
       → v.heard ≡ [] → v.known.looks ≡ [] → v.known.party ≡ None → v.known.held ≡ [] → v.ends ≡ 0
-      → (v.gathers ≡ true → (k : ℕ) (w : Known S E) → get_elem? v.gathered k ≡ some w → Gathered M start n h seat id w)
+      → (v.gathers ≡ true → (k : ℕ) (w : Known S E) → get_elem? v.gathered k ≡ some w → Gathered M start n h v.known.seen seat id w)
       → (v.closed ≡ true → (v.gathers ≡ true) × (v.known.seen ≡ h) × ((p : ℕ) → p < n → Remembers M start n v.gathered p))
       → Fits M start n h holder seat id v
   keeper_fits h holder seat id v begun seen heard looks party held makes gathered closed = record {
     begun = begun;
     seen = seen;
-    heard = subst (λ z. IsPrefix z h) (sym heard) (prefix_none h);
+    heard = subst (λ z. IsPrefix z v.known.seen) (sym heard) (prefix_none v.known.seen);
     looks = subst (λ ks. All (λ k. k ≤ length v.known.seen) ks) (sym looks) (All-nil (λ k. k ≤ length v.known.seen));
     own_seen = λ p e. absurd cc;
     party = λ p e. absurd cc;
@@ -115,7 +120,7 @@ module _ {S X E : Type 0} (of : S → Machine X E) (laws : (s : S) → Laws (of 
 
   pub opens_enters : (slots : ℕ) → Enters R slots 0 (λ x w. opens of (step slots 0 0 0 none) (maker start 0 n, []) x (w, []))
   opens_enters slots s r wide _ =
-      let u = gatherer start [] in
+      let u = gatherer start [] [] in
       (u, grown s r u refl (keeper_fits r.history r.holder r.seat (length s.views) u (λ z e. cc) (prefix_none r.history) refl refl refl refl refl (λ e k w there. absurd (some-ne-none w (sym there))) (λ e. absurd cc)), refl)
 
   -- other views, where a party changes hands that was not theirs
@@ -140,7 +145,7 @@ module _ {S X E : Type 0} (of : S → Machine X E) (laws : (s : S) → Laws (of 
   maker_fits h holder seat id k rest = record {
     begun = λ z e. cc;
     seen = prefix_none h;
-    heard = prefix_none h;
+    heard = prefix_none [];
     looks = All-nil (λ j. j ≤ 0);
     own_seen = λ p e. absurd cc;
     party = λ p e. absurd cc;
@@ -164,7 +169,7 @@ module _ {S X E : Type 0} (of : S → Machine X E) (laws : (s : S) → Laws (of 
       let seat' = updated M start n r.seat k (Some new) in
       let one = with_view M start n s s.words s.homes id left in
       let mine = f.makes k (omega arith) lt in
-      let own = rest_fits of laws start n h r.holder seat' new (new_pass start (Some k) []) None [] (λ z e. cc) (prefix_none h) (prefix_none h) (All-nil (λ j. j ≤ 0)) (λ p e. refl)
+      let own = rest_fits of laws start n h r.holder seat' new (new_pass start (Some k) []) None [] (λ z e. cc) (prefix_none h) (prefix_none []) (All-nil (λ j. j ≤ 0)) (λ p e. refl)
       (λ p e. let q : k ≡ p = cc in subst (λ z. (z < n) × (seat' z ≡ Some new) × (events_by M.party z h ≡ [])) q (lt, updated_here M start n r.seat k k (Some new) refl, mine.2)) (λ i g e. absurd cc) (λ e i. refl) in
       let rest = maker_fits h r.holder seat' id (k + 1) (λ p low high. let a = f.makes p (omega arith) high in (updated_else M start n r.seat k p (Some new) (λ e. absurd (omega arith)) ∙ a.1, a.2)) in
       record {
@@ -175,6 +180,7 @@ module _ {S X E : Type 0} (of : S → Machine X E) (laws : (s : S) → Laws (of 
         size = r.size;
         legal = r.legal;
         word = r.word;
+        whole = whole_grown (set s.views id left) h right (whole_kept M start n s.views h id v left at (λ e. e) r.whole);
         shards = λ j below. shard_grown one h right j (r.holder j) (shard_kept M start n s h s.words s.homes id v left j at refl refl (λ g e. absurd cc) (λ e. absurd cc) (r.holder j) (r.shards j below));
         parties = λ p. dite (ℕ_discrete p k)
             (λ same. subst (λ o. IsParty M start n (with_one one right) h p o) (sym (updated_here M start n r.seat k p (Some new) same)) (right, at_last (set s.views id left) right new refl, inl (ap Some (sym same))))
@@ -205,7 +211,20 @@ module _ {S X E : Type 0} (of : S → Machine X E) (laws : (s : S) → Laws (of 
 
   -- what is left of a seat fits in any place
   spent_fits : (h : List E) (holder seat : ℕ → Option ℕ) (id : ℕ) → Fits M start n h holder seat id spent
-  spent_fits h holder seat id = rest_fits of laws start n h holder seat id (spent.known) None [] (λ z e. absurd cc) (prefix_none h) (prefix_none h) (All-nil (λ j. j ≤ 0)) (λ p e. absurd cc) (λ p e. absurd cc) (λ i g e. absurd cc) (λ e i. refl)
+  spent_fits h holder seat id = rest_fits of laws start n h holder seat id (spent.known) None [] (λ z e. absurd cc) (prefix_none h) (prefix_none []) (All-nil (λ j. j ≤ 0)) (λ p e. absurd cc) (λ p e. absurd cc) (λ i g e. absurd cc) (λ e i. refl)
+
+  -- two seats become one, which has seen the whole history if one of them had
+  whole_joined : (views : List V) (h : List E) (id other : ℕ) (v w both : V) → get_elem? views id ≡ some v → get_elem? views other ≡ some w → ¬ (other ≡ id)
+      → (v.known.seen ≡ h → both.known.seen ≡ h) → (w.known.seen ≡ h → both.known.seen ≡ h)
+      → IsWhole M start n views h → IsWhole M start n (set (set views id both) other spent) h
+  whole_joined views h id other v w both at there apart mine yours r =
+      let kept : both.known.seen ≡ h → IsWhole M start n (set (set views id both) other spent) h = λ e.
+      (id, both, set_else (set views id both) other id spent (λ z. apart (sym z)) ∙ at_here views id both v at, e) in
+      dite (ℕ_discrete r.0 id)
+      (λ is. let be : v ≡ r.1 = one_there views id v r.1 at (subst (λ (z : ℕ). get_elem? views z ≡ some r.1) is r.2) in kept (mine (ap (λ (z : V). z.known.seen) be ∙ r.3)))
+      (λ ne. dite (ℕ_discrete r.0 other)
+      (λ is. let be : w ≡ r.1 = one_there views other w r.1 there (subst (λ (z : ℕ). get_elem? views z ≡ some r.1) is r.2) in kept (yours (ap (λ (z : V). z.known.seen) be ∙ r.3)))
+      (λ off. (r.0, r.1, set_else (set views id both) other r.0 spent off ∙ (set_else views id r.0 both ne ∙ r.2), r.3)))
 
   -- a note is taken in
   pub note_joins : (id other : ℕ) (v w : Known S E) → w.party ≡ None → Joins R id (at_rest v) other (at_rest w) (hearing v w.seen) spent
@@ -217,7 +236,11 @@ module _ {S X E : Type 0} (of : S → Machine X E) (laws : (s : S) → Laws (of 
       let g = r.views other (at_rest w) was in
       let one = with_view M start n s s.words s.homes id both in
       let two = with_view M start n one s.words s.homes other spent in
-      let fits = rest_fits of laws start n h r.holder r.seat id v None w.seen f.begun f.seen g.seen f.looks f.own_seen f.party f.held f.none in
+      let begins = first_begins v.seen w.seen h f.seen g.seen in
+      let whole = longer_begins v.seen w.seen h f.seen g.seen in
+      let looks : All (λ k. k ≤ length (longer v.seen w.seen)) v.looks = λ k d lt. let a = f.looks k d lt in let b = prefix_length v.seen (longer v.seen w.seen) begins in omega arith in
+      let fits = rest_fits of laws start n h r.holder r.seat id (also_seen v w.seen) None (shorter v.seen w.seen) f.begun whole (shorter_begins v.seen w.seen h f.seen g.seen) looks
+      (λ p e. events_between M.party p v.seen (longer v.seen w.seen) h v.mine begins whole (f.own_seen p e) (f.party p e).2) f.party f.held f.none in
       record {
         history = h;
         holder = r.holder;
@@ -226,6 +249,7 @@ module _ {S X E : Type 0} (of : S → Machine X E) (laws : (s : S) → Laws (of 
         size = r.size;
         legal = r.legal;
         word = r.word;
+        whole = whole_joined s.views h id other (at_rest v) (at_rest w) both at was apart (first_whole v.seen w.seen h f.seen g.seen) (second_whole v.seen w.seen h f.seen g.seen) r.whole;
         shards = λ j lt. shard_kept M start n one h s.words s.homes other (at_rest w) spent j there refl refl (λ x e. absurd (let a = g.none bare j in cc)) (λ e. e) (r.holder j)
             (shard_kept M start n s h s.words s.homes id (at_rest v) both j at refl refl (λ x e. e) (λ e. e) (r.holder j) (r.shards j lt));
         parties = λ p. party_kept M start n one h s.words s.homes other (at_rest w) spent p there
@@ -255,12 +279,12 @@ module _ {S X E : Type 0} (of : S → Machine X E) (laws : (s : S) → Laws (of 
   remembers_more l w p a = (a.0, a.1, at_longer l (w ∷ []) a.0 a.1 a.2, a.3)
 
   -- a pass is taken in
-  pub pass_joins : (id other : ℕ) (l : List (Known S E)) (w : Known S E) (p : ℕ) → w.party ≡ Some p → ((i : ℕ) → held_at w.held i ≡ None)
-      → Joins R id (gatherer start l) other (at_rest w) (gatherer start (l ++ w ∷ [])) spent
-  pass_joins id other l w p party bare s r at apart there =
+  pub pass_joins : (id other : ℕ) (seen : List E) (l : List (Known S E)) (w : Known S E) (p : ℕ) → w.party ≡ Some p → ((i : ℕ) → held_at w.held i ≡ None)
+      → Joins R id (gatherer start seen l) other (at_rest w) (gathering (gatherer start seen l) w) spent
+  pass_joins id other seen l w p party bare s r at apart there =
       let h = r.history in
-      let v : V = gatherer start l in
-      let both : V = gatherer start (l ++ w ∷ []) in
+      let v : V = gatherer start seen l in
+      let both : V = gathering v w in
       let f = r.views id v at in
       let was : get_elem? s.views other ≡ some (at_rest w) = sym (set_else s.views id other both apart) ∙ there in
       let g = r.views other (at_rest w) was in
@@ -272,14 +296,14 @@ module _ {S X E : Type 0} (of : S → Machine X E) (laws : (s : S) → Laws (of 
       let same : (q : ℕ) → r.seat q ≡ Some id → seat' q ≡ Some id = λ q e. dite (ℕ_discrete q p) (λ is. updated_here M start n r.seat p q (Some id) is) (λ ne. updated_else M start n r.seat p q (Some id) ne ∙ e) in
       let here : get_elem? (set s.views id both) id ≡ some both = at_here s.views id both v at in
       let stays : get_elem? two.views id ≡ some both = set_else (set s.views id both) other id spent (λ e. apart (sym e)) ∙ here in
-      let new : Gathered M start n h seat' id w = record {
-        seen = g.seen;
+      let new : Gathered M start n h (longer seen w.seen) seat' id w = record {
+        seen = second_begins seen w.seen h f.seen g.seen;
         party = λ q e. let is : p ≡ q = cc in subst (λ z. (z < n) × (seat' z ≡ Some id) × (events_by M.party z h ≡ w.mine)) is (own.0, updated_here M start n r.seat p p (Some id) refl, own.2);
       } in
-      let fits = keeper_fits h r.holder seat' id both (λ z e. cc) (prefix_none h) refl refl refl refl refl
+      let fits = keeper_fits h r.holder seat' id both (λ z e. cc) (longer_begins seen w.seen h f.seen g.seen) refl refl refl refl refl
       (λ e k u t. ⊎_elim
-      (λ old. let a = f.gathered refl k u old in record { seen = a.seen; party = λ q its. let b = a.party q its in (b.0, same q b.1, b.2) })
-      (λ last. subst (λ (z : Known S E). Gathered M start n h seat' id z) last.1 new)
+      (λ old. let a = f.gathered refl k u old in record { seen = prefix_trans u.seen seen (longer seen w.seen) a.seen (first_begins seen w.seen h f.seen g.seen); party = λ q its. let b = a.party q its in (b.0, same q b.1, b.2) })
+      (λ last. subst (λ (z : Known S E). Gathered M start n h (longer seen w.seen) seat' id z) last.1 new)
       (at_end l w u k t))
       (λ e. absurd cc) in
       record {
@@ -290,6 +314,7 @@ module _ {S X E : Type 0} (of : S → Machine X E) (laws : (s : S) → Laws (of 
         size = r.size;
         legal = r.legal;
         word = r.word;
+        whole = whole_joined s.views h id other v (at_rest w) both at was apart (first_whole seen w.seen h f.seen g.seen) (second_whole seen w.seen h f.seen g.seen) r.whole;
         shards = λ j lt. shard_kept M start n one h s.words s.homes other (at_rest w) spent j there refl refl (λ x e. absurd (let a = bare j in cc)) (λ e. e) (r.holder j)
             (shard_kept M start n s h s.words s.homes id v both j at refl refl (λ x e. absurd cc) (λ e. absurd cc) (r.holder j) (r.shards j lt));
         parties = λ q. dite (ℕ_discrete q p)
@@ -333,30 +358,32 @@ module _ {S X E : Type 0} (of : S → Machine X E) (laws : (s : S) → Laws (of 
   unanswered s r p over (Some k) z = absurd (over (answered r.history r.holder r.seat k z.0 p (r.views k z.0 z.1) z.2))
 
   -- the last look: all passes were taken in
-  last_rest : (slots id : ℕ) (l : List (Known S E)) → ((p : ℕ) → p < n → Remembers M start n l p)
-      → Allows R slots id (gatherer start l, []) 0 (λ x. x) (ends of (step slots 0 0 0 none) (gatherer start l, []))
-  last_rest slots id l all s r wide at _ =
+  last_rest : (slots id : ℕ) (seen : List E) (l : List (Known S E)) → ((p : ℕ) → p < n → Remembers M start n l p)
+      → Allows R slots id (gatherer start seen l, []) 0 (λ x. x) (ends of (step slots 0 0 0 none) (gatherer start seen l, []))
+  last_rest slots id seen l all s r wide at _ =
       let h = r.history in
-      let v : V = gatherer start l in
+      let v : V = gatherer start seen l in
       let w : V = closer start h l in
       let f = r.views id v at in
-      let fits = keeper_fits h r.holder r.seat id w (λ z e. cc) (prefix_self h) refl refl refl refl refl f.gathered (λ e. (refl, refl, all)) in
+      let begun : (k : ℕ) (u : Known S E) → get_elem? l k ≡ some u → IsPrefix u.seen h = λ k u there. prefix_trans u.seen seen h (f.gathered refl k u there).seen f.seen in
+      let fits = keeper_fits h r.holder r.seat id w (λ z e. cc) (prefix_self h) refl refl refl refl refl
+      (λ e k u there. record { seen = begun k u there; party = (f.gathered refl k u there).party }) (λ e. (refl, refl, all)) in
       let told : Ends of M l h = record {
         legal = r.legal;
-        seen = λ k u there. (f.gathered refl k u there).seen;
+        seen = begun;
         own = λ k u there p its. ((f.gathered refl k u there).party p its).2;
         others = λ p apart. unanswered s r p (λ lt. let a = all p lt in apart a.0 a.1 a.2 a.3) (r.seat p) (r.parties p);
       } in (
         w,
         keeps,
         tt,
-        still M start n s r id v w at 0 refl refl (λ q a. a) fits (λ q its. its) (λ q a. a) (r.turned.met id v at),
+        still M start n s r id v w at 0 refl refl (λ _. refl) (λ q a. a) fits (λ q its. its) (λ q a. a) (r.turned.met id v at),
         λ z e. let is : start ≡ z = cc in subst (λ (y : S). (k : List E) × (◌≡◌ {A = Me (Option X) V} (w, []) (closer y k l, [])) × (get_or s.words 0 0 ≡ length k) × Ends of (of y) l k) is (h, refl, r.word, told),
       )
 
-  pub last_allowed : (slots id : ℕ) (me : Me (Option X) V) (l : List (Known S E)) → me ≡ (gatherer start l, []) → ((p : ℕ) → p < n → Remembers M start n l p)
+  pub last_allowed : (slots id : ℕ) (me : Me (Option X) V) (seen : List E) (l : List (Known S E)) → me ≡ (gatherer start seen l, []) → ((p : ℕ) → p < n → Remembers M start n l p)
       → Allows R slots id me 0 (λ x. x) (ends of (step slots 0 0 0 none) me)
-  last_allowed slots id me l ready all = subst (λ z. Allows R slots id z 0 (λ x. x) (ends of (step slots 0 0 0 none) z)) (sym ready) (last_rest slots id l all)
+  last_allowed slots id me seen l ready all = subst (λ z. Allows R slots id z 0 (λ x. x) (ends of (step slots 0 0 0 none) z)) (sym ready) (last_rest slots id seen l all)
 
   -- once the table is closed no view has a party, so no shard is held
   holder_known : (s : St) (r : R s) (id : ℕ) (h : List E) (l : List (Known S E)) → get_elem? s.views id ≡ some (closer start h l) → (i k : ℕ) (x : Held M start n s r.history i k) → (o : Option ℕ) → x.view.known.party ≡ o → ⊥
@@ -406,6 +433,7 @@ module _ {S X E : Type 0} (of : S → Machine X E) (laws : (s : S) → Laws (of 
     size = size ∙ add-one M.shards;
     legal = (laws start).opening;
     word = zeros 0;
+    whole = (0, maker start 0 n, refl, refl);
     shards = λ i lt. let a = values i lt in record { word = zeros (suc i); value = a.0; slot = at_map (λ (y : Option X). some y) xs i (Some a.0) a.1; stands = a.2 };
     parties = λ p. party_first ws xs p (dec_lt p n);
     views = λ id v there. first_view ws id v there;
@@ -432,10 +460,20 @@ module _ {S X E : Type 0} (of : S → Machine X E) (laws : (s : S) → Laws (of 
   hear_allowed id other me you ready your bare = subst (λ (z : V). Joins R id z other you.0 (hearing z.known you.0.known.seen) spent) (sym (ap (λ z. z.0) ready))
       (subst (λ (z : V). Joins R id (at_rest me.0.known) other z (hearing me.0.known z.known.seen) spent) (sym (ap (λ z. z.0) your)) (note_joins id other me.0.known you.0.known bare))
 
-  pub gather_allowed : (id other : ℕ) (l : List (Known S E)) (me you : Me (Option X) V) → me ≡ (gatherer start l, []) → you ≡ (at_rest you.0.known, []) → (p : ℕ) → you.0.known.party ≡ Some p
-      → ((i : ℕ) → held_at you.0.known.held i ≡ None) → Joins R id me.0 other you.0 (record me.0 { gathered = me.0.gathered ++ you.0.known ∷ [] }) spent
-  gather_allowed id other l me you ready your p party bare = subst (λ (z : V). Joins R id z other you.0 (record z { gathered = z.gathered ++ you.0.known ∷ [] }) spent) (sym (ap (λ z. z.0) ready))
-      (subst (λ (z : V). Joins R id (gatherer start l) other z (gatherer start (l ++ z.known ∷ [])) spent) (sym (ap (λ z. z.0) your)) (pass_joins id other l you.0.known p party bare))
+  pub gather_allowed : (id other : ℕ) (seen : List E) (l : List (Known S E)) (me you : Me (Option X) V) → me ≡ (gatherer start seen l, []) → you ≡ (at_rest you.0.known, []) → (p : ℕ) → you.0.known.party ≡ Some p
+      → ((i : ℕ) → held_at you.0.known.held i ≡ None) → Joins R id me.0 other you.0 (gathering me.0 you.0.known) spent
+  gather_allowed id other seen l me you ready your p party bare = subst (λ (z : V). Joins R id z other you.0 (gathering z you.0.known) spent) (sym (ap (λ z. z.0) ready))
+      (subst (λ (z : V). Joins R id (gatherer start seen l) other z (gathering (gatherer start seen l) z.known) spent) (sym (ap (λ z. z.0) your)) (pass_joins id other seen l you.0.known p party bare))
+
+  -- one pass more was taken in
+  pub gathered_more : (me after : Me (Option X) V) (passes : List (PassValue S E)) (p : PassValue S E) (w : Known S E) → me ≡ (gatherer start me.0.known.seen (map (λ q. q.known) passes), []) → w ≡ p.known
+      → after ≡ (gathering me.0 w, []) → after ≡ (gatherer start after.0.known.seen (map (λ q. q.known) (passes ++ p ∷ [])), [])
+  gathered_more me after passes p w before known is =
+      let seen = longer me.0.known.seen w.seen in
+      let l : List (Known S E) = map (λ q. q.known) (passes ++ p ∷ []) in
+      let one : after ≡ (gatherer start seen (map (λ q. q.known) passes ++ w ∷ []), []) = is ∙ ap (λ z. (gathering z.0 w, [])) before in
+      let all : after ≡ (gatherer start seen l, []) = one ∙ ap (λ z. (gatherer start seen z, [])) (map_more (λ q. q.known) passes p (map (λ q. q.known) passes) w refl known) in
+      all ∙ ap (λ z. (gatherer start z l, [])) (sym (ap (λ z. z.0.known.seen) all))
 
   zeros_at : (k i : ℕ) → ◌≡◌ {A = ℕ} (get_or (replicate k 0) i 0) 0
   zeros_at zero i = refl

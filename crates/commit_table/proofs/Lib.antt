@@ -1,4 +1,5 @@
 pub mod Lists
+pub mod Seen
 pub mod Turning
 pub mod Moves
 pub mod Missing

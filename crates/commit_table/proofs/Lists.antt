@@ -35,6 +35,17 @@ module _ {A : Type 0} where
       go [] is = sym (append-nil xs) ∙ is
       go (x ∷ rest) is = absurd (let m = ap length is in let l = length-append xs (x ∷ rest) in let o = ap length q.1 in let r = length-append ys q.0 in omega arith)
 
+  -- of two beginnings of one list the shorter begins the longer
+  pub prefix_within : (xs ys zs : List A) → IsPrefix xs zs → IsPrefix ys zs → length xs ≤ length ys → IsPrefix xs ys
+  prefix_within [] ys zs p q le = prefix_none ys
+  prefix_within (x ∷ xs) [] zs p q le = absurd (omega arith)
+  prefix_within (x ∷ xs) (y ∷ ys) zs p q le =
+      let both : x ∷ (xs ++ p.0) ≡ y ∷ (ys ++ q.0) = p.1 ∙ sym q.1 in
+      let first : x ≡ y = cc in
+      let later : xs ++ p.0 ≡ ys ++ q.0 = cc in
+      let rest = prefix_within xs ys (ys ++ q.0) (p.0, later) (q.0, refl) (omega arith) in
+      (rest.0, subst (λ z. x ∷ (xs ++ rest.0) ≡ z ∷ ys) first (ap (λ zs. x ∷ zs) rest.1))
+
   -- where something stands, it can be replaced
   pub at_here : (l : List A) (i : ℕ) (a b : A) → get_elem? l i ≡ some b → get_elem? (set l i a) i ≡ some a
   at_here [] i a b e = absurd (some-ne-none b (sym e))
@@ -63,6 +74,14 @@ module _ {E : Type 0} (party : E → Option ℕ) (p : ℕ) where
       let r = events_by-append xs ys in
       let P : Bool → Type 0 = λ b. cond b (x ∷ events_by party p (xs ++ ys)) (events_by party p (xs ++ ys)) ≡ cond b (x ∷ events_by party p xs) (events_by party p xs) ++ events_by party p ys in
       elim (is_party p (party x)) as P [ true ↦ ap (λ l. x ∷ l) r | false ↦ r ]
+
+  -- what lies between two histories with the same events of the party has just these
+  pub events_between : (xs ys zs mine : List E) → IsPrefix xs ys → IsPrefix ys zs → events_by party p xs ≡ mine → events_by party p zs ≡ mine → events_by party p ys ≡ mine
+  events_between xs ys zs mine below above first last =
+      let by = events_by party p in
+      prefix_both (by ys) mine
+      (by above.0, sym (events_by-append ys above.0) ∙ (ap by above.1 ∙ last))
+      (by below.0, ap (λ z. z ++ by below.0) (sym first) ∙ (sym (events_by-append xs below.0) ∙ ap by below.1))
 
 module _ {E : Type 0} where
   pub held_here : (held : List (ℕ × Option (List E))) (i : ℕ) (g : Option (List E)) → held_at ((i, g) ∷ held) i ≡ g

@@ -7,6 +7,8 @@ use Rattle.commit_table.specs.declared.views.View.{View}
 use Rattle.commit_table.specs.Machine.{Machine}
 use Rattle.commit_table.specs.Steps.{Of, Looks, Commits}
 use Rattle.commit_table.specs.Calls.{IsSound, Looked, Committed}
+use Rattle.commit_table.specs.Views.{shorter, also_seen}
+use Rattle.commit_table.proofs.Seen.{both_begin}
 
 module _ {S X E : Type 0} (of : S → Machine X E) where
   abbrev pub Told : S → ℕ → Known S E → List E → ℕ → Known S E → Type 0
@@ -33,6 +35,13 @@ module _ {S X E : Type 0} (of : S → Machine X E) where
   told_of start n v u heard other found after same same_heard begun t =
       let at_u = subst (λ z. Looks of n z heard found after) same t in
       told_there start n u other found after begun (subst (λ z. Looks of n u z found after) same_heard at_u)
+
+  -- a look after a join goes on from what the seat had seen, and from what the other had
+  pub told_both : (start : S) (n : ℕ) (v : Known S E) (s : List E) (found : ℕ) (w : Known S E) → Told start n (also_seen v s) (shorter v.seen s) found w → Told start n v s found w
+  told_both start n v s found w t =
+      let l = t.1 in
+      let both = both_begin v.seen s t.0 l.seen t.2 in
+      (t.0, record { is = l.is; number_is = l.number_is; legal = l.legal; seen = both.0; own = l.own; held = l.held }, both.1, t.3, t.4)
 
   pub sound_of : (start : S) (v u : Known S E) → v ≡ u → u.start ≡ Some start → Of of v (λ m. IsSound m v) → IsSound (of start) u
   sound_of start v u same begun sound = (subst (λ z. Of of z (λ m. IsSound m z)) same sound) start begun

@@ -13,7 +13,7 @@ use Rattle.commit_table.specs.Machine.{Machine}
 use Rattle.commit_table.specs.declared.views.Turn.{Turn}
 use Rattle.commit_table.specs.Views.{held_at}
 use Rattle.commit_table.specs.Turns.{GoOn, Recalls, Turned}
-use Rattle.commit_table.specs.Rule.{IsShard, Answers, IsParty, Fits, Rule}
+use Rattle.commit_table.specs.Rule.{IsShard, Answers, IsParty, IsWhole, Fits, Rule}
 use Rattle.commit_table.proofs.Lists.{at_here, one_there}
 use Rattle.commit_table.proofs.Turning.{turned_kept}
 
@@ -73,17 +73,26 @@ module _ {S X E : Type 0} (m : Machine X E) (start : S) (n : ℕ) where
       (w, subst (λ (z : ℕ). get_elem? (set s.views id w) z ≡ some w) (sym same) (at_here s.views id w v at), answers (subst (λ (z : V). Answers m start n z p) (sym is) r.2)))
       (λ ne. (r.0, set_else s.views id k w ne ∙ r.1, r.2))
 
+  -- some view has seen the whole history, if it was this one also as it is now
+  pub whole_kept : (views : List V) (h : List E) (id : ℕ) (v w : V) → get_elem? views id ≡ some v → (v.known.seen ≡ h → w.known.seen ≡ h) → IsWhole m start n views h → IsWhole m start n (set views id w) h
+  whole_kept views h id v w at same r = dite (ℕ_discrete r.0 id)
+      (λ is.
+      let be : v ≡ r.1 = one_there views id v r.1 at (subst (λ (z : ℕ). get_elem? views z ≡ some r.1) is r.2) in
+      (id, w, at_here views id w v at, same (ap (λ (z : V). z.known.seen) be ∙ r.3)))
+      (λ ne. (r.0, r.1, set_else views id r.0 w ne ∙ r.2, r.3))
+
   -- the history stays, and each part of the rule is kept
   pub rebuild : (s : St) (r : R s) (id : ℕ) (v w : V) → get_elem? s.views id ≡ some v
       → (ws : List ℕ) (hs : List (Maybe (Option X))) (holder : ℕ → Option ℕ)
       → length ws ≡ length s.words → get_or ws 0 0 ≡ get_or s.words 0 0
+      → (v.known.seen ≡ r.history → w.known.seen ≡ r.history)
       → ((j : ℕ) → j < m.shards → IsShard m start n (with_view s ws hs id w) r.history j (holder j))
       → ((p : ℕ) → Answers m start n v p → Answers m start n w p)
       → ((k : ℕ) (u : V) → k ≢ id → Fits m start n r.history r.holder r.seat k u → Fits m start n r.history holder r.seat k u)
       → Fits m start n r.history holder r.seat id w
       → (turns : List Turn) → Turned m.shards (set s.views id w) turns holder r.seat
       → R (with_view s ws hs id w)
-  rebuild s r id v w at ws hs holder size word shards answers others fits turns turned = record {
+  rebuild s r id v w at ws hs holder size word seen shards answers others fits turns turned = record {
     history = r.history;
     holder = holder;
     seat = r.seat;
@@ -91,6 +100,7 @@ module _ {S X E : Type 0} (m : Machine X E) (start : S) (n : ℕ) where
     size = size ∙ r.size;
     legal = r.legal;
     word = word ∙ r.word;
+    whole = whole_kept s.views r.history id v w at seen r.whole;
     shards = shards;
     parties = λ p. party_kept s r.history ws hs id v w p at (answers p) (r.seat p) (r.parties p);
     views = λ k u there. ⊎_elim
@@ -102,24 +112,24 @@ module _ {S X E : Type 0} (m : Machine X E) (start : S) (n : ℕ) where
 
   -- nothing moved but the turns: the seat has another view, which holds and answers for the same
   pub still_with : (s : St) (r : R s) (id : ℕ) (v w : V) → get_elem? s.views id ≡ some v
-      → (k : ℕ) → w.known.held ≡ v.known.held → w.out ≡ v.out → ((p : ℕ) → Answers m start n v p → Answers m start n w p)
+      → (k : ℕ) → w.known.held ≡ v.known.held → w.out ≡ v.out → (v.known.seen ≡ r.history → w.known.seen ≡ r.history) → ((p : ℕ) → Answers m start n v p → Answers m start n w p)
       → Fits m start n r.history r.holder r.seat id w
       → (turns : List Turn) → Turned m.shards (set s.views id w) turns r.holder r.seat
       → R (with_view s (set s.words k (get_or s.words k 0)) s.homes id w)
-  still_with s r id v w at k held out answers fits turns turned =
+  still_with s r id v w at k held out seen answers fits turns turned =
       subst (λ (ws : List ℕ). R (with_view s ws s.homes id w)) (sym (set-get_or s.words k 0))
-      (rebuild s r id v w at s.words s.homes r.holder refl refl
+      (rebuild s r id v w at s.words s.homes r.holder refl refl seen
       (λ j lt. shard_kept s r.history s.words s.homes id v w j at refl refl (λ g e. ap (λ z. held_at z j) held ∙ e) (λ e. out ∙ e) (r.holder j) (r.shards j lt))
       answers (λ k u ne f. f) fits turns turned)
 
   -- nothing moved
   pub still : (s : St) (r : R s) (id : ℕ) (v w : V) → get_elem? s.views id ≡ some v
-      → (k : ℕ) → w.known.held ≡ v.known.held → w.out ≡ v.out → ((p : ℕ) → Answers m start n v p → Answers m start n w p)
+      → (k : ℕ) → w.known.held ≡ v.known.held → w.out ≡ v.out → (v.known.seen ≡ r.history → w.known.seen ≡ r.history) → ((p : ℕ) → Answers m start n v p → Answers m start n w p)
       → Fits m start n r.history r.holder r.seat id w
       → ((p : ℕ) → v.known.party ≡ Some p → w.known.party ≡ Some p) → ((p : ℕ) → Recalls r.turns v p → Recalls r.turns w p) → GoOn w.known.met r.turns
       → R (with_view s (set s.words k (get_or s.words k 0)) s.homes id w)
-  still s r id v w at k held out answers fits party recalls met =
-      still_with s r id v w at k held out answers fits r.turns (turned_kept m.shards s.views r.turns r.holder r.holder r.seat id v w at (λ i lt. refl) (λ i lt e. party) recalls met r.turned)
+  still s r id v w at k held out seen answers fits party recalls met =
+      still_with s r id v w at k held out seen answers fits r.turns (turned_kept m.shards s.views r.turns r.holder r.holder r.seat id v w at (λ i lt. refl) (λ i lt e. party) recalls met r.turned)
 
   abbrev pub updated : (ℕ → Option ℕ) → ℕ → Option ℕ → ℕ → Option ℕ
   updated f i o j = cond (eqb j i) o (f j)
@@ -159,13 +169,14 @@ module _ {S X E : Type 0} (m : Machine X E) (start : S) (n : ℕ) where
       → (r.holder i ≡ None) ⊎ (r.holder i ≡ Some id)
       → ((j : ℕ) → j ≢ i → get_elem? hs j ≡ get_elem? s.homes j)
       → ((j : ℕ) → j ≢ i → held_at w.known.held j ≡ held_at v.known.held j) → ((j : ℕ) → j ≢ i → v.out ≡ Some j → w.out ≡ Some j)
+      → (v.known.seen ≡ r.history → w.known.seen ≡ r.history)
       → ((p : ℕ) → Answers m start n v p → Answers m start n w p)
       → IsShard m start n (with_view s (set s.words (suc i) b) hs id w) r.history i o
       → Fits m start n r.history (updated r.holder i o) r.seat id w
       → (turns : List Turn) → Turned m.shards (set s.views id w) turns (updated r.holder i o) r.seat
       → R (with_view s (set s.words (suc i) b) hs id w)
-  moved s r id v w at i b hs o was homes held out answers here fits turns turned =
-      rebuild s r id v w at (set s.words (suc i) b) hs (updated r.holder i o) (length-set s.words (suc i) b) (get_or-set_other s.words (suc i) zero b 0 (λ e. absurd (omega arith)))
+  moved s r id v w at i b hs o was homes held out seen answers here fits turns turned =
+      rebuild s r id v w at (set s.words (suc i) b) hs (updated r.holder i o) (length-set s.words (suc i) b) (get_or-set_other s.words (suc i) zero b 0 (λ e. absurd (omega arith))) seen
       (λ j lt. dite (ℕ_discrete j i)
       (λ same. subst (λ (z : ℕ). IsShard m start n (with_view s (set s.words (suc i) b) hs id w) r.history z (updated r.holder i o z)) (sym same)
       (subst (λ (z : Option ℕ). IsShard m start n (with_view s (set s.words (suc i) b) hs id w) r.history i z) (sym (updated_here r.holder i i o refl)) here))

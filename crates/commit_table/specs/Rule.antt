@@ -48,16 +48,21 @@ module _ {S X E : Type 0} (m : Machine X E) (start : S) (n : ℕ) where
   IsParty s h p None = events_by m.party p h ≡ []
   IsParty s h p (Some id) = (v : View S E) × (get_elem? s.views id ≡ some v) × Answers v p
 
-  -- a pass that was taken in: its events are its party's
-  pub record Gathered (h : List E) (seat : ℕ → Option ℕ) (id : ℕ) (v : Known S E) : Type 0 where
-    pub seen : IsPrefix v.seen h
+  -- some view has seen the whole history
+  abbrev pub IsWhole : List (View S E) → List E → Type 0
+  IsWhole views h = (id : ℕ) × (v : View S E) × (get_elem? views id ≡ some v) × (v.known.seen ≡ h)
+
+  -- a pass that was taken in: what it had seen begins what the seat has seen, and its events are its party's
+  pub record Gathered (h upto : List E) (seat : ℕ → Option ℕ) (id : ℕ) (v : Known S E) : Type 0 where
+    pub seen : IsPrefix v.seen upto
     pub party : (p : ℕ) → v.party ≡ Some p → (p < n) × (seat p ≡ Some id) × (events_by m.party p h ≡ v.mine)
 
   -- the view of the seat `id`
   pub record Fits (h : List E) (holder seat : ℕ → Option ℕ) (id : ℕ) (v : View S E) : Type 0 where
     pub begun : (s : S) → v.known.start ≡ Some s → s ≡ start
     pub seen : IsPrefix v.known.seen h
-    pub heard : IsPrefix v.heard h
+    -- what it remembers of a join begins what it has seen
+    pub heard : IsPrefix v.heard v.known.seen
     pub looks : All (λ k. k ≤ length v.known.seen) v.known.looks
     -- what it has seen has all its own events, and no other of its party
     pub own_seen : IsOwn m v.known.party v.known.seen v.known.mine
@@ -70,7 +75,7 @@ module _ {S X E : Type 0} (m : Machine X E) (start : S) (n : ℕ) where
     pub none : v.known.party ≡ None → (i : ℕ) → held_at v.known.held i ≡ None
     -- it takes in all passes, and then no other has a party
     pub gathers : v.gathers ≡ true → v.known.party ≡ None
-    pub gathered : v.gathers ≡ true → (k : ℕ) (w : Known S E) → get_elem? v.gathered k ≡ some w → Gathered h seat id w
+    pub gathered : v.gathers ≡ true → (k : ℕ) (w : Known S E) → get_elem? v.gathered k ≡ some w → Gathered h v.known.seen seat id w
     pub closed : v.closed ≡ true → (v.gathers ≡ true) × (v.known.seen ≡ h) × ((p : ℕ) → p < n → Remembers v.gathered p)
 
   pub record Rule (s : State (Option X) (View S E)) : Type 0 where
@@ -82,6 +87,7 @@ module _ {S X E : Type 0} (m : Machine X E) (start : S) (n : ℕ) where
     pub size : length s.words ≡ suc m.shards
     pub legal : m.Legal history
     pub word : slice_index s.words 0 ≡ length history
+    pub whole : IsWhole s.views history
     pub shards : (i : ℕ) → i < m.shards → IsShard s history i (holder i)
     pub parties : (p : ℕ) → IsParty s history p (seat p)
     pub views : (id : ℕ) (v : View S E) → get_elem? s.views id ≡ some v → Fits history holder seat id v

@@ -56,7 +56,7 @@ fn gather_all<M: Sharded>(board: &Board<M>, passes: Vec<Pass<M>>) -> Place<M>
     requires size { IsSized board.now.table_id (M.machine board.now.key.start).shards }
     requires whole { AreWhole (record { table = board.now.table_id; start = board.now.key.start; passes = board.now.key.passes }) passes.items }
     ensures seat { result.table_id ≡ board.now.table_id }
-    ensures told { result.me ≡ (gatherer board.now.key.start (map (λ p. p.known) passes.items), []) }
+    ensures told { result.me ≡ (gatherer board.now.key.start result.me.0.known.seen (map (λ p. p.known) passes.items), []) }
 {
     let mut seat = open_gatherer(board);
     for pass in passes {

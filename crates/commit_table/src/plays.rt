@@ -1,7 +1,7 @@
 //! What each step on the table tells. The types are for proofs alone.
 ghost use Rattle.std.specs.Prelude.{ℕ, List, [], ◌∷◌, ◌+◌, ◌++◌, Some};
 ghost use Rattle.commit_table.specs.Steps.{takes, parks, reaches, frees, looks, adds, opens, ends};
-ghost use Rattle.commit_table.specs.Views.{at_rest, noted, hearing, tally_of, spent};
+ghost use Rattle.commit_table.specs.Views.{at_rest, noted, hearing, gathering, tally_of, spent};
 
 use crate::sharded::Sharded;
 use crate::views::View;
@@ -118,7 +118,7 @@ impl<S, E> Join<View<S, E>> for Hear {
 pub struct Gather;
 
 impl<S, E> Join<View<S, E>> for Gather {
-    ghost both = { λ v w. record v { gathered = v.gathered ++ w.known ∷ [] } };
+    ghost both = { λ v w. gathering v w.known };
 
     ghost spent = { spent };
 }

@@ -1,6 +1,6 @@
 //! Seats are made and joined, each by a load that changes no word.
 ghost use Rattle.std.specs.Prelude.{◌≡◌, ℕ, ◌+◌, ◌<◌, Option, Some, None, List, [], ◌∷◌, ◌++◌, length};
-ghost use Rattle.commit_table.specs.Views.{held_at, at_rest, hearing, noted, new_pass, maker, gatherer, closer, tally_of};
+ghost use Rattle.commit_table.specs.Views.{held_at, at_rest, hearing, noted, new_pass, maker, gatherer, gathering, closer, tally_of};
 ghost use Rattle.commit_table.specs.Rule.{Remembers};
 ghost use Rattle.commit_table.specs.Steps.{Ends};
 ghost use Rattle.commit_table.specs.Calls.{IsSized};
@@ -32,7 +32,7 @@ pub fn part_note<M: Sharded>(board: &Board<M>, seat: &mut Place<M>) -> Place<M>
     board.split_seat::<Tell>(seat)
 }
 
-// Join: this seat has heard what the other had seen, and the other is spent.
+// Join: this seat has seen the longer of both histories and remembers the other one, and the other seat is spent.
 pub fn hear_note<M: Sharded>(board: &Board<M>, seat: &mut Place<M>, note: Place<M>)
     requires table { (seat.old.table_id ≡ board.now.table_id) × (note.table_id ≡ board.now.table_id) }
     requires size { IsSized board.now.table_id (M.machine board.now.key.start).shards }
@@ -47,20 +47,20 @@ pub fn hear_note<M: Sharded>(board: &Board<M>, seat: &mut Place<M>, note: Place<
 // A new seat, which is to take in all passes.
 pub fn open_gatherer<M: Sharded>(board: &Board<M>) -> Place<M>
     requires size { IsSized board.now.table_id (M.machine board.now.key.start).shards }
-    ensures new { (result.table_id ≡ board.now.table_id) × (result.me ≡ (gatherer board.now.key.start [], [])) }
+    ensures new { (result.table_id ≡ board.now.table_id) × (result.me ≡ (gatherer board.now.key.start [] [], [])) }
 {
     board.load_new_seat::<Open>(0).1
 }
 
-// Join: a pass is taken in, and remembered.
+// Join: a pass is taken in, and remembered. The seat has seen the longer of both histories.
 pub fn gather_pass<M: Sharded>(board: &Board<M>, seat: &mut Place<M>, pass: Place<M>)
     requires table { (seat.old.table_id ≡ board.now.table_id) × (pass.table_id ≡ board.now.table_id) }
     requires size { IsSized board.now.table_id (M.machine board.now.key.start).shards }
-    requires ready { (seat.old.me ≡ (gatherer board.now.key.start seat.old.me.0.gathered, [])) × (pass.me ≡ (at_rest pass.me.0.known, [])) }
+    requires ready { (seat.old.me ≡ (gatherer board.now.key.start seat.old.me.0.known.seen seat.old.me.0.gathered, [])) × (pass.me ≡ (at_rest pass.me.0.known, [])) }
     requires party { (p : ℕ) × (pass.me.0.known.party ≡ Some p) }
     requires free { (i : ℕ) → held_at pass.me.0.known.held i ≡ None }
     ensures seat { seat.new.table_id ≡ seat.old.table_id }
-    ensures told { seat.new.me ≡ (gatherer board.now.key.start (seat.old.me.0.gathered ++ pass.me.0.known ∷ []), []) }
+    ensures told { seat.new.me ≡ (gathering seat.old.me.0 pass.me.0.known, []) }
 {
     board.join_seat::<Gather>(seat, pass);
 }
@@ -69,7 +69,7 @@ pub fn gather_pass<M: Sharded>(board: &Board<M>, seat: &mut Place<M>, pass: Plac
 pub fn last_look<M: Sharded>(board: &Board<M>, seat: &mut Place<M>) -> u64
     requires table { seat.old.table_id ≡ board.now.table_id }
     requires size { IsSized board.now.table_id (M.machine board.now.key.start).shards }
-    requires ready { seat.old.me ≡ (gatherer board.now.key.start seat.old.me.0.gathered, []) }
+    requires ready { seat.old.me ≡ (gatherer board.now.key.start seat.old.me.0.known.seen seat.old.me.0.gathered, []) }
     requires all { (p : ℕ) → p < board.now.key.passes → Remembers (M.machine board.now.key.start) board.now.key.start board.now.key.passes seat.old.me.0.gathered p }
     ensures seat { (seat.new.table_id ≡ seat.old.table_id) }
     ensures told { (h : List M.Event) × (seat.new.me ≡ (closer board.now.key.start h seat.old.me.0.gathered, [])) × (result ≡ length h) × Ends M.machine (M.machine board.now.key.start) seat.old.me.0.gathered h }

@@ -1,7 +1,7 @@
 //! The atomic steps on the words, each in a function of its own, whose clause says what the step told. Between two of
 //! them other threads take theirs.
 ghost use Rattle.std.specs.Prelude.{◌≡◌, ℕ, ◌+◌, ◌<◌, Option, Some, None, List, [], ◌∷◌};
-ghost use Rattle.commit_table.specs.Views.{held_at, at_rest, reaching, hearing, gave_back};
+ghost use Rattle.commit_table.specs.Views.{held_at, at_rest, reaching, recalling, gave_back};
 ghost use Rattle.commit_table.specs.Steps.{Takes, Reaches, Looks, Commits};
 ghost use Rattle.commit_table.specs.Calls.{IsSized, MayCommit};
 
@@ -68,7 +68,7 @@ pub fn free_word<M: Sharded>(board: &Board<M>, seat: &mut Place<M>, shard: u32)
 pub fn look_counted<M: Sharded, N: Counted>(board: &Board<M>, seat: &mut Place<M>) -> u64
     requires table { seat.old.table_id ≡ board.now.table_id }
     requires size { IsSized board.now.table_id (M.machine board.now.key.start).shards }
-    requires ready { seat.old.me ≡ (hearing seat.old.me.0.known seat.old.me.0.heard, []) }
+    requires ready { seat.old.me ≡ (recalling seat.old.me.0.known seat.old.me.0.heard, []) }
     requires count { N.passes ≡ board.now.key.passes }
     ensures seat { (seat.new.table_id ≡ seat.old.table_id) × (seat.new.id ≡ seat.old.id) }
     ensures told { Looks M.machine board.now.key.passes seat.old.me.0.known seat.old.me.0.heard result seat.new.me }
@@ -79,7 +79,7 @@ pub fn look_counted<M: Sharded, N: Counted>(board: &Board<M>, seat: &mut Place<M
 pub fn look_word<M: Sharded>(board: &Board<M>, seat: &mut Place<M>) -> u64
     requires table { seat.old.table_id ≡ board.now.table_id }
     requires size { IsSized board.now.table_id (M.machine board.now.key.start).shards }
-    requires ready { seat.old.me ≡ (hearing seat.old.me.0.known seat.old.me.0.heard, []) }
+    requires ready { seat.old.me ≡ (recalling seat.old.me.0.known seat.old.me.0.heard, []) }
     ensures seat { (seat.new.table_id ≡ seat.old.table_id) × (seat.new.id ≡ seat.old.id) }
     ensures told { Looks M.machine board.now.key.passes seat.old.me.0.known seat.old.me.0.heard result seat.new.me }
 {

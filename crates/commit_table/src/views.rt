@@ -51,7 +51,7 @@ pub struct View<S, E> {
     pub known: Known<S, E>,
     /// The shard whose slot is out with the seat.
     pub out: Option<u32>,
-    /// A history that was told.
+    /// Of the two histories of a join the shorter one, which the seat remembers until it looks.
     pub heard: LinkedList<E>,
     /// The passes from `gives` on and below `ends` are this seat's to make.
     pub gives: u32,

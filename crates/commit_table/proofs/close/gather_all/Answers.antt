@@ -1,6 +1,6 @@
-use Rattle.std.proofs.Common.{◌∙◌, suc, ap, []}
-use Rattle.commit_table.specs.Views.{gatherer}
-use Rattle.commit_table.proofs.Lists.{left_first, left_later, map_more}
+use Rattle.std.proofs.Common.{◌∙◌, suc, ap}
+use Rattle.commit_table.proofs.Lists.{left_first, left_later}
+use Rattle.commit_table.proofs.Joining.{gathered_more}
 use Rattle.commit_table.proofs.close.gather_all.Goals as goal
 
 pub gather_pass-requires-clause-table : goal.gather_pass-requires-clause-table
@@ -14,10 +14,9 @@ gather_pass-requires-clause-free g c i =
 pub loop-pass-preserved : goal.loop-pass-preserved
 loop-pass-preserved g c =
     let start = c.args.board.now.key.start in
-    let before = ap (λ z. z.0.gathered) c.loop-pass.invariant.told in
     let known = ap (λ z. z.0.known) c.into_seat.ensures.seat.1 in
     record {
       table = c.gather_pass.ensures.seat ∙ c.loop-pass.invariant.table;
-      told = c.gather_pass.ensures.told ∙ ap (λ z. (gatherer start z, [])) (map_more (λ p. p.known) c.loop-pass.yielded c.in-Some.pass _ _ before known);
+      told = gathered_more g.M.Sharded.machine g.M.Sharded.lawful start c.args.board.now.key.passes c.loop-pass.seat.me c.gather_pass.new.seat.me c.loop-pass.yielded c.in-Some.pass _ c.loop-pass.invariant.told known c.gather_pass.ensures.told;
       left = λ k p e. c.loop-pass.invariant.left (suc k) p (left_later _ _ c.in-Some.pass p k c.in-Some.ensures.steps.0 e);
     }

@@ -6,6 +6,6 @@ use Rattle.commit_table.proofs.close.gather_all.Given as goal
 abbrev pub invariant-loop-pass : goal.invariant-loop-pass
 invariant-loop-pass g l = record {
   table : l.seat.table_id ≡ l.board.table_id;
-  told : l.seat.me ≡ (gatherer l.board.key.start (map (λ p. p.known) l.yielded), []);
+  told : l.seat.me ≡ (gatherer l.board.key.start l.seat.me.0.known.seen (map (λ p. p.known) l.yielded), []);
   left : (k : ℕ) (p : PassValue g.row.M.Denot g.row.M-Event.Denot) → slice_get l.pass-iterator.rest.items k ≡ Some p → IsOf (record { table = l.board.table_id; start = l.board.key.start; passes = l.board.key.passes }) p × HoldsNone p.known;
 }

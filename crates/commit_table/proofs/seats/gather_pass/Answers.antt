@@ -8,5 +8,5 @@ join_seat-requires g c = let start = c.args.board.now.key.start in let n = c.arg
   search rules,
   search rules,
   omega (arith, c.requires.size.0),
-  gather_allowed g.M.Sharded.machine g.M.Sharded.lawful start n _ _ c.args.seat.now.me.0.gathered c.args.seat.now.me c.args.pass.me c.requires.ready.0 c.requires.ready.1 c.requires.party.0 c.requires.party.1 c.requires.free,
+  gather_allowed g.M.Sharded.machine g.M.Sharded.lawful start n _ _ c.args.seat.now.me.0.known.seen c.args.seat.now.me.0.gathered c.args.seat.now.me c.args.pass.me c.requires.ready.0 c.requires.ready.1 c.requires.party.0 c.requires.party.1 c.requires.free,
 )
