@@ -1,5 +1,5 @@
 -- Histories of a world are short: each event takes one of those that its ranks may record.
-use Rattle.std.proofs.Common.{◌≡◌, ℕ, ◌+◌, ◌-◌, ◌^◌, ◌<◌, ◌≤◌, true, nat_le, List, [], ◌∷◌, length, Ok, sym, ap, ◌∙◌, arith}
+use Rattle.std.proofs.Common.{◌≡◌, ℕ, ◌+◌, ◌-◌, ◌*◌, ◌^◌, ◌<◌, ◌≤◌, true, nat_le, List, [], ◌∷◌, length, Ok, sym, ap, subst, ◌∙◌, arith}
 use Rattle.std.specs.List.{All}
 use Rattle.std.proofs.lemmas.Bool.{leb-true}
 use Rattle.std.proofs.lemmas.List.FromFn.{length-map-range_with_len}
@@ -11,9 +11,10 @@ use Rattle.gaspi_types.specs.declared.events.Event.{Event}
 use Rattle.gaspi_types.proofs.Chains.{bind_then, both, same_Ok}
 use Rattle.gaspi_model.specs.Sound.{IsSound, events_left}
 use Rattle.gaspi_model.specs.State.{opening, opening_posts}
-use Rattle.gaspi_model.specs.Step.{step, after, reached}
+use Rattle.gaspi_model.specs.Step.{step, after, reached, is_legal}
 use Rattle.gaspi_model.specs.declared.states.Posts.{Posts}
 use Rattle.gaspi_model.specs.declared.states.State.{State}
+use Rattle.gaspi_model.proofs.Histories.{leads}
 use Rattle.gaspi_model.proofs.Sound.Opening.{opens}
 use Rattle.gaspi_model.proofs.Sound.Steps.{steps, counts}
 
@@ -29,9 +30,9 @@ left-after s t (e ∷ events) sound h =
 between : (low high n : ℕ) → is_between low high n ≡ true → n ≤ high
 between low high n is = leb-true n high (both (nat_le low n) (nat_le n high) is).1
 
-all-few : (events : ℕ) → events ≤ 65536 → (posts : List Posts) → All (λ (p : Posts). events - p.events ≤ 65536) posts
-all-few events few [] = All-nil (λ (p : Posts). events - p.events ≤ 65536)
-all-few events few (p ∷ posts) = All-cons (λ (q : Posts). events - q.events ≤ 65536) p posts (omega arith) (all-few events few posts)
+all-few : (events most : ℕ) → events ≤ most → (posts : List Posts) → All (λ (p : Posts). events - p.events ≤ most) posts
+all-few events most few [] = All-nil (λ (p : Posts). events - p.events ≤ most)
+all-few events most few (p ∷ posts) = All-cons (λ (q : Posts). events - q.events ≤ most) p posts (omega arith) (all-few events most few posts)
 
 -- a world's ranks record at most so many events
 pub few-left : (w : World) → IsWorld w → events_left (opening w) ≤ 1048576
@@ -44,10 +45,36 @@ few-left w world =
     let five = both (is_between 1 64 w.limits.inbox) _ four.1 in
     let events = between 1 65536 w.limits.events five.1 in
     let many : length (opening w).posts ≡ w.limits.ranks = length-map-range_with_len (opening_posts w) 0 w.limits.ranks in
-    let most = sum_by-le (λ (p : Posts). w.limits.events - p.events) 65536 (opening w).posts (all-few w.limits.events events (opening w).posts) in
+    let most = sum_by-le (λ (p : Posts). w.limits.events - p.events) 65536 (opening w).posts (all-few w.limits.events 65536 events (opening w).posts) in
     omega arith
 
--- so a history that leads to a state is short
+-- which are EVENTS for each rank
+left-at-start : (w : World) → events_left (opening w) ≤ w.limits.ranks * w.limits.events
+left-at-start w =
+    let many : length (opening w).posts ≡ w.limits.ranks = length-map-range_with_len (opening_posts w) 0 w.limits.ranks in
+    let most = sum_by-le (λ (p : Posts). w.limits.events - p.events) w.limits.events (opening w).posts (all-few w.limits.events w.limits.events (omega arith) (opening w).posts) in
+    subst (λ n. events_left (opening w) ≤ n * w.limits.events) many most
+
+within : (w : World) (h : List Event) → IsWorld w → is_legal w h ≡ true → length h ≤ events_left (opening w)
+within w h world legal =
+    let end = leads (reached w h) legal in
+    let left = left-after (opening w) end.0 h (opens w world) end.1 in
+    omega arith
+
+-- so a legal history has no more events
+pub within-limits : (w : World) (h : List Event) → IsWorld w → is_legal w h ≡ true → length h ≤ w.limits.ranks * w.limits.events
+within-limits w h world legal =
+    let left = within w h world legal in
+    let most = left-at-start w in
+    omega arith
+
+pub within-most : (w : World) (h : List Event) → IsWorld w → is_legal w h ≡ true → length h ≤ 16 * 65536
+within-most w h world legal =
+    let left = within w h world legal in
+    let most = few-left w world in
+    omega arith
+
+-- and a history that leads to a state is short
 pub few-events : (w : World) (h : List Event) (s : State) → IsWorld w → reached w h ≡ Ok s → length h < 2 ^ 64
 few-events w h s world is =
     let left = left-after (opening w) s h (opens w world) is in

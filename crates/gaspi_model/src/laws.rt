@@ -1,6 +1,6 @@
 //! Laws of the machine: the contracts of functions that do nothing.
 
-ghost use Rattle.std.specs.Prelude.{◌==◌, nat_eq, ◌≡◌, ◌≢◌, ℕ, ◌+◌, ◌%◌, ◌^◌, ◌<◌, ◌≤◌, ◌∷◌, ◌++◌, [], List, Ok, Some, IsOk, true, false, length, slice_get, if◌then◌else◌};
+ghost use Rattle.std.specs.Prelude.{◌==◌, nat_eq, ◌≡◌, ◌≢◌, ℕ, ◌+◌, ◌*◌, ◌%◌, ◌^◌, ◌<◌, ◌≤◌, ◌∷◌, ◌++◌, [], List, Ok, Some, IsOk, true, false, length, slice_get, if◌then◌else◌};
 ghost use Rattle.byteorder.specs.Endian.{little_bytes};
 ghost use Rattle.gaspi_types.specs.CallRows.{need_of, row_of};
 ghost use Rattle.gaspi_types.specs.declared.call_rows.Posting.{Posting};
@@ -323,6 +323,14 @@ pub fn groups()
         → is_drop_of rank id e ≡ false → handle_of t rank id ≡ Some h }
     ensures all { (w : World) (history : List Event) (s : State) (rank : ℕ) → IsWorld w → reached w history ≡ Ok s → rank < w.limits.ranks
         → handle_of s rank 0 ≡ Some (handle_of_all w.limits.ranks) }
+{}
+
+/// A legal history is short: each event is one of those that its owner may record, and these are EVENTS for each of RANKS ranks. So a
+/// word that counts the events of a journal stays at most 16 * 65,536, far from the end of its type: no addition to it wraps, and what a
+/// commit finds there is exactly the place of its event.
+pub fn history_lengths()
+    ensures limits { (w : World) (history : List Event) → IsWorld w → is_legal w history ≡ true → length history ≤ w.limits.ranks * w.limits.events }
+    ensures most { (w : World) (history : List Event) → IsWorld w → is_legal w history ≡ true → length history ≤ 16 * 65536 }
 {}
 
 /// Where a history is legal, so is each part that it begins with.

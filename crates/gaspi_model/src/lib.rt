@@ -7,8 +7,8 @@ mod openings;
 mod states;
 
 pub use laws::{
-    changes, coarser_locality, collectives, corruption, enabled, endings, groups, listing,
-    locality, messages, notification_order, prefixes, replies, settling, soundness,
+    changes, coarser_locality, collectives, corruption, enabled, endings, groups, history_lengths,
+    listing, locality, messages, notification_order, prefixes, replies, settling, soundness,
 };
 pub use openings::{
     declared_size, opening_corrupt, opening_table, opening_thread, opening_threads,
