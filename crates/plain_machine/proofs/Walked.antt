@@ -1,6 +1,5 @@
 -- Lists made of one list for each item, read at a place; and the transfers of all lanes by those that have an entry.
-use Rattle.std.proofs.Common.{◌≡◌, ℕ, zero, suc, ◌+◌, ◌*◌, ◌<◌, ◌≤◌, ◌^◌, Bool, true, false, List, [], ◌∷◌, ◌++◌, Option, None, Some, length, take, get_or, slice_get, sum_by, is_none, ◌&&◌, refl, sym, ap, subst, ◌∙◌, arith, length-append, ◌⊎◌, inl, inr}
-use lib.Seq.{take-suc}
+use Rattle.std.proofs.Common.{◌≡◌, ℕ, zero, suc, ◌+◌, ◌*◌, ◌<◌, ◌≤◌, ◌^◌, Bool, true, false, List, [], ◌∷◌, ◌++◌, Option, None, Some, length, take, get_or, slice_get, sum_by, is_none, ◌&&◌, refl, sym, ap, subst, ◌∙◌, arith, length-append}
 use Rattle.std.specs.List.{flat_map, enumerate_from}
 use Rattle.std.specs.Option.{option_to_list}
 use Rattle.std.proofs.lemmas.List.{append-nil, take_all}
@@ -9,7 +8,6 @@ use Rattle.std.proofs.lemmas.Option.{slice_get_within, slice_get_past}
 use Rattle.std.proofs.lemmas.List.Concat.{flat_map-append}
 use Rattle.std.proofs.lemmas.List.Sums.{sum_by-cons}
 use Rattle.std.proofs.lemmas.Bool.Decides.{nat_tests}
-use Rattle.gaspi_types.proofs.Items.{append-parts, flat_map-parts}
 use Rattle.gaspi_types.specs.World.{are_limits}
 use Rattle.gaspi_types.specs.Lanes.{is_posted_phase, is_carried_phase, phase_owed, entry_owed, lane_owed, may_take, may_put}
 use Rattle.gaspi_types.specs.declared.entries.Entry.{Entry}
@@ -23,7 +21,6 @@ use Rattle.gaspi_model.specs.Sound.{IsSoundPosts}
 use Rattle.gaspi_model.specs.Transfers.{transfer_of, lane_transfers, queue_transfers, rank_transfers, transfers}
 use Rattle.gaspi_types.specs.declared.entries.Queue.{Queue}
 use Rattle.gaspi_model.specs.declared.states.Posts.{Posts}
-use Rattle.plain_machine.specs.declared.standing.LaneId.{LaneId}
 use Rattle.plain_machine.specs.Standing.{lane_id, lane_named, queue_named, rank_named, standing_lanes, open_entries, open_transfers, entries_transfers}
 
 -- Places in such a list.
@@ -66,12 +63,6 @@ found_here {X} {A} f xs i place left x option y within is at first lists some =
     let list : f x ≡ y ∷ [] = sym lists ∙ ap option_to_list some in
     sought_here f xs i place left x y within is at (rw (list, first) refl)
 
--- an item of the list of the i-th item is one of the whole
-pub listed_here : {X A : Type 0} (f : X → List A) (xs : List X) (i j : ℕ) (x : X) (y : A) → i < length xs → x ≡ get_or xs i x
-    → slice_get (f x) j ≡ Some y → (k : ℕ) × (slice_get (flat_map f xs) k ≡ Some y)
-listed_here f xs i j x y within is there =
-    (length (flat_map f (take i xs)) + j, sought_here f xs i (length (flat_map f (take i xs)) + j) j x y within is refl there)
-
 -- a place that is past the lists of all items
 pub sought_past : {X A : Type 0} (f : X → List A) (xs : List X) (i place left : ℕ) → length xs ≤ i
     → place ≡ length (flat_map f (take i xs)) + left → None ≡ slice_get (flat_map f xs) place
@@ -84,31 +75,6 @@ pub counted_here : {X A : Type 0} (f : X → List A) (xs : List X) (i : ℕ) (x 
     → length (flat_map f (take i xs)) + length (f x) ≤ length (flat_map f xs)
 counted_here {X} f xs i x within is =
     subst (λ (z : X). length (flat_map f (take i xs)) + length (f z) ≤ length (flat_map f xs)) (sym is) (length-flat_map-take f xs i x within)
-
--- what holds of the items so far, and of those of the next list, holds of those up to it
-pub held_here : {X A : Type 0} (P : A → Type 0) (f : X → List A) (xs : List X) (i : ℕ) (x : X) → i < length xs → x ≡ get_or xs i x
-    → ((k : ℕ) (y : A) → slice_get (flat_map f (take i xs)) k ≡ Some y → P y) → ((k : ℕ) (y : A) → slice_get (f x) k ≡ Some y → P y)
-    → (k : ℕ) (y : A) → slice_get (flat_map f (take (i + 1) xs)) k ≡ Some y → P y
-held_here {X} {A} P f xs i x within is so_far here k y at = go (append-parts (flat_map f (take i xs)) (f x) k y (subst (λ (ys : List A). slice_get ys k ≡ Some y) parts at))
-  where
-    items : take (i + 1) xs ≡ take i xs ++ x ∷ []
-    items =
-        let more : i + 1 ≡ suc i = omega arith in
-        ap (λ (n : ℕ). take n xs) more ∙ (take-suc xs i x within ∙ ap (λ (z : X). take i xs ++ z ∷ []) (sym is))
-
-    parts : flat_map f (take (i + 1) xs) ≡ flat_map f (take i xs) ++ f x
-    parts =
-        ap (flat_map f) items ∙ (flat_map-append f (take i xs) (x ∷ []) ∙ ap (λ (ys : List A). flat_map f (take i xs) ++ ys) (append-nil (f x)))
-
-    go : ((j : ℕ) × (slice_get (flat_map f (take i xs)) j ≡ Some y)) ⊎ ((j : ℕ) × (slice_get (f x) j ≡ Some y)) → P y
-    go (inl before) = so_far before.0 y before.1
-    go (inr next) = here next.0 y next.1
-
--- what holds of the items so far holds of all, past the last list
-pub held_past : {X A : Type 0} (P : A → Type 0) (f : X → List A) (xs : List X) (i : ℕ) → length xs ≤ i
-    → ((k : ℕ) (y : A) → slice_get (flat_map f (take i xs)) k ≡ Some y → P y) → (k : ℕ) (y : A) → slice_get (flat_map f xs) k ≡ Some y → P y
-held_past {X} P f xs i past so_far k y at =
-    so_far k y (subst (λ (ys : List X). slice_get (flat_map f ys) k ≡ Some y) (sym (take_all i xs past)) at)
 
 -- A list made of the lists of parts is made of the lists of the parts' parts.
 
@@ -126,23 +92,6 @@ nested {X} {A} {B} f g h n (x ∷ xs) each =
     ∙ (ap (λ (ys : List B). flat_map g (h (n, x)) ++ ys)
     (nested f g h (n + 1) xs (λ j k y at there. each j (suc k) y (omega (arith, at)) there))
     ∙ sym (flat_map-append g (h (n, x)) (flat_map h (enumerate_from (n + 1) xs))))
-
--- a transfer of a lane is one of its origin
-pub lane_origin : (limits : Limits) (posts : List Posts) (id : LaneId) (k : ℕ) (t : Transfer) → slice_get (open_transfers limits posts id) k ≡ Some t → t.origin ≡ id.origin
-lane_origin limits posts id k t at =
-    let lane = open_entries posts id in
-    let part = flat_map-parts (transfer_of id.origin id.queue id.target limits lane) lane k t at in
-    of_entry lane part.1 part.2 part.4 (may_take limits.depth lane part.1) refl (may_put lane part.1) refl
-  where
-    of_one : (x : Transfer) (j : ℕ) → slice_get (x ∷ []) j ≡ Some t → t.origin ≡ x.origin
-    of_one x zero here = let same : t ≡ x = cc in ap (λ (y : Transfer). y.origin) same
-    of_one x (suc j) here = absurd (let no : ⊥ = cc in no)
-
-    of_entry : (lane : List Entry) (e : Entry) (j : ℕ) → slice_get (transfer_of id.origin id.queue id.target limits lane e) j ≡ Some t
-        → (b : Bool) → may_take limits.depth lane e ≡ b → (c : Bool) → may_put lane e ≡ c → t.origin ≡ id.origin
-    of_entry lane e j here true takes c puts = of_one _ j (rw takes at here)
-    of_entry lane e j here false takes true puts = of_one _ j (rw (takes, puts) at here)
-    of_entry lane e j here false takes false puts = absurd (let none = rw (takes, puts) at here in let no : ⊥ = cc in no)
 
 abbrev no_transfers : ℕ × List Entry → List Transfer
 no_transfers x = []

@@ -2,18 +2,17 @@
 //!
 //! Only the lanes that have an entry are walked, and in each of them each entry is judged by a summary of its lane.
 
-ghost use Rattle.std.specs.Prelude.{◌≡◌, ◌≢◌, ℕ, ◌≤◌, ◌<◌, ◌^◌, ◌++◌, ◌||◌, ◌&&◌, nat_lt, List, length, Some, slice_get, OnOk, IfOk, IfSome, IfNone};
+ghost use Rattle.std.specs.Prelude.{◌≡◌, ℕ, ◌≤◌, ◌<◌, ◌^◌, ◌++◌, ◌||◌, ◌&&◌, nat_lt, List, length, slice_get, OnOk, IfOk};
 ghost use Rattle.std.specs.List.{flat_map};
 ghost use Rattle.std.specs.Option.{option_to_list};
 ghost use Rattle.gaspi_types.specs.Lanes.{may_put};
 ghost use Rattle.gaspi_types.specs.declared.entries.Entry.{Entry};
-ghost use Rattle.gaspi_types.specs.declared.events.Transfer.{Transfer};
 ghost use Rattle.gaspi_model.specs.Transfers.{transfer_of};
 ghost use Rattle.plain_machine.specs.Standing.{is_over, IsSummary, Seeks, entries_transfers, open_transfers};
 
 use crate::standing::{LaneId, open_entries};
 use gaspi_model::Posts;
-use gaspi_types::{Entry, Kind, Limits, NoMemory, RankId, Rows, Transfer};
+use gaspi_types::{Entry, Kind, Limits, NoMemory, Rows, Transfer};
 use plain_calls::{is_carried, is_posted, is_read, is_write};
 use std::alloc::Global;
 
@@ -187,31 +186,6 @@ pub fn transfer_at(
         match entries_transfer(limits, id, open_entries(posts, id), left) {
             Sought::Found(transfer) => return Some(transfer),
             Sought::Left(rest) => left = rest,
-        }
-    }
-    None
-}
-
-/// The first transfer of an origin among those that may come next in lanes. Only the lanes of the origin are looked at.
-pub fn first_transfer(
-    limits: &Limits,
-    posts: &Rows<Posts>,
-    lanes: &[LaneId],
-    origin: RankId,
-) -> Option<Transfer>
-    ensures some { IfSome result (λ t. (t.origin ≡ origin) × ((k : ℕ) × (slice_get (flat_map (open_transfers limits.now posts.now) lanes.now) k ≡ Some t))) }
-    ensures none { IfNone result ((k : ℕ) (t : Transfer) → slice_get (flat_map (open_transfers limits.now posts.now) lanes.now) k ≡ Some t → t.origin ≢ origin) }
-{
-    for id in lanes {
-        if id.origin == origin {
-            if let Sought::Found(transfer) = entries_transfer(
-                limits,
-                id,
-                open_entries(posts, id),
-                0,
-            ) {
-                return Some(transfer);
-            }
         }
     }
     None

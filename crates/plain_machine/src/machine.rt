@@ -1,6 +1,6 @@
 //! The machine: a state that is sound, its steps, and what it answers.
 
-ghost use Rattle.std.specs.Prelude.{◌≡◌, ◌≢◌, ℕ, ◌+◌, ◌<◌, ◌↔◌, IfOk, IfSome, IfNone, IsOk, IsTrue, Some, None, Err, if◌then◌else◌, true, false, not, length, slice_get};
+ghost use Rattle.std.specs.Prelude.{◌≡◌, ◌≢◌, ℕ, ◌+◌, ◌<◌, ◌↔◌, IfOk, IsOk, IsTrue, Some, None, Err, if◌then◌else◌, true, false, not, length, slice_get};
 ghost use Rattle.gaspi_types.specs.CallRows.{need_of};
 ghost use Rattle.gaspi_model.specs.CollectiveCalls.{is_joining, join_event};
 ghost use Rattle.gaspi_model.specs.Sound.{IsSound};
@@ -9,7 +9,6 @@ ghost use Rattle.gaspi_model.specs.Step.{step, Steps, answer_in, is_declared, is
 ghost use Rattle.gaspi_model.specs.Transfers.{transfers};
 ghost use Rattle.gaspi_types.specs.Replies.{is_idle};
 ghost use Rattle.gaspi_types.specs.declared.events.Event.TheVariants.{Called};
-ghost use Rattle.gaspi_types.specs.declared.events.Transfer.{Transfer};
 ghost use Rattle.gaspi_types.specs.declared.replies.Ready.{Ready};
 ghost use Rattle.gaspi_types.specs.declared.replies.Ready.TheVariants.{Join};
 ghost use Rattle.gaspi_model.specs.Calls.{recorded_reply};
@@ -19,7 +18,7 @@ ghost use Rattle.plain_machine.specs.Looking.{IsFindingIn};
 ghost use Rattle.plain_machine.specs.Machine.{is_still};
 ghost use Rattle.plain_machine.specs.Words.{word_in};
 
-use crate::listing::{first_transfer, transfer_at, transfer_count, transfers};
+use crate::listing::{transfer_at, transfer_count, transfers};
 use crate::looking::{event_charge, has_section, is_pending_in, join_found, look_in, record_named};
 use crate::opening::{all_groups, all_memories, all_posts, all_taken};
 use crate::ranks::Ranks;
@@ -230,20 +229,6 @@ impl Machine {
         ensures { result ≡ slice_get (transfers self.now.limits self.now.posts) place }
     {
         transfer_at(&self.ranks.limits, &self.ranks.posts, &self.standing, place)
-    }
-
-    /// The first transfer of a rank that may come next, by queue, target and number. It takes no memory. (GASPI: one-sided
-    /// communication)
-    pub fn transfer_of(&self, origin: RankId) -> Option<Transfer>
-        ensures some { IfSome result (λ t. (t.origin ≡ origin) × ((k : ℕ) × (slice_get (transfers self.now.limits self.now.posts) k ≡ Some t))) }
-        ensures none { IfNone result ((k : ℕ) (t : Transfer) → slice_get (transfers self.now.limits self.now.posts) k ≡ Some t → t.origin ≢ origin) }
-    {
-        first_transfer(
-            &self.ranks.limits,
-            &self.ranks.posts,
-            &self.standing,
-            origin,
-        )
     }
 
     /// Makes a transfer that may come next: the step by its take or put, with the machine's outcome. It gives the event. Its
