@@ -15,6 +15,7 @@ use Rattle.atomic_table.proofs.Lists.{at_set, set_else}
 use Rattle.commit_table.specs.declared.views.Known.{Known}
 use Rattle.commit_table.specs.declared.views.View.{View}
 use Rattle.commit_table.specs.Machine.{Machine, Laws, is_party, events_by}
+use Rattle.commit_table.specs.Calls.{word_of}
 use Rattle.commit_table.specs.Views.{held_at, mine_after, looked, committed, at_rest, recalling}
 use Rattle.commit_table.specs.Rule.{Held, IsShard, Answers, IsParty, Fits, Rule}
 use Rattle.commit_table.specs.Steps.{Sees, Adds, looks, adds}
@@ -82,7 +83,7 @@ module _ {S X E : Type 0} (of : S → Machine X E) (laws : (s : S) → Laws (of 
 
   -- a shard apart from the event's, or one of them, after the event
   shard_apart : (s : State (Option X) (View S E)) (h : List E) (e : E) (ws : List ℕ) (id : ℕ) (v w : View S E) (j : ℕ)
-      → get_elem? s.views id ≡ some v → get_or ws (suc j) 0 ≡ get_or s.words (suc j) 0 → (of start).Agree j h (h ++ e ∷ [])
+      → get_elem? s.views id ≡ some v → get_or ws (word_of j) 0 ≡ get_or s.words (word_of j) 0 → (of start).Agree j h (h ++ e ∷ [])
       → held_at w.known.held j ≡ held_at v.known.held j → w.out ≡ v.out
       → (o : Option ℕ) → IsShard (of start) start n s h j o → IsShard (of start) start n (with_view (of start) start n s ws s.homes id w) (h ++ e ∷ []) j o
   shard_apart s h e ws id v w j at word agree held out None r = record { word = word ∙ r.word; value = r.value; slot = r.slot; stands = (laws start).stands j r.value h (h ++ e ∷ []) r.stands agree }
@@ -208,7 +209,7 @@ module _ {S X E : Type 0} (of : S → Machine X E) (laws : (s : S) → Laws (of 
             let a = holds j on in
             let own_j = own_shard of laws start n s r id (at_rest v) at j a.0 a.1 in
             let there : Held m start n (with_view m start n s ws s.homes id w) h' j id = record {
-              word = get_or-set_other s.words 0 (suc j) ((x + 1) % 2 ^ 64) 0 (λ z. absurd (omega arith)) ∙ own_j.4;
+              word = get_or-set_other s.words 0 (word_of j) ((x + 1) % 2 ^ 64) 0 (λ z. absurd (omega arith)) ∙ own_j.4;
               view = w;
               there = at_here s.views id w (at_rest v) at;
               upto = h';
@@ -218,7 +219,7 @@ module _ {S X E : Type 0} (of : S → Machine X E) (laws : (s : S) → Laws (of 
               slot = own_j.5;
             } in
             subst (λ o. IsShard m start n (with_view m start n s ws s.homes id w) h' j o) (sym own_j.1) there)
-            (λ off. shard_apart s h e ws id (at_rest v) w j at (get_or-set_other s.words 0 (suc j) ((x + 1) % 2 ^ 64) 0 (λ z. absurd (omega arith)))
+            (λ off. shard_apart s h e ws id (at_rest v) w j at (get_or-set_other s.words 0 (word_of j) ((x + 1) % 2 ^ 64) 0 (λ z. absurd (omega arith)))
             (l.frame h e j legal (subst (λ z. list_any (eqb j) z ≡ false) same off)) (held_apart is h' v.held j off) refl (r.holder j) (r.shards j lt))
             (either_way (list_any (eqb j) is));
         parties = λ q. party_added s h e ws id (at_rest v) w q r.seat at (λ a. a) (λ z its. ap r.seat (by z its) ∙ own.1) (r.seat q) refl (r.parties q);

@@ -1,5 +1,5 @@
 -- The steps on a shard's word keep the rule: it is taken or missed, its slot goes home or out, and it is freed.
-use Rattle.std.proofs.Common.{◌≡◌, ◌≢◌, ℕ, suc, ◌+◌, add-one, ◌<◌, ◌≤◌, ◌⊎◌, inl, inr, true, false, eqb, List, [], ◌∷◌, length, get_or, set, All, Option, None, Some, refl, ap, sym, subst, ◌∙◌, arith}
+use Rattle.std.proofs.Common.{◌≡◌, ◌≢◌, ℕ, suc, ◌+◌, ◌<◌, ◌≤◌, ◌⊎◌, inl, inr, true, false, eqb, List, [], ◌∷◌, length, get_or, set, All, Option, None, Some, refl, ap, sym, subst, ◌∙◌, arith}
 use mathlib.Core.Logic.{dite}
 use mathlib.Core.Option.{some, none}
 use mathlib.Core.List.{IsPrefix}
@@ -17,7 +17,7 @@ use Rattle.commit_table.specs.declared.views.LockOp.TheVariants as lock_op
 use Rattle.commit_table.specs.Turns.{IsTaken}
 use Rattle.commit_table.specs.Views.{held_at, took, missed, gave_back, at_rest, reaching}
 use Rattle.commit_table.specs.Rule.{Free, Held, IsShard, Fits, Rule}
-use Rattle.commit_table.specs.Calls.{IsSound, Met}
+use Rattle.commit_table.specs.Calls.{word_of, slot_of, IsSound, Met}
 use Rattle.commit_table.specs.Steps.{Of, Takes, Reaches, takes, parks, reaches, frees}
 use Rattle.commit_table.proofs.Lists.{prefix_self, at_here, one_there, held_here, held_else}
 use Rattle.commit_table.proofs.Turning.{own_turns, turn_made, turn_missed, turned_kept}
@@ -74,17 +74,17 @@ module _ {S X E : Type 0} (of : S → Machine X E) (laws : (s : S) → Laws (of 
       let f = r.views id v at in
       record { legal = (laws start).beginning v.known.seen f.seen.0 (subst (λ h. m.Legal h) (sym f.seen.1) r.legal); own = f.own_seen }
 
-  free_shard : (s : St) (h : List E) (i : ℕ) (o : Option ℕ) → IsShard m start n s h i o → get_or s.words (suc i) 0 ≡ 0 → (o ≡ None) × Free m start n s h i
+  free_shard : (s : St) (h : List E) (i : ℕ) (o : Option ℕ) → IsShard m start n s h i o → get_or s.words (word_of i) 0 ≡ 0 → (o ≡ None) × Free m start n s h i
   free_shard s h i None f z = (refl, f)
   free_shard s h i (Some k) f z = absurd (let a = f.word in omega (arith, a, z))
 
-  held_word : (s : St) (h : List E) (i : ℕ) (o : Option ℕ) → IsShard m start n s h i o → get_or s.words (suc i) 0 ≢ 0 → get_or s.words (suc i) 0 ≡ 1
+  held_word : (s : St) (h : List E) (i : ℕ) (o : Option ℕ) → IsShard m start n s h i o → get_or s.words (word_of i) 0 ≢ 0 → get_or s.words (word_of i) 0 ≡ 1
   held_word s h i None f z = absurd (z f.word)
   held_word s h i (Some k) f z = f.word
 
   -- what the rule says of a shard that the seat holds
   pub own_shard : (s : St) (r : R s) (id : ℕ) (v : View S E) → get_elem? s.views id ≡ some v → (i : ℕ) (g : List E) → held_at v.known.held i ≡ Some g
-      → (i < m.shards) × (r.holder i ≡ Some id) × IsPrefix g r.history × m.Agree i g r.history × (get_or s.words (suc i) 0 ≡ 1) × ((v.out ≡ Some i) ⊎ ((y : Option X) × (get_elem? s.homes i ≡ some (some y))))
+      → (i < m.shards) × (r.holder i ≡ Some id) × IsPrefix g r.history × m.Agree i g r.history × (get_or s.words (word_of i) 0 ≡ 1) × ((v.out ≡ Some i) ⊎ ((y : Option X) × (get_elem? s.homes (slot_of i) ≡ some (some y))))
   own_shard s r id v at i g held =
       let own = (r.views id v at).held i g held in
       let d : Held m start n s r.history i id = subst (λ o. IsShard m start n s r.history i o) own.1 (r.shards i own.0) in
@@ -95,7 +95,7 @@ module _ {S X E : Type 0} (of : S → Machine X E) (laws : (s : S) → Laws (of 
         subst (λ z. IsPrefix z r.history) upto d.begins,
         subst (λ z. m.Agree i z r.history) upto d.agrees,
         d.word,
-        subst (λ (z : View S E). (z.out ≡ Some i) ⊎ ((y : Option X) × (get_elem? s.homes i ≡ some (some y)))) (sym same) d.slot,
+        subst (λ (z : View S E). (z.out ≡ Some i) ⊎ ((y : Option X) × (get_elem? s.homes (slot_of i) ≡ some (some y)))) (sym same) d.slot,
       )
 
   -- who holds a shard holds it still
@@ -112,12 +112,12 @@ module _ {S X E : Type 0} (of : S → Machine X E) (laws : (s : S) → Laws (of 
       (t.1, subst (λ (z : View S E). z.known.party ≡ Some t.1) (sym be) t.3)
 
   -- a shard whose word is not 0 is held by a pass
-  taker_of : (s : St) (turns : List Turn) (h : List E) (i : ℕ) (o : Option ℕ) → IsShard m start n s h i o → IsTaken s.views turns i o → get_or s.words (suc i) 0 ≢ 0 → (k : ℕ) × (o ≡ Some k) × IsTaken s.views turns i (Some k)
+  taker_of : (s : St) (turns : List Turn) (h : List E) (i : ℕ) (o : Option ℕ) → IsShard m start n s h i o → IsTaken s.views turns i o → get_or s.words (word_of i) 0 ≢ 0 → (k : ℕ) × (o ≡ Some k) × IsTaken s.views turns i (Some k)
   taker_of s turns h i None f t z = absurd (z f.word)
   taker_of s turns h i (Some k) f t z = (k, refl, t)
 
   -- another pass holds a shard that was missed
-  met_other : (s : St) (r : R s) (id i p : ℕ) (v : K) → get_elem? s.views id ≡ some (at_rest v) → i < m.shards → v.party ≡ Some p → held_at v.held i ≡ None → get_or s.words (suc i) 0 ≢ 0 → Met v i (record { shard = i; party = p; op = lock_op.Missed } ∷ r.turns)
+  met_other : (s : St) (r : R s) (id i p : ℕ) (v : K) → get_elem? s.views id ≡ some (at_rest v) → i < m.shards → v.party ≡ Some p → held_at v.held i ≡ None → get_or s.words (word_of i) 0 ≢ 0 → Met v i (record { shard = i; party = p; op = lock_op.Missed } ∷ r.turns)
   met_other s r id i p v at lt party free miss =
       let f = r.views id (at_rest v) at in
       let t = taker_of s r.turns r.history i (r.holder i) (r.shards i lt) (r.turned.takers i lt) miss in
@@ -143,23 +143,23 @@ module _ {S X E : Type 0} (of : S → Machine X E) (laws : (s : S) → Laws (of 
   abbrev pub Goes : St → ℕ → ℕ → Mine → (Mine → Type 0) → ℕ → Type 0
   Goes s k id me then y = (w : View S E) × (a : Act (Option X)) × Valid s.homes me.1 a × R (stepped s k y id me.1 w a) × then (w, carried_after me.1 a)
 
-  same_takes : (i j x : ℕ) (v : K) (after : Mine) → Takes of i v x after → suc i ≡ j + 1 → Takes of j v x after
+  same_takes : (i j x : ℕ) (v : K) (after : Mine) → Takes of i v x after → word_of i ≡ word_of j → Takes of j v x after
   same_takes i j x v after t e = subst (λ z. Takes of z v x after) (let q : i ≡ j = omega arith in q) t
 
   take_rest : (slots id i : ℕ) (v : K) (p : ℕ) → i < m.shards → v.party ≡ Some p → held_at v.held i ≡ None
-      → Allows R slots id (at_rest v, []) (suc i) (λ x. either (eqb x 0) 1 x) (takes of (step slots (suc i) 0 1 none) (at_rest v, []))
+      → Allows R slots id (at_rest v, []) (word_of i) (λ x. either (eqb x 0) 1 x) (takes of (step slots (word_of i) 0 1 none) (at_rest v, []))
   take_rest slots id i v p lt party free s r wide at _ =
       let h = r.history in
       let f = r.views id (at_rest v) at in
-      let x : ℕ = get_or s.words (suc i) 0 in
+      let x : ℕ = get_or s.words (word_of i) 0 in
       let known : Of of v (λ z. IsSound z v) = told s r id (at_rest v) at (λ z. IsSound z v) (sound s r id (at_rest v) at) in
-      let then : Mine → Type 0 = takes of (step slots (suc i) 0 1 none) (at_rest v, []) x in
-      exchanged x 0 1 (λ y. Goes s (suc i) id (at_rest v, []) then y)
+      let then : Mine → Type 0 = takes of (step slots (word_of i) 0 1 none) (at_rest v, []) x in
+      exchanged x 0 1 (λ y. Goes s (word_of i) id (at_rest v, []) then y)
       (λ hit.
       let is = free_shard s h i (r.holder i) (r.shards i lt) hit in
       let w = reaching (took v i h) i in
-      let here : Held m start n (with_view m start n s (set s.words (suc i) 1) (set s.homes i none) id w) h i id = record {
-        word = get_or-set_same s.words (suc i) 1 0 (let z = r.size in omega (arith, z));
+      let here : Held m start n (with_view m start n s (set s.words (word_of i) 1) (set s.homes (slot_of i) none) id w) h i id = record {
+        word = get_or-set_same s.words (word_of i) 1 0 (let z = r.size in omega (arith, z));
         view = w;
         there = at_here s.views id w (at_rest v) at;
         upto = h;
@@ -174,12 +174,12 @@ module _ {S X E : Type 0} (of : S → Machine X E) (laws : (s : S) → Laws (of 
       (λ ne. let old = f.held j g (sym (held_else v.held i j (Some h) ne) ∙ e) in (old.0, updated_else m start n r.holder i j (Some id) ne ∙ old.1)))
       (λ e. absurd cc) in (
         w,
-        carries i (Some is.1.value),
+        carries (slot_of i) (Some is.1.value),
         is.1.slot,
-        moved m start n s r id (at_rest v) w at i 1 (set s.homes i none) (Some id) (inl is.0)
-            (λ j ne. set_else s.homes i j none ne) (λ j ne. held_else v.held i j (Some h) ne) (λ j ne e. absurd cc) (λ e. e) (λ q a. a) here fits
+        moved m start n s r id (at_rest v) w at i 1 (set s.homes (slot_of i) none) (Some id) (inl is.0)
+            (λ j ne. set_else s.homes (slot_of i) (slot_of j) none (λ e. ne (omega arith))) (λ j ne. held_else v.held i j (Some h) ne) (λ j ne e. absurd cc) (λ e. e) (λ q a. a) here fits
             (record { shard = i; party = p; op = lock_op.Took } ∷ r.turns) (turn_made m.shards s.views r.turns r.holder r.seat i p id (at_rest v) w true at party party refl refl refl refl (f.party p party).1 r.turned),
-        λ j e. same_takes i j x v (w, (i, Some is.1.value) ∷ []) (known, inl (hit, (is.1.value, h, refl, f.seen, told s r id (at_rest v) at (λ z. z.Legal h × z.Stands i is.1.value h) (r.legal, is.1.stands)))) e,
+        λ j e. same_takes i j x v (w, (slot_of i, Some is.1.value) ∷ []) (known, inl (hit, (is.1.value, h, refl, f.seen, told s r id (at_rest v) at (λ z. z.Legal h × z.Stands i is.1.value h) (r.legal, is.1.stands)))) e,
       ))
       (λ miss.
       let turns : List Turn = record { shard = i; party = p; op = lock_op.Missed } ∷ r.turns in
@@ -188,29 +188,29 @@ module _ {S X E : Type 0} (of : S → Machine X E) (laws : (s : S) → Laws (of 
         w,
         keeps,
         tt,
-        still_with m start n s r id (at_rest v) w at (suc i) refl refl (λ e. e) (λ q a. a) fits turns
+        still_with m start n s r id (at_rest v) w at (word_of i) refl refl (λ e. e) (λ q a. a) fits turns
             (turn_missed m.shards s.views r.turns r.holder r.seat i p id (at_rest v) w at party party refl refl refl refl (f.party p party).1 r.turned),
         λ j e. same_takes i j x v (w, []) (known, inr (held_word s h i (r.holder i) (r.shards i lt) miss, (turns, refl, met_other s r id i p v at lt party free miss))) e,
       ))
 
-  park_rest : (slots id i : ℕ) (v : K) (y : Option X) (g : List E) → slots ≡ m.shards → held_at v.held i ≡ Some g
-      → Allows R slots id (reaching v i, (i, y) ∷ []) (suc i) (λ x. x) (parks of (step slots (suc i) 0 0 none) (reaching v i, (i, y) ∷ []))
+  park_rest : (slots id i : ℕ) (v : K) (y : Option X) (g : List E) → slots ≡ slot_of m.shards → held_at v.held i ≡ Some g
+      → Allows R slots id (reaching v i, (slot_of i, y) ∷ []) (word_of i) (λ x. x) (parks of (step slots (word_of i) 0 0 none) (reaching v i, (slot_of i, y) ∷ []))
   park_rest slots id i v y g sized held s r wide at _ =
       let h = r.history in
       let f = r.views id (reaching v i) at in
       let own = own_shard s r id (reaching v i) at i g held in
-      let x : ℕ = get_or s.words (suc i) 0 in
+      let x : ℕ = get_or s.words (word_of i) 0 in
       let w = at_rest v in
-      let room : i < length s.homes = let lt = own.0 in omega (arith, wide, sized) in
-      let here : Held m start n (with_view m start n s (set s.words (suc i) x) (set s.homes i (some y)) id w) h i id = record {
-        word = get_or-set_same s.words (suc i) x 0 (let lt = own.0 in let z = r.size in omega (arith, z)) ∙ own.4;
+      let room : slot_of i < length s.homes = let lt = own.0 in omega (arith, wide, sized) in
+      let here : Held m start n (with_view m start n s (set s.words (word_of i) x) (set s.homes (slot_of i) (some y)) id w) h i id = record {
+        word = get_or-set_same s.words (word_of i) x 0 (let lt = own.0 in let z = r.size in omega (arith, z)) ∙ own.4;
         view = w;
         there = at_here s.views id w (reaching v i) at;
         upto = g;
         held = held;
         begins = own.2;
         agrees = own.3;
-        slot = inr (y, set_here s.homes i (some y) room);
+        slot = inr (y, set_here s.homes (slot_of i) (some y) room);
       } in
       let fits = rest_fits h (updated m start n r.holder i (Some id)) r.seat id v None [] f.begun f.seen f.heard f.looks f.own_seen f.party
       (λ j k e. let old = f.held j k e in (old.0, dite (ℕ_discrete j i) (λ same. updated_here m start n r.holder i j (Some id) same) (λ ne. updated_else m start n r.holder i j (Some id) ne ∙ old.1)))
@@ -218,27 +218,27 @@ module _ {S X E : Type 0} (of : S → Machine X E) (laws : (s : S) → Laws (of 
         w,
         gives,
         tt,
-        moved m start n s r id (reaching v i) w at i x (set s.homes i (some y)) (Some id) (inr own.1)
-            (λ j ne. set_else s.homes i j (some y) ne) (λ j ne. refl) (λ j ne e. absurd (ne (cc))) (λ e. e) (λ q a. a) here fits
+        moved m start n s r id (reaching v i) w at i x (set s.homes (slot_of i) (some y)) (Some id) (inr own.1)
+            (λ j ne. set_else s.homes (slot_of i) (slot_of j) (some y) (λ e. ne (omega arith))) (λ j ne. refl) (λ j ne e. absurd (ne (cc))) (λ e. e) (λ q a. a) here fits
             r.turns (turned_kept m.shards s.views r.turns r.holder (updated m start n r.holder i (Some id)) r.seat id (reaching v i) w at (held_still s r id i own.1) (λ j lt e q its. its) (λ q a. a) (r.turned.met id (reaching v i) at) r.turned),
         refl,
       )
 
-  reach_home : (s : St) (i : ℕ) (v : K) → (((at_rest v).out ≡ Some i) ⊎ ((y : Option X) × (get_elem? s.homes i ≡ some (some y)))) → (y : Option X) × (get_elem? s.homes i ≡ some (some y))
+  reach_home : (s : St) (i : ℕ) (v : K) → (((at_rest v).out ≡ Some i) ⊎ ((y : Option X) × (get_elem? s.homes (slot_of i) ≡ some (some y)))) → (y : Option X) × (get_elem? s.homes (slot_of i) ≡ some (some y))
   reach_home s i v (inl e) = absurd cc
   reach_home s i v (inr y) = y
 
   reach_rest : (slots id i : ℕ) (v : K) (g : List E) → held_at v.held i ≡ Some g
-      → Allows R slots id (at_rest v, []) (suc i) (λ x. x) (reaches of (step slots (suc i) 0 0 none) (at_rest v, []))
+      → Allows R slots id (at_rest v, []) (word_of i) (λ x. x) (reaches of (step slots (word_of i) 0 0 none) (at_rest v, []))
   reach_rest slots id i v g held s r wide at _ =
       let h = r.history in
       let f = r.views id (at_rest v) at in
       let own = own_shard s r id (at_rest v) at i g held in
-      let x : ℕ = get_or s.words (suc i) 0 in
+      let x : ℕ = get_or s.words (word_of i) 0 in
       let w = reaching v i in
       let home = reach_home s i v own.5 in
-      let here : Held m start n (with_view m start n s (set s.words (suc i) x) (set s.homes i none) id w) h i id = record {
-        word = get_or-set_same s.words (suc i) x 0 (let lt = own.0 in let z = r.size in omega (arith, z)) ∙ own.4;
+      let here : Held m start n (with_view m start n s (set s.words (word_of i) x) (set s.homes (slot_of i) none) id w) h i id = record {
+        word = get_or-set_same s.words (word_of i) x 0 (let lt = own.0 in let z = r.size in omega (arith, z)) ∙ own.4;
         view = w;
         there = at_here s.views id w (at_rest v) at;
         upto = g;
@@ -251,27 +251,27 @@ module _ {S X E : Type 0} (of : S → Machine X E) (laws : (s : S) → Laws (of 
       (λ j k e. let old = f.held j k e in (old.0, dite (ℕ_discrete j i) (λ same. updated_here m start n r.holder i j (Some id) same) (λ ne. updated_else m start n r.holder i j (Some id) ne ∙ old.1)))
       f.none in (
         w,
-        carries i home.0,
+        carries (slot_of i) home.0,
         home.1,
-        moved m start n s r id (at_rest v) w at i x (set s.homes i none) (Some id) (inr own.1)
-            (λ j ne. set_else s.homes i j none ne) (λ j ne. refl) (λ j ne e. absurd cc) (λ e. e) (λ q a. a) here fits
+        moved m start n s r id (at_rest v) w at i x (set s.homes (slot_of i) none) (Some id) (inr own.1)
+            (λ j ne. set_else s.homes (slot_of i) (slot_of j) none (λ e. ne (omega arith))) (λ j ne. refl) (λ j ne e. absurd cc) (λ e. e) (λ q a. a) here fits
             r.turns (turned_kept m.shards s.views r.turns r.holder (updated m start n r.holder i (Some id)) r.seat id (at_rest v) w at (held_still s r id i own.1) (λ j lt e q its. its) (λ q a. a) (r.turned.met id (at_rest v) at) r.turned),
-        λ j e. subst (λ z. Reaches of z v (w, (i, home.0) ∷ [])) (let q : i ≡ j = omega arith in q) (home.0, refl),
+        λ j e. subst (λ z. Reaches of z v (w, (slot_of i, home.0) ∷ [])) (let q : i ≡ j = omega arith in q) (home.0, refl),
       )
 
-  free_rest : (slots id i : ℕ) (v : K) (x : X) (g : List E) → slots ≡ m.shards → held_at v.held i ≡ Some g → m.Stands i x g
-      → Allows R slots id (reaching v i, (i, Some x) ∷ []) (suc i) (λ _. 0) (λ _. frees of (step slots (suc i) 0 0 none) (reaching v i, (i, Some x) ∷ []) 0)
+  free_rest : (slots id i : ℕ) (v : K) (x : X) (g : List E) → slots ≡ slot_of m.shards → held_at v.held i ≡ Some g → m.Stands i x g
+      → Allows R slots id (reaching v i, (slot_of i, Some x) ∷ []) (word_of i) (λ _. 0) (λ _. frees of (step slots (word_of i) 0 0 none) (reaching v i, (slot_of i, Some x) ∷ []) 0)
   free_rest slots id i v x g sized held stands s r wide at _ =
       let h = r.history in
       let f = r.views id (reaching v i) at in
       let own = own_shard s r id (reaching v i) at i g held in
       let w = at_rest (gave_back v i) in
       let taker = own_taker s r id (reaching v i) at i own.0 own.1 in
-      let room : i < length s.homes = let lt = own.0 in omega (arith, wide, sized) in
-      let here : Free m start n (with_view m start n s (set s.words (suc i) 0) (set s.homes i (some (Some x))) id w) h i = record {
-        word = get_or-set_same s.words (suc i) 0 0 (let lt = own.0 in let z = r.size in omega (arith, z));
+      let room : slot_of i < length s.homes = let lt = own.0 in omega (arith, wide, sized) in
+      let here : Free m start n (with_view m start n s (set s.words (word_of i) 0) (set s.homes (slot_of i) (some (Some x))) id w) h i = record {
+        word = get_or-set_same s.words (word_of i) 0 0 (let lt = own.0 in let z = r.size in omega (arith, z));
         value = x;
-        slot = set_here s.homes i (some (Some x)) room;
+        slot = set_here s.homes (slot_of i) (some (Some x)) room;
         stands = (laws start).stands i x g h stands own.3;
       } in
       let fits = rest_fits h (updated m start n r.holder i None) r.seat id (gave_back v i) None [] f.begun f.seen f.heard f.looks f.own_seen f.party
@@ -284,28 +284,28 @@ module _ {S X E : Type 0} (of : S → Machine X E) (laws : (s : S) → Laws (of 
         w,
         gives,
         tt,
-        moved m start n s r id (reaching v i) w at i 0 (set s.homes i (some (Some x))) None (inr own.1)
-            (λ j ne. set_else s.homes i j (some (Some x)) ne) (λ j ne. held_else v.held i j None ne) (λ j ne e. absurd (ne (cc))) (λ e. e) (λ q a. a) here fits
+        moved m start n s r id (reaching v i) w at i 0 (set s.homes (slot_of i) (some (Some x))) None (inr own.1)
+            (λ j ne. set_else s.homes (slot_of i) (slot_of j) (some (Some x)) (λ e. ne (omega arith))) (λ j ne. held_else v.held i j None ne) (λ j ne e. absurd (ne (cc))) (λ e. e) (λ q a. a) here fits
             (record { shard = i; party = taker.0; op = lock_op.GaveBack } ∷ r.turns) (turn_made m.shards s.views r.turns r.holder r.seat i taker.0 id (reaching v i) w false at taker.1 taker.1 refl refl refl refl (f.party taker.0 taker.1).1 r.turned),
         λ j e. let P : ℕ → Type 0 = λ z. ◌≡◌ {A = Mine} (w, []) (at_rest (gave_back v z), []) in subst P (let q : i ≡ j = omega arith in q) refl,
       )
 
   pub take_allowed : (slots id i : ℕ) (me : Mine) → me ≡ (at_rest me.0.known, []) → (p : ℕ) → i < m.shards → me.0.known.party ≡ Some p → held_at me.0.known.held i ≡ None
-      → Allows R slots id me (i + 1) (λ x. either (eqb x 0) 1 x) (takes of (step slots (i + 1) 0 1 none) me)
-  take_allowed slots id i me ready p lt party free = subst (λ k. Allows R slots id me k (λ x. either (eqb x 0) 1 x) (takes of (step slots k 0 1 none) me)) (sym (add-one i))
-      (subst (λ z. Allows R slots id z (suc i) (λ x. either (eqb x 0) 1 x) (takes of (step slots (suc i) 0 1 none) z)) (sym ready) (take_rest slots id i me.0.known p lt party free))
+      → Allows R slots id me (word_of i) (λ x. either (eqb x 0) 1 x) (takes of (step slots (word_of i) 0 1 none) me)
+  take_allowed slots id i me ready p lt party free =
+      subst (λ z. Allows R slots id z (word_of i) (λ x. either (eqb x 0) 1 x) (takes of (step slots (word_of i) 0 1 none) z)) (sym ready) (take_rest slots id i me.0.known p lt party free)
 
-  pub park_allowed : (slots id i : ℕ) (me : Mine) (y : Option X) → me ≡ (reaching me.0.known i, (i, y) ∷ []) → (g : List E) → slots ≡ m.shards → held_at me.0.known.held i ≡ Some g
-      → Allows R slots id me (i + 1) (λ x. x) (parks of (step slots (i + 1) 0 0 none) me)
-  park_allowed slots id i me y ready g sized held = subst (λ k. Allows R slots id me k (λ x. x) (parks of (step slots k 0 0 none) me)) (sym (add-one i))
-      (subst (λ z. Allows R slots id z (suc i) (λ x. x) (parks of (step slots (suc i) 0 0 none) z)) (sym ready) (park_rest slots id i me.0.known y g sized held))
+  pub park_allowed : (slots id i : ℕ) (me : Mine) (y : Option X) → me ≡ (reaching me.0.known i, (slot_of i, y) ∷ []) → (g : List E) → slots ≡ slot_of m.shards → held_at me.0.known.held i ≡ Some g
+      → Allows R slots id me (word_of i) (λ x. x) (parks of (step slots (word_of i) 0 0 none) me)
+  park_allowed slots id i me y ready g sized held =
+      subst (λ z. Allows R slots id z (word_of i) (λ x. x) (parks of (step slots (word_of i) 0 0 none) z)) (sym ready) (park_rest slots id i me.0.known y g sized held)
 
   pub reach_allowed : (slots id i : ℕ) (me : Mine) → me ≡ (at_rest me.0.known, []) → (g : List E) → held_at me.0.known.held i ≡ Some g
-      → Allows R slots id me (i + 1) (λ x. x) (reaches of (step slots (i + 1) 0 0 none) me)
-  reach_allowed slots id i me ready g held = subst (λ k. Allows R slots id me k (λ x. x) (reaches of (step slots k 0 0 none) me)) (sym (add-one i))
-      (subst (λ z. Allows R slots id z (suc i) (λ x. x) (reaches of (step slots (suc i) 0 0 none) z)) (sym ready) (reach_rest slots id i me.0.known g held))
+      → Allows R slots id me (word_of i) (λ x. x) (reaches of (step slots (word_of i) 0 0 none) me)
+  reach_allowed slots id i me ready g held =
+      subst (λ z. Allows R slots id z (word_of i) (λ x. x) (reaches of (step slots (word_of i) 0 0 none) z)) (sym ready) (reach_rest slots id i me.0.known g held)
 
-  pub free_allowed : (slots id i : ℕ) (me : Mine) (x : X) → me ≡ (reaching me.0.known i, (i, Some x) ∷ []) → (g : List E) → slots ≡ m.shards → held_at me.0.known.held i ≡ Some g → m.Stands i x g
-      → Allows R slots id me (i + 1) (λ _. 0) (λ _. frees of (step slots (i + 1) 0 0 none) me 0)
-  free_allowed slots id i me x ready g sized held stands = subst (λ k. Allows R slots id me k (λ _. 0) (λ _. frees of (step slots k 0 0 none) me 0)) (sym (add-one i))
-      (subst (λ z. Allows R slots id z (suc i) (λ _. 0) (λ _. frees of (step slots (suc i) 0 0 none) z 0)) (sym ready) (free_rest slots id i me.0.known x g sized held stands))
+  pub free_allowed : (slots id i : ℕ) (me : Mine) (x : X) → me ≡ (reaching me.0.known i, (slot_of i, Some x) ∷ []) → (g : List E) → slots ≡ slot_of m.shards → held_at me.0.known.held i ≡ Some g → m.Stands i x g
+      → Allows R slots id me (word_of i) (λ _. 0) (λ _. frees of (step slots (word_of i) 0 0 none) me 0)
+  free_allowed slots id i me x ready g sized held stands =
+      subst (λ z. Allows R slots id z (word_of i) (λ _. 0) (λ _. frees of (step slots (word_of i) 0 0 none) z 0)) (sym ready) (free_rest slots id i me.0.known x g sized held stands)

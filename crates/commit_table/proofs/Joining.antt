@@ -18,9 +18,9 @@ use Rattle.commit_table.specs.declared.views.View.{View}
 use Rattle.commit_table.specs.Machine.{Machine, Laws, events_by}
 use Rattle.commit_table.specs.Views.{longer, shorter, held_at, new_pass, noted, at_rest, also_seen, hearing, maker, gatherer, closer, gathering, tally_of, spent}
 use Rattle.commit_table.specs.Rule.{Free, Held, IsShard, Remembers, Answers, IsParty, IsWhole, Gathered, Fits, Rule}
-use Rattle.commit_table.specs.Calls.{AreShards, Closed, PassValue}
+use Rattle.commit_table.specs.Calls.{word_of, slot_of, spread, AreShards, Closed, PassValue}
 use Rattle.commit_table.specs.Steps.{Ends, opens, ends}
-use Rattle.commit_table.proofs.Lists.{prefix_self, prefix_none, prefix_trans, prefix_length, events_between, at_here, one_there, at_end, found_there, get_some, some_get, map_more}
+use Rattle.commit_table.proofs.Lists.{prefix_self, prefix_none, prefix_trans, prefix_length, events_between, at_here, one_there, at_end, found_there, get_some, some_get, spread_at, map_more}
 use Rattle.commit_table.specs.Turns.{turns_by, GoOn, AreTurns}
 use Rattle.commit_table.proofs.Turning.{none_before, own_turns, unmade_turns, taken_kept, taken_grown, turns_kept, turns_grown, turned_kept, turned_grown}
 use Rattle.commit_table.proofs.Seen.{longer_begins, first_begins, second_begins, shorter_begins, first_whole, second_whole}
@@ -423,18 +423,18 @@ module _ {S X E : Type 0} (of : S → Machine X E) (laws : (s : S) → Laws (of 
       (maker_fits [] (λ _. None) (λ p. cond (ltb p n) (Some 0) None) 0 0 (λ p low high. (subst (λ b. cond {A = Option ℕ} b (Some 0) None ≡ Some 0) (sym (lt-ltb p n high)) refl, refl)))
   first_view ws (suc id) v there = absurd (some-ne-none v (sym there))
 
-  pub opens_ruled : (ws : List ℕ) (xs : List (Option X)) → length ws ≡ M.shards + 1 → ((k : ℕ) → get_or ws k 0 ≡ 0)
-      → ((i : ℕ) → i < M.shards → (x : X) × (get_elem? xs i ≡ some (Some x)) × M.Stands i x [])
+  pub opens_ruled : (ws : List ℕ) (xs : List (Option X)) → length ws ≡ word_of M.shards → ((k : ℕ) → get_or ws k 0 ≡ 0)
+      → ((i : ℕ) → i < M.shards → (x : X) × (get_elem? xs (slot_of i) ≡ some (Some x)) × M.Stands i x [])
       → R (opening ws xs (maker start 0 n))
   opens_ruled ws xs size zeros values = record {
     history = [];
     holder = λ _. None;
     seat = λ p. cond (ltb p n) (Some 0) None;
-    size = size ∙ add-one M.shards;
+    size = size;
     legal = (laws start).opening;
     word = zeros 0;
     whole = (0, maker start 0 n, refl, refl);
-    shards = λ i lt. let a = values i lt in record { word = zeros (suc i); value = a.0; slot = at_map (λ (y : Option X). some y) xs i (Some a.0) a.1; stands = a.2 };
+    shards = λ i lt. let a = values i lt in record { word = zeros (word_of i); value = a.0; slot = at_map (λ (y : Option X). some y) xs (slot_of i) (Some a.0) a.1; stands = a.2 };
     parties = λ p. party_first ws xs p (dec_lt p n);
     views = λ id v there. first_view ws id v there;
     turns = [];
@@ -480,33 +480,33 @@ module _ {S X E : Type 0} (of : S → Machine X E) (laws : (s : S) → Laws (of 
   zeros_at (suc k) zero = refl
   zeros_at (suc k) (suc i) = zeros_at k i
 
-  pub opens_with : (k : ℕ) (ws : List ℕ) (xs : List X) (slots : List (Option X)) → ws ≡ replicate k 0 → k ≡ M.shards + 1 → slots ≡ map (λ x. Some x) xs → AreShards M xs [] → R (opening ws slots (maker start 0 n))
+  pub opens_with : (k : ℕ) (ws : List ℕ) (xs : List X) (slots : List (Option X)) → ws ≡ replicate k 0 → k ≡ word_of M.shards → slots ≡ spread xs → AreShards M xs [] → R (opening ws slots (maker start 0 n))
   opens_with k ws xs slots words size values shards =
       let count = shards.count in
       opens_ruled ws slots (ap length words ∙ (length-replicate k 0 ∙ size)) (λ i. ap (λ z. get_or z i 0) words ∙ zeros_at k i)
       (λ i lt. let a = found_there xs i (omega arith) in (
         a.0,
-        subst (λ z. get_elem? z i ≡ some (Some a.0)) (sym values) (at_map (λ (x : X). Some x) xs i a.0 a.2),
+        subst (λ z. get_elem? z (slot_of i) ≡ some (Some a.0)) (sym values) (spread_at xs i a.0 a.2),
         shards.stand i a.0 a.1,
       ))
 
   -- the values of the slots, once the table is closed
   pub final_values : (id : ℕ) (h : List E) (l : List (Known S E)) (v : V) (ws : List ℕ) (xs : List (Option X)) → v ≡ closer start h l → Final (Seen R id v) ws xs
-      → (i : ℕ) → i < M.shards → (x : X) × (get_elem? xs i ≡ some (Some x)) × M.Stands i x h
+      → (i : ℕ) → i < M.shards → (x : X) × (get_elem? xs (slot_of i) ≡ some (Some x)) × M.Stands i x h
   final_values id h l v ws xs is final i lt =
       let s = final.0 in
       let at = subst (λ (z : V). get_elem? s.views id ≡ some z) is final.1.1 in
       let free = closed_shards s final.1.0 id h l at i lt in
-      (free.value, final.4 i (Some free.value) free.slot, free.stands)
+      (free.value, final.4 (slot_of i) (Some free.value) free.slot, free.stands)
 
   pub final_shards : (id : ℕ) (h : List E) (l : List (Known S E)) (v : V) (ws : List ℕ) (xs : List (Option X)) (ys : List X) → v ≡ closer start h l → Final (Seen R id v) ws xs
-      → length ys ≡ M.shards → ((k : ℕ) (x : X) → slice_get ys k ≡ Some x → get_elem? xs k ≡ some (Some x)) → AreShards M ys h
+      → length ys ≡ M.shards → ((k : ℕ) (x : X) → slice_get ys k ≡ Some x → get_elem? xs (slot_of k) ≡ some (Some x)) → AreShards M ys h
   final_shards id h l v ws xs ys is final count same = record {
     count = count;
     stand = λ i x there.
         let lt : i < length ys = slice_get_within ys i x there in
         let a = final_values id h l v ws xs is final i (omega arith) in
-        let b : ◌≡◌ {A = Option X} (Some a.0) (Some x) = one_there xs i (Some a.0) (Some x) a.1 (same i x there) in
+        let b : ◌≡◌ {A = Option X} (Some a.0) (Some x) = one_there xs (slot_of i) (Some a.0) (Some x) a.1 (same i x there) in
         let e : a.0 ≡ x = cc in subst (λ z. M.Stands i z h) e a.2;
   }
 

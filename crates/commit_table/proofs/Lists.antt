@@ -1,5 +1,5 @@
 -- Beginnings of one history, the events of a party, what is held of a shard, and lists read by `get_elem?`.
-use Rattle.std.proofs.Common.{eqb, ◌≡◌, ◌≢◌, ℕ, zero, suc, ◌+◌, ◌<◌, ◌≤◌, ◌⊎◌, inl, inr, ⊎_elim, Bool, true, false, cond, eq-eqb, ne_eqb, List, [], ◌∷◌, ◌++◌, length, set, Option, Some, refl, ap, sym, subst, ◌∙◌, arith, append_assoc, append-nil, length-append, map, get_or, slice_get}
+use Rattle.std.proofs.Common.{eqb, ◌≡◌, ◌≢◌, ℕ, zero, suc, ◌+◌, ◌<◌, ◌≤◌, ◌⊎◌, inl, inr, ⊎_elim, Bool, true, false, cond, eq-eqb, ne_eqb, List, [], ◌∷◌, ◌++◌, length, set, Option, None, Some, refl, ap, sym, subst, ◌∙◌, arith, append_assoc, append-nil, length-append, map, get_or, slice_get}
 use Rattle.std.proofs.lemmas.List.{map-append, get_or-set_other}
 use Rattle.std.specs.List.{list_any}
 use mathlib.Core.Logic.{dite}
@@ -8,6 +8,7 @@ use mathlib.Core.List.{IsPrefix}
 use native.Mathlib.Decide.{ℕ_discrete}
 use lib.ListN.{get_elem?}
 use Rattle.commit_table.specs.Machine.{is_party, events_by}
+use Rattle.commit_table.specs.Calls.{slot_of, spread}
 use Rattle.commit_table.specs.Views.{held_at, holds_all}
 
 module _ {A : Type 0} where
@@ -135,12 +136,30 @@ module _ {A : Type 0} where
   set_default (x ∷ xs) zero a = refl
   set_default (x ∷ xs) (suc i) a = set_default xs i a
 
-  -- one more element, found where it belongs
-  pub same_more : {B : Type 0} (f : A → B) (xs : List A) (x : A) (l : List B) (n : ℕ) → length xs ≡ n → ((k : ℕ) (y : A) → slice_get xs k ≡ Some y → get_elem? l k ≡ some (f y)) → get_elem? l n ≡ some (f x)
-      → (k : ℕ) (y : A) → slice_get (xs ++ x ∷ []) k ≡ Some y → get_elem? l k ≡ some (f y)
-  same_more f xs x l n len old new k y e = ⊎_elim (λ t. old k y (some_get xs k y t)) (λ t. subst (λ z. get_elem? l z ≡ some (f y)) (sym (t.0 ∙ len)) (subst (λ z. get_elem? l n ≡ some (f z)) t.1 new)) (at_end xs x y k (get_some (xs ++ x ∷ []) k y e))
-
 pub emptied_more : (xs : List Bool) (i : ℕ) → ((k : ℕ) → k < i → get_or xs k false ≡ false) → (k : ℕ) → k < i + 1 → get_or (set xs i false) k false ≡ false
 emptied_more xs i before k below = dite (ℕ_discrete k i)
     (λ same. subst (λ z. get_or (set xs i false) z false ≡ false) (sym same) (set_default xs i false))
     (λ ne. get_or-set_other xs i k false false ne ∙ before k (omega arith))
+
+module _ {A : Type 0} where
+  -- each value is found in its slot
+  pub spread_at : (xs : List A) (i : ℕ) (x : A) → get_elem? xs i ≡ some x → get_elem? (spread xs) (slot_of i) ≡ some (Some x)
+  spread_at [] i x e = absurd (some-ne-none x (sym e))
+  spread_at (y ∷ xs) zero x e = ap (λ (z : A). some (Some z)) (some-injective y x e)
+  spread_at (y ∷ xs) (suc i) x e =
+      let next : suc (suc (suc (suc (suc (suc (suc (suc (slot_of i)))))))) ≡ slot_of (suc i) = omega arith in
+      subst (λ z. get_elem? (spread (y ∷ xs)) z ≡ some (Some x)) next (spread_at xs i x e)
+
+  pub length_spread : (xs : List A) → length (spread xs) ≡ slot_of (length xs)
+  length_spread [] = refl
+  length_spread (x ∷ xs) = let r = length_spread xs in omega arith
+
+  -- one value more is spread behind the others
+  pub spread_more : (xs : List A) (x : A) → spread (xs ++ x ∷ []) ≡ spread xs ++ spread (x ∷ [])
+  spread_more [] x = refl
+  spread_more (y ∷ xs) x = ap (λ z. Some y ∷ None ∷ None ∷ None ∷ None ∷ None ∷ None ∷ None ∷ z) (spread_more xs x)
+
+  -- values that are read in order, each from its slot, with one value more
+  pub spread_so_far : (xs : List A) (x : A) (l : List (Option A)) → ((k : ℕ) (y : A) → slice_get xs k ≡ Some y → get_elem? l (slot_of k) ≡ some (Some y)) → get_elem? l (slot_of (length xs)) ≡ some (Some x)
+      → (k : ℕ) (y : A) → slice_get (xs ++ x ∷ []) k ≡ Some y → get_elem? l (slot_of k) ≡ some (Some y)
+  spread_so_far xs x l old new k y e = ⊎_elim (λ t. old k y (some_get xs k y t)) (λ t. subst (λ z. get_elem? l (slot_of z) ≡ some (Some y)) (sym t.0) (subst (λ z. get_elem? l (slot_of (length xs)) ≡ some (Some z)) t.1 new)) (at_end xs x y k (get_some (xs ++ x ∷ []) k y e))

@@ -11,6 +11,7 @@ use Rattle.atomic_table.proofs.Lists.{at_set, set_else}
 use Rattle.commit_table.specs.declared.views.View.{View}
 use Rattle.commit_table.specs.Machine.{Machine}
 use Rattle.commit_table.specs.declared.views.Turn.{Turn}
+use Rattle.commit_table.specs.Calls.{word_of, slot_of}
 use Rattle.commit_table.specs.Views.{held_at}
 use Rattle.commit_table.specs.Turns.{GoOn, Recalls, Turned}
 use Rattle.commit_table.specs.Rule.{IsShard, Answers, IsParty, IsWhole, Fits, Rule}
@@ -34,7 +35,7 @@ module _ {S X E : Type 0} (m : Machine X E) (start : S) (n : ℕ) where
   -- a shard that a step leaves alone
   pub shard_kept : (s : St) (h : List E) (ws : List ℕ) (hs : List (Maybe (Option X))) (id : ℕ) (v w : V) (j : ℕ)
       → get_elem? s.views id ≡ some v
-      → get_or ws (suc j) 0 ≡ get_or s.words (suc j) 0 → get_elem? hs j ≡ get_elem? s.homes j
+      → get_or ws (word_of j) 0 ≡ get_or s.words (word_of j) 0 → get_elem? hs (slot_of j) ≡ get_elem? s.homes (slot_of j)
       → ((g : List E) → held_at v.known.held j ≡ Some g → held_at w.known.held j ≡ Some g) → (v.out ≡ Some j → w.out ≡ Some j)
       → (o : Option ℕ) → IsShard m start n s h j o → IsShard m start n (with_view s ws hs id w) h j o
   shard_kept s h ws hs id v w j at word home holds out None r = record { word = word ∙ r.word; value = r.value; slot = home ∙ r.slot; stands = r.stands }
@@ -167,19 +168,19 @@ module _ {S X E : Type 0} (m : Machine X E) (start : S) (n : ℕ) where
   pub moved : (s : St) (r : R s) (id : ℕ) (v w : V) → get_elem? s.views id ≡ some v
       → (i b : ℕ) (hs : List (Maybe (Option X))) (o : Option ℕ)
       → (r.holder i ≡ None) ⊎ (r.holder i ≡ Some id)
-      → ((j : ℕ) → j ≢ i → get_elem? hs j ≡ get_elem? s.homes j)
+      → ((j : ℕ) → j ≢ i → get_elem? hs (slot_of j) ≡ get_elem? s.homes (slot_of j))
       → ((j : ℕ) → j ≢ i → held_at w.known.held j ≡ held_at v.known.held j) → ((j : ℕ) → j ≢ i → v.out ≡ Some j → w.out ≡ Some j)
       → (v.known.seen ≡ r.history → w.known.seen ≡ r.history)
       → ((p : ℕ) → Answers m start n v p → Answers m start n w p)
-      → IsShard m start n (with_view s (set s.words (suc i) b) hs id w) r.history i o
+      → IsShard m start n (with_view s (set s.words (word_of i) b) hs id w) r.history i o
       → Fits m start n r.history (updated r.holder i o) r.seat id w
       → (turns : List Turn) → Turned m.shards (set s.views id w) turns (updated r.holder i o) r.seat
-      → R (with_view s (set s.words (suc i) b) hs id w)
+      → R (with_view s (set s.words (word_of i) b) hs id w)
   moved s r id v w at i b hs o was homes held out seen answers here fits turns turned =
-      rebuild s r id v w at (set s.words (suc i) b) hs (updated r.holder i o) (length-set s.words (suc i) b) (get_or-set_other s.words (suc i) zero b 0 (λ e. absurd (omega arith))) seen
+      rebuild s r id v w at (set s.words (word_of i) b) hs (updated r.holder i o) (length-set s.words (word_of i) b) (get_or-set_other s.words (word_of i) zero b 0 (λ e. absurd (omega arith))) seen
       (λ j lt. dite (ℕ_discrete j i)
-      (λ same. subst (λ (z : ℕ). IsShard m start n (with_view s (set s.words (suc i) b) hs id w) r.history z (updated r.holder i o z)) (sym same)
-      (subst (λ (z : Option ℕ). IsShard m start n (with_view s (set s.words (suc i) b) hs id w) r.history i z) (sym (updated_here r.holder i i o refl)) here))
-      (λ ne. subst (λ (z : Option ℕ). IsShard m start n (with_view s (set s.words (suc i) b) hs id w) r.history j z) (sym (updated_else r.holder i j o ne))
-      (shard_kept s r.history (set s.words (suc i) b) hs id v w j at (get_or-set_other s.words (suc i) (suc j) b 0 (λ e. ne (omega arith))) (homes j ne) (λ g e. held j ne ∙ e) (out j ne) (r.holder j) (r.shards j lt))))
+      (λ same. subst (λ (z : ℕ). IsShard m start n (with_view s (set s.words (word_of i) b) hs id w) r.history z (updated r.holder i o z)) (sym same)
+      (subst (λ (z : Option ℕ). IsShard m start n (with_view s (set s.words (word_of i) b) hs id w) r.history i z) (sym (updated_here r.holder i i o refl)) here))
+      (λ ne. subst (λ (z : Option ℕ). IsShard m start n (with_view s (set s.words (word_of i) b) hs id w) r.history j z) (sym (updated_else r.holder i j o ne))
+      (shard_kept s r.history (set s.words (word_of i) b) hs id v w j at (get_or-set_other s.words (word_of i) (word_of j) b 0 (λ e. ne (omega arith))) (homes j ne) (λ g e. held j ne ∙ e) (out j ne) (r.holder j) (r.shards j lt))))
       answers (λ k u ne f. fits_other r.history r.holder r.seat i id o k u ne was f) fits turns turned

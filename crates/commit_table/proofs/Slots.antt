@@ -3,6 +3,7 @@ use Rattle.std.proofs.Common.{◌≡◌, ℕ, List, [], ◌∷◌, Option, refl,
 use Rattle.atomic_table.specs.Table.{Me, rest}
 use Rattle.commit_table.specs.declared.views.Known.{Known}
 use Rattle.commit_table.specs.declared.views.View.{View}
+use Rattle.commit_table.specs.Calls.{slot_of}
 use Rattle.commit_table.specs.Views.{at_rest, reaching}
 
 module _ {S X E : Type 0} where
@@ -12,21 +13,21 @@ module _ {S X E : Type 0} where
   pub record Swapped (old new : Me (Option X) (View S E)) (i : ℕ) (y result put : Option X) : Type 0 where
     pub result_is : result ≡ y
     pub known : new.0.known ≡ old.0.known
-    pub new_is : new ≡ (reaching new.0.known i, (i, put) ∷ [])
+    pub new_is : new ≡ (reaching new.0.known i, (slot_of i, put) ∷ [])
 
-  pub swapped : (old new : Me (Option X) (View S E)) (i : ℕ) (y result put : Option X) → old ≡ (reaching old.0.known i, (i, y) ∷ []) → old.1 ≡ (i, result) ∷ rest old.1
-      → new ≡ (old.0, (i, put) ∷ rest old.1) → Swapped old new i y result put
+  pub swapped : (old new : Me (Option X) (View S E)) (i : ℕ) (y result put : Option X) → old ≡ (reaching old.0.known i, (slot_of i, y) ∷ []) → old.1 ≡ (slot_of i, result) ∷ rest old.1
+      → new ≡ (old.0, (slot_of i, put) ∷ rest old.1) → Swapped old new i y result put
   swapped old new i y result put e found is =
-      let out : old.1 ≡ (i, y) ∷ [] = ap (λ (z : Me (Option X) (View S E)). z.1) e in
+      let out : old.1 ≡ (slot_of i, y) ∷ [] = ap (λ (z : Me (Option X) (View S E)). z.1) e in
       let none : rest old.1 ≡ [] = ap (λ (z : List (ℕ × Option X)). rest z) out in
-      let first : (i, result) ∷ rest old.1 ≡ (i, y) ∷ [] = sym found ∙ out in
-      let pair : ◌≡◌ {A = ℕ × Option X} (i, result) (i, y) = cc in
+      let first : (slot_of i, result) ∷ rest old.1 ≡ (slot_of i, y) ∷ [] = sym found ∙ out in
+      let pair : ◌≡◌ {A = ℕ × Option X} (slot_of i, result) (slot_of i, y) = cc in
       let view : new.0 ≡ old.0 = ap (λ (z : Me (Option X) (View S E)). z.0) is in
       let known : new.0.known ≡ old.0.known = ap (λ (z : View S E). z.known) view in
       let was : old.0 ≡ reaching old.0.known i = ap (λ (z : Me (Option X) (View S E)). z.0) e in
-      let a : ◌≡◌ {A = Me (Option X) (View S E)} (old.0, (i, put) ∷ rest old.1) (reaching old.0.known i, (i, put) ∷ rest old.1) = ap (λ (z : View S E). (z, (i, put) ∷ rest old.1)) was in
-      let b : ◌≡◌ {A = Me (Option X) (View S E)} (reaching old.0.known i, (i, put) ∷ rest old.1) (reaching old.0.known i, (i, put) ∷ []) = ap (λ (z : List (ℕ × Option X)). (reaching old.0.known i, (i, put) ∷ z)) none in
-      let c : ◌≡◌ {A = Me (Option X) (View S E)} (reaching old.0.known i, (i, put) ∷ []) (reaching new.0.known i, (i, put) ∷ []) = ap (λ (z : Known S E). (reaching z i, (i, put) ∷ [])) (sym known) in
+      let a : ◌≡◌ {A = Me (Option X) (View S E)} (old.0, (slot_of i, put) ∷ rest old.1) (reaching old.0.known i, (slot_of i, put) ∷ rest old.1) = ap (λ (z : View S E). (z, (slot_of i, put) ∷ rest old.1)) was in
+      let b : ◌≡◌ {A = Me (Option X) (View S E)} (reaching old.0.known i, (slot_of i, put) ∷ rest old.1) (reaching old.0.known i, (slot_of i, put) ∷ []) = ap (λ (z : List (ℕ × Option X)). (reaching old.0.known i, (slot_of i, put) ∷ z)) none in
+      let c : ◌≡◌ {A = Me (Option X) (View S E)} (reaching old.0.known i, (slot_of i, put) ∷ []) (reaching new.0.known i, (slot_of i, put) ∷ []) = ap (λ (z : Known S E). (reaching z i, (slot_of i, put) ∷ [])) (sym known) in
       record { result_is = ap (λ (z : ℕ × Option X). z.1) pair; known = known; new_is = is ∙ (a ∙ (b ∙ c)) }
 
   pub rested : (me : Me (Option X) (View S E)) (k : Known S E) → me ≡ (at_rest k, []) → (me ≡ (at_rest me.0.known, [])) × (me.0.known ≡ k)

@@ -1,5 +1,5 @@
 -- What the calls of a commit table ask and tell.
-use Rattle.std.specs.Prelude.{◌≡◌, ℕ, ◌+◌, ◌-◌, ◌^◌, ◌<◌, true, eqb, List, [], ◌∷◌, ◌++◌, length, min, slice_get, slice_index, count_by, Option, None, Some}
+use Rattle.std.specs.Prelude.{◌≡◌, ℕ, ◌+◌, ◌*◌, ◌-◌, ◌^◌, ◌<◌, true, eqb, List, [], ◌∷◌, ◌++◌, length, min, slice_get, slice_index, count_by, Option, None, Some}
 use Rattle.std.specs.List.{list_any}
 use mathlib.Core.List.{IsPrefix}
 use Rattle.atomic_table.specs.Seated.{TableId}
@@ -27,9 +27,23 @@ pub record TallyValue (S E : Type 0) : Type 0 where
   pub journal : List E
   pub passes : List (Known S E)
 
+-- The journal word is word 0. Words of the table stand apart, so that no two are on one line of a processor's cache, nor are two
+-- slots: the word of a shard, and its slot
+abbrev pub word_of : ℕ → ℕ
+word_of i = (i + 1) * 16
+
+abbrev pub slot_of : ℕ → ℕ
+slot_of i = i * 8
+
+module _ {X : Type 0} where
+  -- the values of the shards, each in its slot
+  abbrev pub spread : List X → List (Option X)
+  spread [] = []
+  spread (x ∷ xs) = Some x ∷ None ∷ None ∷ None ∷ None ∷ None ∷ None ∷ None ∷ spread xs
+
 -- a table has a word for the journal and one for each shard, and a slot for each shard
 abbrev pub IsSized : TableId → ℕ → Type 0
-IsSized id shards = (id.words ≡ shards + 1) × (id.slots ≡ shards)
+IsSized id shards = (id.words ≡ word_of shards) × (id.slots ≡ slot_of shards)
 
 -- how often a shard was missed, as far as 64 bits tell
 abbrev pub misses_in : List ℕ → ℕ → ℕ

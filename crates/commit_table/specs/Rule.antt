@@ -1,5 +1,5 @@
 -- The rule of a commit table: what holds between any two steps, of its words, its slots and what each seat knows.
--- Word 0 is the journal word, word i + 1 that of shard i, and slot i holds the value of shard i while the shard is free.
+-- Word 0 is the journal word, each shard has a word, and its slot holds the value of the shard while it is free.
 use Rattle.std.specs.Prelude.{◌≡◌, ℕ, suc, ◌<◌, ◌≤◌, ◌⊎◌, true, List, [], length, slice_index, All, Option, None, Some}
 use mathlib.Core.Option.{some}
 use mathlib.Core.List.{IsPrefix}
@@ -9,28 +9,29 @@ use Rattle.commit_table.specs.declared.views.Known.{Known}
 use Rattle.commit_table.specs.declared.views.View.{View}
 use Rattle.commit_table.specs.Machine.{Machine, events_by, IsOwn}
 use Rattle.commit_table.specs.declared.views.Turn.{Turn}
+use Rattle.commit_table.specs.Calls.{word_of, slot_of}
 use Rattle.commit_table.specs.Views.{held_at}
 use Rattle.commit_table.specs.Turns.{Turned}
 
 module _ {S X E : Type 0} (m : Machine X E) (start : S) (n : ℕ) where
   -- a free shard: its word is 0, and its slot has a value that stands for the history
   pub record Free (s : State (Option X) (View S E)) (h : List E) (i : ℕ) : Type 0 where
-    pub word : slice_index s.words (suc i) ≡ 0
+    pub word : slice_index s.words (word_of i) ≡ 0
     pub value : X
-    pub slot : get_elem? s.homes i ≡ some (some (Some value))
+    pub slot : get_elem? s.homes (slot_of i) ≡ some (some (Some value))
     pub stands : m.Stands i value h
 
   -- a held shard: its word is 1, and the view `id` holds it, with a beginning of the history that agrees with the whole
   -- on the shard. Its slot is at home, or out with that seat
   pub record Held (s : State (Option X) (View S E)) (h : List E) (i id : ℕ) : Type 0 where
-    pub word : slice_index s.words (suc i) ≡ 1
+    pub word : slice_index s.words (word_of i) ≡ 1
     pub view : View S E
     pub there : get_elem? s.views id ≡ some view
     pub upto : List E
     pub held : held_at view.known.held i ≡ Some upto
     pub begins : IsPrefix upto h
     pub agrees : m.Agree i upto h
-    pub slot : (view.out ≡ Some i) ⊎ ((y : Option X) × (get_elem? s.homes i ≡ some (some y)))
+    pub slot : (view.out ≡ Some i) ⊎ ((y : Option X) × (get_elem? s.homes (slot_of i) ≡ some (some y)))
 
   abbrev pub IsShard : State (Option X) (View S E) → List E → ℕ → Option ℕ → Type 0
   IsShard s h i None = Free s h i
@@ -84,7 +85,7 @@ module _ {S X E : Type 0} (m : Machine X E) (start : S) (n : ℕ) where
     pub holder : ℕ → Option ℕ
     pub seat : ℕ → Option ℕ
     pub turns : List Turn
-    pub size : length s.words ≡ suc m.shards
+    pub size : length s.words ≡ word_of m.shards
     pub legal : m.Legal history
     pub word : slice_index s.words 0 ≡ length history
     pub whole : IsWhole s.views history

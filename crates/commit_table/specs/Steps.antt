@@ -10,7 +10,7 @@ use Rattle.commit_table.specs.declared.views.Known.{Known}
 use Rattle.commit_table.specs.declared.views.View.{View}
 use Rattle.commit_table.specs.declared.views.Turn.{Turn}
 use Rattle.commit_table.specs.Machine.{Machine, events_by, IsOwn}
-use Rattle.commit_table.specs.Calls.{IsSound, Met}
+use Rattle.commit_table.specs.Calls.{word_of, slot_of, IsSound, Met}
 use Rattle.commit_table.specs.Views.{held_at, took, missed, gave_back, looked, committed, at_rest, reaching, closer}
 
 module _ {S X E : Type 0} (of : S → Machine X E) where
@@ -21,12 +21,12 @@ module _ {S X E : Type 0} (of : S → Machine X E) where
   -- A compare-exchange of a shard's word: it was free, and is now held with its value, which stands for a legal history; or another
   -- pass held it, and it was missed. Either way what was seen before is legal, and has of the pass's party just the pass's own events
   abbrev pub Takes : ℕ → Known S E → ℕ → Me (Option X) (View S E) → Type 0
-  Takes i v found after = Of v (λ m. IsSound m v) × (((found ≡ 0) × ((x : X) × (g : List E) × (after ≡ (reaching (took v i g) i, (i, Some x) ∷ [])) × IsPrefix v.seen g × Of v (λ m. m.Legal g × m.Stands i x g)))
+  Takes i v found after = Of v (λ m. IsSound m v) × (((found ≡ 0) × ((x : X) × (g : List E) × (after ≡ (reaching (took v i g) i, (slot_of i, Some x) ∷ [])) × IsPrefix v.seen g × Of v (λ m. m.Legal g × m.Stands i x g)))
       ⊎ ((found ≡ 1) × ((turns : List Turn) × (after ≡ (at_rest (missed v i turns), [])) × Met v i turns)))
 
   -- the slot of a held shard goes out with the seat
   abbrev pub Reaches : ℕ → Known S E → Me (Option X) (View S E) → Type 0
-  Reaches i v after = (y : Option X) × (after ≡ (reaching v i, (i, y) ∷ []))
+  Reaches i v after = (y : Option X) × (after ≡ (reaching v i, (slot_of i, y) ∷ []))
 
   -- A load of the journal word: the history so far was seen. What was seen and heard before begins it
   pub record Sees (m : Machine X E) (v : Known S E) (heard : List E) (found : ℕ) (h : List E) : Type 0 where
@@ -65,16 +65,16 @@ module _ {S X E : Type 0} (of : S → Machine X E) where
 
   -- The steps as the base takes them
   abbrev pub takes : Step (Option X) → Me (Option X) (View S E) → ℕ → Me (Option X) (View S E) → Type 0
-  takes step me found after = (i : ℕ) → step.word ≡ i + 1 → Takes i me.0.known found after
+  takes step me found after = (i : ℕ) → step.word ≡ word_of i → Takes i me.0.known found after
 
   abbrev pub parks : Step (Option X) → Me (Option X) (View S E) → ℕ → Me (Option X) (View S E) → Type 0
   parks step me found after = after ≡ (at_rest me.0.known, [])
 
   abbrev pub reaches : Step (Option X) → Me (Option X) (View S E) → ℕ → Me (Option X) (View S E) → Type 0
-  reaches step me found after = (i : ℕ) → step.word ≡ i + 1 → Reaches i me.0.known after
+  reaches step me found after = (i : ℕ) → step.word ≡ word_of i → Reaches i me.0.known after
 
   abbrev pub frees : Step (Option X) → Me (Option X) (View S E) → ℕ → Me (Option X) (View S E) → Type 0
-  frees step me found after = (i : ℕ) → step.word ≡ i + 1 → after ≡ (at_rest (gave_back me.0.known i), [])
+  frees step me found after = (i : ℕ) → step.word ≡ word_of i → after ≡ (at_rest (gave_back me.0.known i), [])
 
   abbrev pub looks : ℕ → Step (Option X) → Me (Option X) (View S E) → ℕ → Me (Option X) (View S E) → Type 0
   looks n step me found after = Looks n me.0.known me.0.heard found after

@@ -1,8 +1,8 @@
 //! A table that no thread uses any more gives its shards and what is known of its history.
-ghost use Rattle.std.specs.Prelude.{◌≡◌, ℕ, ◌+◌, ◌<◌, ◌≤◌, false, IsTrue, Option, Some, None, List, [], ◌∷◌, ◌++◌, map, length, slice_get, slice_set, slice_index_or, vec_len, vec_capacity};
+ghost use Rattle.std.specs.Prelude.{◌≡◌, ℕ, ◌+◌, ◌%◌, ◌<◌, ◌≤◌, false, IsTrue, Option, Some, None, List, [], ◌∷◌, ◌++◌, map, length, slice_get, slice_set, slice_index_or, vec_len, vec_capacity};
 ghost use Rattle.commit_table.specs.Views.{gatherer, closer, tally_of};
 ghost use Rattle.commit_table.specs.Steps.{Ends};
-ghost use Rattle.commit_table.specs.Calls.{IsSized, AreWhole, Closed, AreShards};
+ghost use Rattle.commit_table.specs.Calls.{slot_of, IsSized, AreWhole, Closed, AreShards};
 ghost use Rattle.atomic_table.specs.Table.{Final, Seen};
 ghost use Rattle.std.specs.Mem.Slots.{IsFull, slots_items, slots_filled, slots_len};
 ghost use mathlib.Core.Option.{some};
@@ -77,21 +77,43 @@ fn take_value<X: Drop>(closed: &mut atomic_table::Closed<Option<X>, Global>, i: 
     }
 }
 
-// Moves the values into the room, in order.
+// Moves the value of a slot into the room, where it is a shard's.
+fn move_value<X: Drop>(
+    closed: &mut atomic_table::Closed<Option<X>, Global>,
+    room: &mut Vec<X>,
+    i: usize,
+)
+    requires place { (i < slots_len closed.old.slots) × IsTrue (slice_index_or (slots_filled closed.old.slots) i false) }
+    requires value { i % 8 ≡ 0 → (x : X) × (get_elem? (slots_items closed.old.slots) i ≡ some (Some x)) }
+    requires room { i % 8 ≡ 0 → vec_len room.old < vec_capacity room.old }
+    ensures capacity { vec_capacity room.new ≡ vec_capacity room.old }
+    ensures moved { i % 8 ≡ 0 → (x : X) × (get_elem? (slots_items closed.old.slots) i ≡ some (Some x)) × (room.new.items ≡ room.old.items ++ x ∷ []) × (vec_len room.new ≡ vec_len room.old + 1) }
+    ensures between { 0 < i % 8 → (room.new.items ≡ room.old.items) × (vec_len room.new ≡ vec_len room.old) }
+    ensures others { (slots_items closed.new.slots ≡ slots_items closed.old.slots) × (slots_filled closed.new.slots ≡ slice_set (slots_filled closed.old.slots) i false) × (slots_len closed.new.slots ≡ slots_len closed.old.slots) }
+{
+    if i % 8 == 0 {
+        room.push_reserved(take_value(closed, i));
+    } else {
+        let _ = closed.take(i);
+    }
+}
+
+// Moves the values into the room, in order. What lies between their slots goes.
 fn move_values<X: Drop>(
     mut closed: atomic_table::Closed<Option<X>, Global>,
     mut room: Vec<X>,
 ) -> Vec<X>
     requires full { IsFull closed.slots }
-    requires values { (k : ℕ) → k < slots_len closed.slots → (x : X) × (get_elem? (slots_items closed.slots) k ≡ some (Some x)) }
-    requires room { (room.items ≡ []) × (vec_len room ≡ 0) × (slots_len closed.slots ≤ vec_capacity room) }
-    ensures count { length result.items ≡ slots_len closed.slots }
-    ensures values { (k : ℕ) (x : X) → slice_get result.items k ≡ Some x → get_elem? (slots_items closed.slots) k ≡ some (Some x) }
+    requires values { (k : ℕ) → slot_of k < slots_len closed.slots → (x : X) × (get_elem? (slots_items closed.slots) (slot_of k) ≡ some (Some x)) }
+    requires room { (room.items ≡ []) × (vec_len room ≡ 0) × (slots_len closed.slots ≤ slot_of (vec_capacity room)) }
+    requires slots { (shards : ℕ) × (slots_len closed.slots ≡ slot_of shards) }
+    ensures count { slot_of (length result.items) ≡ slots_len closed.slots }
+    ensures values { (k : ℕ) (x : X) → slice_get result.items k ≡ Some x → get_elem? (slots_items closed.slots) (slot_of k) ≡ some (Some x) }
 {
     let count = closed.slot_count();
     let mut i = 0;
     while i < count {
-        room.push_reserved(take_value(&mut closed, i));
+        move_value(&mut closed, &mut room, i);
         i += 1;
     }
     closed.free();

@@ -4,24 +4,27 @@ ghost use mathlib.Core.List.{IsPrefix};
 ghost use Rattle.commit_table.specs.declared.views.Turn.{Turn};
 ghost use Rattle.commit_table.specs.Views.{held_at, at_rest, reaching, took, missed, gave_back};
 ghost use Rattle.commit_table.specs.Steps.{Of};
-ghost use Rattle.commit_table.specs.Calls.{IsSized, IsSound, Met, MayCommit, Committed};
+ghost use Rattle.commit_table.specs.Calls.{slot_of, IsSized, IsSound, Met, MayCommit, Committed};
 
 use crate::board::{Board, Place};
 use crate::sharded::Sharded;
 use crate::steps::{add_told, free_word, park_slot, reach_slot, take_word};
 use std::marker::Brand;
 
+// From the slot of a shard to the next, as with words.
+const SLOTS_APART: usize = 8;
+
 // Takes the value out of the slot that is out with the seat, and lets the slot go home.
 fn empty_slot<M: Sharded>(board: &Board<M>, seat: &mut Place<M>, shard: u32) -> M::Shard
     requires table { seat.old.table_id ≡ board.now.table_id }
     requires size { IsSized board.now.table_id (M.machine board.now.key.start).shards }
-    requires ready { (x : M.Shard) × (g : List M.Event) × (seat.old.me ≡ (reaching seat.old.me.0.known shard, (shard, Some x) ∷ [])) × (held_at seat.old.me.0.known.held shard ≡ Some g) }
+    requires ready { (x : M.Shard) × (g : List M.Event) × (seat.old.me ≡ (reaching seat.old.me.0.known shard, (slot_of shard, Some x) ∷ [])) × (held_at seat.old.me.0.known.held shard ≡ Some g) }
     requires shard { shard < (M.machine board.now.key.start).shards }
     ensures seat { (seat.new.table_id ≡ seat.old.table_id) × (seat.new.id ≡ seat.old.id) }
-    ensures value { seat.old.me.1 ≡ (shard, Some result) ∷ [] }
+    ensures value { seat.old.me.1 ≡ (slot_of shard, Some result) ∷ [] }
     ensures told { seat.new.me ≡ (at_rest seat.old.me.0.known, []) }
 {
-    let value = board.exchange(seat, shard as usize, None);
+    let value = board.exchange(seat, shard as usize * SLOTS_APART, None);
     park_slot(board, seat, shard);
     match value {
         Some(value) => value,
@@ -59,7 +62,7 @@ pub fn give<M: Sharded>(board: &Board<M>, seat: &mut Place<M>, shard: u32, value
     ensures told { seat.new.me ≡ (at_rest (gave_back seat.old.me.0.known shard), []) }
 {
     reach_slot(board, seat, shard);
-    let _ = board.exchange(seat, shard as usize, Some(value));
+    let _ = board.exchange(seat, shard as usize * SLOTS_APART, Some(value));
     free_word(board, seat, shard);
 }
 

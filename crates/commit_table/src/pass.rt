@@ -2,7 +2,7 @@
 ghost use Rattle.std.specs.Prelude.{◌≡◌, ℕ, ◌+◌, ◌-◌, ◌^◌, ◌<◌, Option, Some, None, List, [], ◌∷◌, length, min, slice_index, slice_set, vec_len, IfOk, IfSome, IfNone};
 ghost use Rattle.commit_table.specs.declared.views.Turn.{Turn};
 ghost use Rattle.commit_table.specs.Views.{at_rest, held_at, new_pass, noted, took, missed, gave_back};
-ghost use Rattle.commit_table.specs.Calls.{IsSized, IsSound, Taken, Met, Looked, MayCommit, Committed, misses_in};
+ghost use Rattle.commit_table.specs.Calls.{slot_of, IsSized, IsSound, Taken, Met, Looked, MayCommit, Committed, misses_in};
 ghost use mathlib.Core.List.{IsPrefix};
 
 use crate::board::{Board, Place};
@@ -24,13 +24,13 @@ pub struct Pass<M: Sharded> {
 impl<M: Sharded> Model for Pass<M> {
     ghost use Rattle.std.specs.Prelude.{◌≡◌, ℕ, [], Some, length, vec_len};
     ghost use Rattle.commit_table.specs.Views.{at_rest};
-    ghost use Rattle.commit_table.specs.Calls.{PassValue, Counts};
+    ghost use Rattle.commit_table.specs.Calls.{slot_of, PassValue, Counts};
 
     ghost Value = { PassValue M M.Event };
 
     ghost view = { λ p. record { table = p.seat.table_id; known = p.seat.me.0.known } };
 
-    ghost invariant = { λ p. (p.seat.me ≡ (at_rest p.seat.me.0.known, [])) × (p.seat.me.0.known.party ≡ Some p.party) × (vec_len p.misses ≡ p.seat.table_id.slots) × (length p.misses.items ≡ p.seat.table_id.slots) × Counts p.misses.items p.seat.me.0.known.missed };
+    ghost invariant = { λ p. (p.seat.me ≡ (at_rest p.seat.me.0.known, [])) × (p.seat.me.0.known.party ≡ Some p.party) × (slot_of (vec_len p.misses) ≡ p.seat.table_id.slots) × (slot_of (length p.misses.items) ≡ p.seat.table_id.slots) × Counts p.misses.items p.seat.me.0.known.missed };
 }
 
 /// What a pass has seen, to be told to another pass. It has no party.
@@ -58,7 +58,7 @@ impl<M: Sharded> Pass<M> {
         party: u32,
         shards: usize,
     ) -> Result<Pass<M>, AllocError>
-        requires { (shards ≡ seat.table_id.slots) × ((start : M) × (seat.me ≡ (at_rest (new_pass start (Some party) []), []))) }
+        requires { (slot_of shards ≡ seat.table_id.slots) × ((start : M) × (seat.me ≡ (at_rest (new_pass start (Some party) []), []))) }
         ensures { IfOk result (λ p. (p.table ≡ seat.table_id) × (p.known ≡ seat.me.0.known)) }
     {
         let misses = Vec::from_elem(alloc, 0, shards)?;
@@ -83,7 +83,7 @@ impl<M: Sharded> Pass<M> {
     }
 
     pub(crate) fn misses(&self, shard: u32) -> u64
-        requires { shard < self.now.table.slots }
+        requires { slot_of shard < self.now.table.slots }
         ensures { result ≡ misses_in self.now.known.missed shard }
     {
         self.misses[shard as usize]

@@ -3,7 +3,7 @@
 ghost use Rattle.std.specs.Prelude.{◌≡◌, ℕ, ◌+◌, ◌<◌, Option, Some, None, List, [], ◌∷◌};
 ghost use Rattle.commit_table.specs.Views.{held_at, at_rest, reaching, recalling, gave_back};
 ghost use Rattle.commit_table.specs.Steps.{Takes, Reaches, Looks, Commits};
-ghost use Rattle.commit_table.specs.Calls.{IsSized, MayCommit};
+ghost use Rattle.commit_table.specs.Calls.{slot_of, IsSized, MayCommit};
 
 use crate::board::{Board, Place};
 use crate::plays::{Commit, Counted, Free, Look, Park, Reach, Take, Told};
@@ -11,6 +11,9 @@ use crate::sharded::Sharded;
 use std::marker::Brand;
 
 const JOURNAL: usize = 0;
+
+// From one word that is used to the next. Threads that write two words on one line of a processor's cache wait for one another.
+const WORDS_APART: usize = 16;
 
 // Take, or miss: a compare-exchange from 0 to 1. It found 0 where the shard was free, and 1 where another pass held it.
 pub fn take_word<M: Sharded>(board: &Board<M>, seat: &mut Place<M>, shard: u32) -> u64
@@ -23,20 +26,20 @@ pub fn take_word<M: Sharded>(board: &Board<M>, seat: &mut Place<M>, shard: u32) 
     ensures seat { (seat.new.table_id ≡ seat.old.table_id) × (seat.new.id ≡ seat.old.id) }
     ensures told { Takes M.machine shard seat.old.me.0.known result seat.new.me }
 {
-    board.compare_exchange::<Take>(seat, shard as usize + 1, 0, 1)
+    board.compare_exchange::<Take>(seat, (shard as usize + 1) * WORDS_APART, 0, 1)
 }
 
 // The slot of a held shard goes home, with what is in it.
 pub fn park_slot<M: Sharded>(board: &Board<M>, seat: &mut Place<M>, shard: u32)
     requires table { seat.old.table_id ≡ board.now.table_id }
     requires size { IsSized board.now.table_id (M.machine board.now.key.start).shards }
-    requires ready { (y : Option M.Shard) × (seat.old.me ≡ (reaching seat.old.me.0.known shard, (shard, y) ∷ [])) }
+    requires ready { (y : Option M.Shard) × (seat.old.me ≡ (reaching seat.old.me.0.known shard, (slot_of shard, y) ∷ [])) }
     requires held { (g : List M.Event) × (held_at seat.old.me.0.known.held shard ≡ Some g) }
     requires shard { shard < (M.machine board.now.key.start).shards }
     ensures seat { (seat.new.table_id ≡ seat.old.table_id) × (seat.new.id ≡ seat.old.id) }
     ensures told { seat.new.me ≡ (at_rest seat.old.me.0.known, []) }
 {
-    board.load::<Park>(seat, shard as usize + 1);
+    board.load::<Park>(seat, (shard as usize + 1) * WORDS_APART);
 }
 
 // The slot of a held shard goes out with the seat.
@@ -49,19 +52,19 @@ pub fn reach_slot<M: Sharded>(board: &Board<M>, seat: &mut Place<M>, shard: u32)
     ensures seat { (seat.new.table_id ≡ seat.old.table_id) × (seat.new.id ≡ seat.old.id) }
     ensures told { Reaches M.machine shard seat.old.me.0.known seat.new.me }
 {
-    board.load::<Reach>(seat, shard as usize + 1);
+    board.load::<Reach>(seat, (shard as usize + 1) * WORDS_APART);
 }
 
 // Release: a store of 0. The value is in its slot, and stands for the history that the shard is held with.
 pub fn free_word<M: Sharded>(board: &Board<M>, seat: &mut Place<M>, shard: u32)
     requires table { seat.old.table_id ≡ board.now.table_id }
     requires size { IsSized board.now.table_id (M.machine board.now.key.start).shards }
-    requires ready { (x : M.Shard) × (seat.old.me ≡ (reaching seat.old.me.0.known shard, (shard, Some x) ∷ [])) × ((g : List M.Event) × (held_at seat.old.me.0.known.held shard ≡ Some g) × (M.machine board.now.key.start).Stands shard x g) }
+    requires ready { (x : M.Shard) × (seat.old.me ≡ (reaching seat.old.me.0.known shard, (slot_of shard, Some x) ∷ [])) × ((g : List M.Event) × (held_at seat.old.me.0.known.held shard ≡ Some g) × (M.machine board.now.key.start).Stands shard x g) }
     requires shard { shard < (M.machine board.now.key.start).shards }
     ensures seat { (seat.new.table_id ≡ seat.old.table_id) × (seat.new.id ≡ seat.old.id) }
     ensures told { seat.new.me ≡ (at_rest (gave_back seat.old.me.0.known shard), []) }
 {
-    board.store::<Free>(seat, shard as usize + 1, 0);
+    board.store::<Free>(seat, (shard as usize + 1) * WORDS_APART, 0);
 }
 
 // Look: a load of the journal word.

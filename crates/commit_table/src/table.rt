@@ -1,9 +1,9 @@
 //! The table, as its users call it.
-ghost use Rattle.std.specs.Prelude.{◌≡◌, ℕ, ◌+◌, ◌^◌, ◌<◌, ◌≤◌, Option, Some, None, List, [], ◌∷◌, map, length, slice_get, replicate, vec_len, vec_capacity, IfOk, IfSome, IfNone};
+ghost use Rattle.std.specs.Prelude.{◌≡◌, ℕ, ◌+◌, ◌^◌, ◌<◌, ◌≤◌, Option, Some, None, List, [], ◌∷◌, ◌++◌, length, slice_get, replicate, vec_len, vec_capacity, IfOk, IfSome, IfNone};
 ghost use mathlib.Core.List.{IsPrefix};
 ghost use Rattle.commit_table.specs.declared.views.Turn.{Turn};
 ghost use Rattle.commit_table.specs.Views.{held_at, at_rest, maker, new_pass, noted, took, missed, gave_back};
-ghost use Rattle.commit_table.specs.Calls.{IsSized, IsOf, IsSound, Taken, Met, Looked, MayCommit, Committed, AreShards, misses_in};
+ghost use Rattle.commit_table.specs.Calls.{slot_of, spread, IsSized, IsOf, IsSound, Taken, Met, Looked, MayCommit, Committed, AreShards, misses_in};
 
 use crate::board::{Begin, Board, Place, Whole};
 use crate::pass::{Note, Pass};
@@ -33,14 +33,40 @@ impl<M: Sharded> Model for CommitTable<M> {
     ghost invariant = { λ t. (t.table.shared.key ≡ t.begin) × IsSized t.table.shared.table_id (M.machine t.begin.start).shards × (t.room.items ≡ []) × (vec_len t.room ≡ 0) × ((M.machine t.begin.start).shards ≤ vec_capacity t.room) × ((M.machine t.begin.start).shards < 2 ^ 32) };
 }
 
-// Each shard's value in a slot of its own.
-fn filled<X: Drop>(alloc: Global, shards: Vec<X>) -> Result<Vec<Option<X>>, AllocError>
-    ensures { IfOk result (λ v. v.items ≡ map (λ x. Some x) shards.items) }
+// Puts a value into the next slot, and leaves those empty that lie before the slot behind it.
+fn fill_next<X: Drop>(slots: &mut Vec<Option<X>>, shard: X) -> Result<(), AllocError>
+    ensures { IfOk result (λ _. slots.new.items ≡ slots.old.items ++ spread (shard ∷ [])) }
 {
-    let mut slots = Vec::with_capacity(alloc, shards.len())?;
+    slots.push(Some(shard))?;
+    slots.push(None)?;
+    slots.push(None)?;
+    slots.push(None)?;
+    slots.push(None)?;
+    slots.push(None)?;
+    slots.push(None)?;
+    slots.push(None)?;
+    Ok(())
+}
+
+// Puts each value into its slot.
+fn fill<X: Drop>(slots: &mut Vec<Option<X>>, shards: Vec<X>) -> Result<(), AllocError>
+    requires { slots.old.items ≡ [] }
+    ensures { IfOk result (λ _. slots.new.items ≡ spread shards.items) }
+{
     for shard in shards {
-        slots.push(Some(shard))?;
+        fill_next(slots, shard)?;
     }
+    Ok(())
+}
+
+// Each shard's value in its slot.
+fn filled<X: Drop>(alloc: Global, shards: Vec<X>) -> Result<Vec<Option<X>>, AllocError>
+    requires few { vec_len shards < 2 ^ 32 }
+    ensures values { IfOk result (λ v. v.items ≡ spread shards.items) }
+    ensures count { IfOk result (λ v. length v.items ≡ slot_of (length shards.items)) }
+{
+    let mut slots = Vec::with_capacity(alloc, shards.len() * 8)?;
+    fill(&mut slots, shards)?;
     Ok(slots)
 }
 
@@ -51,7 +77,7 @@ fn make_passes<M: Sharded>(
     shards: usize,
     n: u32,
 ) -> Result<Vec<Pass<M>>, AllocError>
-    requires table { (seat.table_id ≡ board.now.table_id) × (shards ≡ seat.table_id.slots) × (n ≡ board.now.key.passes) }
+    requires table { (seat.table_id ≡ board.now.table_id) × (slot_of shards ≡ seat.table_id.slots) × (n ≡ board.now.key.passes) }
     requires size { IsSized board.now.table_id (M.machine board.now.key.start).shards }
     requires ready { seat.me ≡ (maker board.now.key.start 0 n, []) }
     ensures count { IfOk result (λ ps. length ps.items ≡ n) }
@@ -75,13 +101,13 @@ impl<M: Sharded> CommitTable<M> {
     ) -> Result<(CommitTable<M>, Vec<Pass<M>>), AllocError>
         requires few { vec_len shards < 2 ^ 32 }
         requires shards { AreShards (M.machine start) shards.items [] }
-        ensures table { IfOk result (λ r. (r.0.start ≡ start) × (r.0.passes ≡ n) × (r.0.table.slots ≡ (M.machine start).shards)) }
+        ensures table { IfOk result (λ r. (r.0.start ≡ start) × (r.0.passes ≡ n) × (r.0.table.slots ≡ slot_of (M.machine start).shards)) }
         ensures count { IfOk result (λ r. length r.1.items ≡ n) }
         ensures passes { IfOk result (λ r. (k : ℕ) → k < n → slice_get r.1.items k ≡ Some (record { table = r.0.table; known = new_pass start (Some k) [] })) }
     {
         let count = shards.len();
         let room = Vec::with_capacity(alloc, count)?;
-        let words = Vec::from_elem(alloc, 0u64, count + 1)?;
+        let words = Vec::from_elem(alloc, 0u64, (count + 1) * 16)?;
         let slots = filled(alloc, shards)?;
         let begin = Begin { start, passes: n };
         let Ok((table, seat)) = Table::new(alloc, words.as_slice(), slots, &begin) else {
@@ -96,7 +122,7 @@ impl<M: Sharded> CommitTable<M> {
     /// be asked of each.
     pub fn start(&self) -> &M
         ensures start { result.now ≡ self.now.start }
-        ensures slots { self.now.table.slots ≡ (M.machine self.now.start).shards }
+        ensures slots { self.now.table.slots ≡ slot_of (M.machine self.now.start).shards }
     {
         &self.begin.start
     }
@@ -167,7 +193,7 @@ impl<M: Sharded> CommitTable<M> {
 
     /// How often the pass missed a shard. A count that stands at the type's end stays there.
     pub fn misses(pass: &Pass<M>, shard: u32) -> u64
-        requires { shard < pass.now.table.slots }
+        requires { slot_of shard < pass.now.table.slots }
         ensures { result ≡ misses_in pass.now.known.missed shard }
     {
         pass.misses(shard)

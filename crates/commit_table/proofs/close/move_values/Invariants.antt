@@ -1,8 +1,9 @@
-use Rattle.std.proofs.Common.{◌≡◌, ℕ, ◌-◌, ◌<◌, ◌≤◌, false, get_or, length, slice_get, Some, vec_len, vec_capacity}
+use Rattle.std.proofs.Common.{◌≡◌, ℕ, ◌+◌, ◌-◌, ◌<◌, ◌≤◌, false, get_or, length, slice_get, Some, vec_len, vec_capacity}
 use mathlib.Core.Option.{some}
 use lib.ListN.{get_elem?}
 use Rattle.std.specs.Mem.Slots.{slots_filled, slots_items, slots_len}
 use Rattle.std.specs.Mem.Slots.Ownership.{Filled}
+use Rattle.commit_table.specs.Calls.{slot_of}
 use Rattle.commit_table.proofs.close.move_values.Given as goal
 
 abbrev pub invariant-loop-i : goal.invariant-loop-i
@@ -13,10 +14,10 @@ invariant-loop-i g l = record {
   size : slots_len l.closed.slots ≡ slots_len l.fn.closed.slots;
   below : l.i ≤ l.count;
   counted : l.count ≡ slots_len l.fn.closed.slots;
-  len : vec_len l.room ≡ l.i;
-  room : l.count ≤ vec_capacity l.room;
-  count : length l.room.items ≡ l.i;
-  same : (k : ℕ) (x : g.row.X.Denot) → slice_get l.room.items k ≡ Some x → get_elem? (slots_items l.fn.closed.slots) k ≡ some (Some x);
+  len : vec_len l.room ≡ length l.room.items;
+  room : l.count ≤ slot_of (vec_capacity l.room);
+  count : (l.i ≤ slot_of (length l.room.items)) × (slot_of (length l.room.items) < l.i + 8);
+  same : (k : ℕ) (x : g.row.X.Denot) → slice_get l.room.items k ≡ Some x → get_elem? (slots_items l.fn.closed.slots) (slot_of k) ≡ some (Some x);
 }
 
 abbrev pub decreases-loop-i : goal.decreases-loop-i

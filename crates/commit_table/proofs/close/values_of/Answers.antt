@@ -13,4 +13,4 @@ returns g c =
     let shared = c.args.table.shared in
     let closed = c.close_with.ensures in
     let moved = c.move_values.ensures in
-    final_shards g.M.Sharded.machine g.M.Sharded.lawful shared.key.start shared.key.passes c.args.seat.id c.args.seat.me.0.known.seen c.args.seat.me.0.gathered c.args.seat.me.0 _ _ c.move_values.result.items (ap (λ z. z.0) c.requires.ready) closed.values.2 (moved.count ∙ (closed.counts.1 ∙ c.requires.size.1)) moved.values
+    final_shards g.M.Sharded.machine g.M.Sharded.lawful shared.key.start shared.key.passes c.args.seat.id c.args.seat.me.0.known.seen c.args.seat.me.0.gathered c.args.seat.me.0 _ _ c.move_values.result.items (ap (λ z. z.0) c.requires.ready) closed.values.2 (let a = moved.count in let b = closed.counts.1 in let d = c.requires.size.1 in omega arith) moved.values

@@ -1,6 +1,6 @@
 use Rattle.std.proofs.Common.{length, ◌∙◌, ap, sym, refl, arith}
 use Rattle.std.proofs.Math.ListN.{length-set}
-use Rattle.commit_table.specs.Calls.{Counts}
+use Rattle.commit_table.specs.Calls.{slot_of, Counts}
 use Rattle.commit_table.proofs.Slots.{rested}
 use Rattle.commit_table.proofs.Counting.{counted}
 use Rattle.commit_table.proofs.Looking.{sound_of}
@@ -16,8 +16,8 @@ invariant_of-self-in_default g c =
     let counts : Counts c.count_miss.new.misses.items c.take.new.seat.me.0.known.missed = rw (new.items, ap (λ k. k.missed) r.1) (counted c.self.inside.misses.items c.self.inside.seat.me.0.known.missed c.args.shard _ was.4 (let size = was.3 in let table = ap (λ z. z.slots) (ap (λ p. p.table) c.self.view_is ∙ c.requires.table.0) in let shards = c.requires.size.1 in let lt = c.requires.shard in omega arith) refl) in (
       r.0,
       ap (λ k. k.party) r.1 ∙ was.1,
-      new.len ∙ (was.2 ∙ sym slots),
-      ap length new.items ∙ (length-set c.self.inside.misses.items c.args.shard _ ∙ (was.3 ∙ sym slots)),
+      ap slot_of new.len ∙ (was.2 ∙ sym slots),
+      ap slot_of (ap length new.items ∙ length-set c.self.inside.misses.items c.args.shard _) ∙ (was.3 ∙ sym slots),
       counts,
     )
 
