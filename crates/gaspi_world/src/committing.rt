@@ -28,8 +28,8 @@ use gaspi_types::{Args, Call, CallerId, Event, GroupId, Reply};
 use rank_node::{HeldNodes, Room};
 
 /// Records a call that was committed at a place, with its reply.
-fn record_call(nodes: &mut HeldNodes, place: u64, event: Event, room: Room)
-    requires called { (caller : CallerId) × (call : Call) × (reply : Reply) × (event ≡ Called caller call reply) × (room.row ≡ row_of call) × ((row_of call).group ≡ None → IsRecordRoom nodes.old.own.value.posts nodes.old.own.value.memory call room) }
+fn record_call(nodes: &mut HeldNodes, place: u64, event: Event, room: &mut Room)
+    requires called { (caller : CallerId) × (call : Call) × (reply : Reply) × (event ≡ Called caller call reply) × (room.old.row ≡ row_of call) × ((row_of call).group ≡ None → IsRecordRoom nodes.old.own.value.posts nodes.old.own.value.memory call room.old) }
     requires step { MayStep event nodes.old.own.value (peer_of nodes.old.other) (group_of nodes.old.other) }
     ensures left { (s t : State) → IsStepOn s t event nodes.old.own.value (peer_of nodes.old.other) (group_of nodes.old.other)
         → IsLeft s t event place nodes.old.own.value nodes.new.own.value (peer_of nodes.old.other) (peer_of nodes.new.other) (group_of nodes.new.other) }
@@ -49,7 +49,7 @@ pub fn commit_call(
     caller: CallerId,
     call: Call,
     reply: Reply,
-    room: Room,
+    room: &mut Room,
 )
     requires world { IsWorld table.now.start.shape }
     requires pass { IsOf table.now pass.old }
@@ -57,8 +57,8 @@ pub fn commit_call(
     requires held { Holds table.now.start.shape held.old pass.old.known }
     requires shards { (held.old.own ≡ caller.rank) × (held.old.other ≡ call_other table.now.start.shape caller call) }
     requires step { is_legal table.now.start.shape (pass.old.known.seen ++ Called caller call reply ∷ []) ≡ true }
-    requires row { room.row ≡ row_of call }
-    requires room { (row_of call).group ≡ None → IsRecordRoom held.old.nodes.own.value.posts held.old.nodes.own.value.memory call room }
+    requires row { room.old.row ≡ row_of call }
+    requires room { (row_of call).group ≡ None → IsRecordRoom held.old.nodes.own.value.posts held.old.nodes.own.value.memory call room.old }
     ensures table { pass.new.table ≡ pass.old.table }
     ensures held { Holds table.now.start.shape held.new pass.new.known }
     ensures shards { (held.new.own ≡ held.old.own) × (held.new.other ≡ held.old.other) }

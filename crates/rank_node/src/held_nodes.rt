@@ -132,10 +132,17 @@ impl HeldNodes {
 
     /// Records a call with its reply: the step by it, at its place. The memory that it needs was taken just before; of a collective
     /// only the row is used. It takes no memory.
-    pub fn called(&mut self, place: u64, caller: CallerId, call: Call, reply: Reply, room: Room)
+    pub fn called(
+        &mut self,
+        place: u64,
+        caller: CallerId,
+        call: Call,
+        reply: Reply,
+        room: &mut Room,
+    )
         requires step { MayStep (Called caller call reply) self.old.own.value (peer_of self.old.other) (group_of self.old.other) }
-        requires row { room.row ≡ row_of call }
-        requires room { (row_of call).group ≡ None → IsRecordRoom self.old.own.value.posts self.old.own.value.memory call room }
+        requires row { room.old.row ≡ row_of call }
+        requires room { (row_of call).group ≡ None → IsRecordRoom self.old.own.value.posts self.old.own.value.memory call room.old }
         ensures left { (s t : State) → IsStepOn s t (Called caller call reply) self.old.own.value (peer_of self.old.other) (group_of self.old.other)
             → IsLeft s t (Called caller call reply) place self.old.own.value self.new.own.value (peer_of self.old.other) (peer_of self.new.other) (group_of self.new.other) }
         ensures kind { IsSameKind self.new.other self.old.other }

@@ -51,7 +51,7 @@ impl Lent<'_> {
 
     /// Records a call with its reply: the step by it, at its place. The memory that it needs was taken just before; of a collective
     /// only the row is used. It takes no memory.
-    pub fn called(&mut self, place: u64, caller: CallerId, call: Call, reply: Reply, room: Room)
+    pub fn called(&mut self, place: u64, caller: CallerId, call: Call, reply: Reply, mut room: Room)
         requires step { MayStep (Called caller call reply) self.old.own.now (behind self.old.peer) (behind self.old.group) }
         requires row { room.row ≡ row_of call }
         requires room { (row_of call).group ≡ None → IsRecordRoom self.old.own.now.posts self.old.own.now.memory call room }
@@ -64,8 +64,8 @@ impl Lent<'_> {
         match room.row.group {
             Some(id) => self.complete(place, caller, id, call, reply),
             None => match &mut self.peer {
-                Some(peer) => called_between(self.own, peer, place, caller, call, reply, room),
-                None => called_alone(self.own, place, caller, call, reply, room),
+                Some(peer) => called_between(self.own, peer, place, caller, call, reply, &mut room),
+                None => called_alone(self.own, place, caller, call, reply, &mut room),
             },
         }
     }

@@ -92,11 +92,11 @@ pub fn called_alone(
     caller: CallerId,
     call: Call,
     reply: Reply,
-    room: Room,
+    room: &mut Room,
 )
     requires plain { (row_of call).group ≡ None }
     requires step { MayStepBetween (Called caller call reply) own.old None }
-    requires room { IsRecordRoom own.old.posts own.old.memory call room }
+    requires room { IsRecordRoom own.old.posts own.old.memory call room.old }
     ensures { (s t : State) (group : Option GroupNode) → IsStepOn s t (Called caller call reply) own.old None group → IsLeft s t (Called caller call reply) place own.old own.new None None group }
 {
     record(
@@ -118,11 +118,11 @@ pub fn called_between(
     caller: CallerId,
     call: Call,
     reply: Reply,
-    room: Room,
+    room: &mut Room,
 )
     requires plain { (row_of call).group ≡ None }
     requires step { MayStepBetween (Called caller call reply) own.old (Some peer.old) }
-    requires room { IsRecordRoom own.old.posts own.old.memory call room }
+    requires room { IsRecordRoom own.old.posts own.old.memory call room.old }
     ensures { (s t : State) (group : Option GroupNode) → IsStepOn s t (Called caller call reply) own.old (Some peer.old) group
         → IsLeft s t (Called caller call reply) place own.old own.new (Some peer.old) (Some peer.new) group }
 {

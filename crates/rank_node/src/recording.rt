@@ -11,7 +11,7 @@ use crate::rooms::Room;
 use gaspi_types::{Call, CallerId, Event, Reply};
 use plain_calls::is_idle;
 
-/// Records a call with its reply: what it leaves, and one event more. It takes no memory.
+/// Records a call with its reply: what it leaves, and one event more. It takes no memory but what the room has.
 pub(crate) fn record(
     posts: &mut NodePosts,
     memory: &mut NodeMemory,
@@ -19,27 +19,20 @@ pub(crate) fn record(
     caller: CallerId,
     call: Call,
     reply: Reply,
-    room: Room,
+    room: &mut Room,
 )
-    requires row { room.row ≡ row_of call }
+    requires row { room.old.row ≡ row_of call }
     requires event { posts.old.posts.events < posts.old.limits.events }
-    requires posts { is_idle reply ≡ false → MayAffectPosts posts.old (row_of call).posting call room.entries }
-    requires memory { is_idle reply ≡ false → MayAffectMemory memory.old call room.made room.message }
-    requires made { is_idle reply ≡ false → IsMadeByCall posts.old call room.made }
+    requires posts { is_idle reply ≡ false → MayAffectPosts posts.old (row_of call).posting call room.old.entries }
+    requires memory { is_idle reply ≡ false → MayAffectMemory memory.old call room.old.made room.old.message }
+    requires made { is_idle reply ≡ false → IsMadeByCall posts.old call room.old.made }
     ensures posts { posts.new ≡ recorded_posts posts.old place caller call reply }
-    ensures memory { memory.new ≡ recorded_memory posts.old room.message memory.old call reply }
+    ensures memory { memory.new ≡ recorded_memory posts.old room.old.message memory.old call reply }
 {
-    let Room {
-        row,
-        entries,
-        made,
-        message,
-        bytes: _,
-        numbers: _,
-    } = room;
     if !is_idle(&reply) {
-        memory.affect(&call, made, message);
-        posts.affect(caller.thread, &call, row.posting, entries);
+        memory.affect(&call, room.made.take(), room.message.take());
+        let posting = room.row.posting;
+        posts.affect(caller.thread, &call, posting, room.entries.take());
     }
     posts.add_event(place, Event::Called(caller, call, reply));
 }
