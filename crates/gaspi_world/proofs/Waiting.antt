@@ -30,8 +30,9 @@ use Rattle.timeout_state.specs.declared.budget.Look.TheVariants.{More, Final}
 use Rattle.commit_table.specs.declared.views.Known.{Known}
 use Rattle.commit_table.proofs.Lists.{prefix_self, prefix_trans}
 use Rattle.gaspi_world.specs.Attempts.{is_waiting, found_after, is_full_after, is_pending_after, MayHaveJoined, GoesOn, HasCommitted, IsLook, IsBusy, IsNotYet, IsRecorded, IsAtLimit, IsOutOfMemory}
+use Rattle.world_shards.specs.RankShards.{IsEither, call_other}
 use Rattle.gaspi_model.specs.CallerEvents.{events_of, is_event_of}
-use Rattle.gaspi_world.specs.Calling.{AreUnready, HadRoom, JoinedFirst, AreLooks, IsCalled, IsStopped, HasWaited}
+use Rattle.gaspi_world.specs.Calling.{AreUnready, HadRoom, JoinedFirst, HasMissed, AreLooks, IsCalled, IsStopped, HasWaited}
 use Rattle.gaspi_model.proofs.Recordable.{join-group}
 use Rattle.gaspi_model.proofs.StaysPending.{pending-stays}
 use Rattle.gaspi_world.proofs.Working.{committed-both}
@@ -159,6 +160,24 @@ module _ (w : World) (c : CallerId) (call : Call) where
       go (inr same) = ap (is_full_after w c call) same ∙ now
 
 module _ {S : Type 0} (w : World) (c : CallerId) (call : Call) where
+  -- the call's own shards were missed: none, one more, and none more
+  missed-none : (v : Known S Event) → HasMissed w c call v v
+  missed-none v = record { shards = []; missed = sym (append-nil v.missed); own = λ k i at. absurd (none-at k i at) }
+
+  missed-more : (v m n : Known S Event) → HasMissed w c call v m → IsBusy w c call m n → HasMissed w c call v n
+  missed-more v m n before busy = record {
+    shards = before.shards ++ busy.missed.shard ∷ [];
+    missed = busy.missed.missed ∙ (ap (λ (is : List ℕ). is ++ busy.missed.shard ∷ []) before.missed ∙ append_assoc v.missed before.shards (busy.missed.shard ∷ []));
+    own = λ k i at. go k i (at-snoc before.shards busy.missed.shard k i at);
+  }
+    where
+      go : (k i : ℕ) → (slice_get before.shards k ≡ Some i) ⊎ (i ≡ busy.missed.shard) → IsEither c.rank (call_other w c call) i
+      go k i (inl at) = before.own k i at
+      go k i (inr same) = subst (IsEither c.rank (call_other w c call)) (sym same) busy.missed.may
+
+  missed-still : (v m n : Known S Event) → HasMissed w c call v m → n.missed ≡ m.missed → HasMissed w c call v n
+  missed-still v m n before same = record { shards = before.shards; missed = same ∙ before.missed; own = before.own }
+
   pub waited-none : (v : Known S Event) → HasWaited w c call [] v v
   waited-none v = record {
     seen = prefix_self v.seen;
@@ -171,6 +190,7 @@ module _ {S : Type 0} (w : World) (c : CallerId) (call : Call) where
     joined = refl;
     mine = sym (append-nil v.mine);
     commits = record { places = []; commits = sym (append-nil v.commits); many = refl };
+    missed = missed-none v;
     own = λ k h at. absurd (none-at k h at);
     pending = λ k h at. absurd (none-at k h at);
   }
@@ -216,6 +236,7 @@ module _ {S : Type 0} (w : World) (c : CallerId) (call : Call) where
         joined = waited.joined;
         mine = busy.missed.mine ∙ waited.mine;
         commits = record { places = waited.commits.places; commits = busy.missed.commits ∙ waited.commits.commits; many = waited.commits.many };
+        missed = missed-more v m n waited.missed busy;
         own = λ k h at. busy.goes_on.own;
         pending = λ k h at collective. subst (λ (s : List Event). is_pending_after w c call s ≡ true) seen (waited.pending k h at collective);
       }
@@ -235,6 +256,7 @@ module _ {S : Type 0} (w : World) (c : CallerId) (call : Call) where
         joined = joined-more w c call earlier early.history waited.joins early.joins waited.joined pending early.joined;
         mine = early.mine ∙ (ap (λ (es : List Event). es ++ early.joins) waited.mine ∙ append_assoc v.mine waited.joins early.joins);
         commits = committed-both v m n waited.joins early.joins waited.commits early.commits;
+        missed = missed-still v m n waited.missed early.looked.missed;
         own = λ k h at. early.goes_on.own;
         pending = λ k h at collective. unready-pends w c call n.seen world early.still collective;
       }
@@ -268,6 +290,7 @@ module _ {S : Type 0} (w : World) (c : CallerId) (call : Call) where
         after_looks = λ k h at. before k h (at-snoc earlier done.history k h at);
         mine = done.mine ∙ ap (λ (es : List Event). es ++ Called c call reply ∷ []) (ap (λ (es : List Event). es ++ done.joins) waited.mine ∙ append_assoc v.mine waited.joins done.joins);
         commits = subst (λ (es : List Event). HasCommitted es v n) (sym (append_assoc waited.joins done.joins (Called c call reply ∷ []))) (committed-both v m n waited.joins (done.joins ++ Called c call reply ∷ []) waited.commits done.commits);
+        missed = missed-still v m n waited.missed done.looked.missed;
         room = done.room;
         spent = λ times. final-spent (length earlier) (looks_of timeout) (sym last ∙ done.last times);
         timely = done.unready;
@@ -292,6 +315,7 @@ module _ {S : Type 0} (w : World) (c : CallerId) (call : Call) where
         joined = subst (JoinedFirst w c call (earlier ++ n.seen ∷ [])) (append-nil waited.joins) (joined-more w c call earlier n.seen waited.joins [] waited.joined pending (inl refl));
         mine = stop.mine ∙ waited.mine;
         commits = record { places = waited.commits.places; commits = stop.commits ∙ waited.commits.commits; many = waited.commits.many };
+        missed = missed-still v m n waited.missed stop.looked.missed;
         room = stop.full;
         now = λ full. refl;
       }
@@ -311,6 +335,7 @@ module _ {S : Type 0} (w : World) (c : CallerId) (call : Call) where
         joined = subst (JoinedFirst w c call (earlier ++ n.seen ∷ [])) (append-nil waited.joins) (joined-more w c call earlier n.seen waited.joins [] waited.joined pending (inl refl));
         mine = stop.mine ∙ waited.mine;
         commits = record { places = waited.commits.places; commits = stop.commits ∙ waited.commits.commits; many = waited.commits.many };
+        missed = missed-still v m n waited.missed stop.looked.missed;
         room = stop.room;
         now = λ full. (let no : ⊥ = cc in absurd no);
       }

@@ -15,6 +15,7 @@ use Rattle.commit_table.specs.declared.views.Known.{Known}
 use Rattle.gaspi_world.specs.Attempts.{is_waiting, found_after, is_full_after, is_pending_after, MayHaveJoined, GoesOn, HasCommitted}
 use Rattle.commit_table.specs.Calls.{TableValue, PassValue, IsOf, HoldsNone}
 use Rattle.gaspi_model.specs.CallerEvents.{events_of}
+use Rattle.world_shards.specs.RankShards.{IsEither, call_other}
 use Rattle.gaspi_world.specs.Callers.{IsPassOf}
 use Rattle.gaspi_world.specs.declared.calling.Stop.{Stop}
 use Rattle.gaspi_world.specs.declared.starts.Start.{Start}
@@ -39,6 +40,12 @@ module _ (w : World) (c : CallerId) (call : Call) where
   JoinedFirst (first ∷ others) joins = MayHaveJoined w c call first joins × ArePending others
 
 module _ {S : Type 0} (w : World) (c : CallerId) where
+  -- these shards were missed, which are the call's own
+  pub record HasMissed (call : Call) (v n : Known S Event) : Type 0 where
+    pub shards : List ℕ
+    pub missed : n.missed ≡ v.missed ++ shards
+    pub own : (k i : ℕ) → slice_get shards k ≡ Some i → IsEither c.rank (call_other w c call) i
+
   -- Looks were made, in order, each after a history that goes on from what had been seen, and that what is seen now goes on from.
   pub record AreLooks (v n : Known S Event) (histories : List (List Event)) : Type 0 where
     pub looks : n.looks ≡ v.looks ++ map length histories
@@ -46,7 +53,7 @@ module _ {S : Type 0} (w : World) (c : CallerId) where
 
   -- The call was recorded with its reply, once, after all its looks, and what is seen ends with it. It took no more looks than its
   -- timeout has. At the earlier ones it was neither refused nor ready. At each look, the last one too, its rank had room for it. A
-  -- timeout comes when all looks are spent, and the call is neither refused nor ready at the last one.
+  -- timeout comes when all looks are spent, and the call is neither refused nor ready at the last one. No shard was missed but the call's own.
   pub record IsCalled (call : Call) (timeout : timeouts.Timeout) (reply : Reply) (v n : Known S Event) : Type 0 where
     pub goes_on : GoesOn w c v n
     pub earlier : List (List Event)
@@ -61,6 +68,7 @@ module _ {S : Type 0} (w : World) (c : CallerId) where
     pub after_looks : (k : ℕ) (h : List Event) → slice_get (earlier ++ last ∷ []) k ≡ Some h → IsPrefix h before
     pub mine : n.mine ≡ (v.mine ++ joins) ++ Called c call reply ∷ []
     pub commits : HasCommitted (joins ++ Called c call reply ∷ []) v n
+    pub missed : HasMissed call v n
     pub roomy : HadRoom w c call earlier
     pub room : is_full_after w c call last ≡ false
     pub spent : reply ≡ Timeout → looks_of timeout ≡ Some (length earlier + 1)
@@ -68,7 +76,7 @@ module _ {S : Type 0} (w : World) (c : CallerId) where
 
   -- The call was not recorded, after a last look at which its rank had no room for what it needs, or had. At the earlier looks the call
   -- was neither refused nor ready, and its rank had room for it. There were no more looks than the timeout has. Where there was no room
-  -- at the last, nothing was seen since that look.
+  -- at the last, nothing was seen since that look. No shard was missed but the call's own.
   pub record IsStopped (call : Call) (timeout : timeouts.Timeout) (full : Bool) (v n : Known S Event) : Type 0 where
     pub goes_on : GoesOn w c v n
     pub earlier : List (List Event)
@@ -80,6 +88,7 @@ module _ {S : Type 0} (w : World) (c : CallerId) where
     pub joined : JoinedFirst w c call (earlier ++ last ∷ []) joins
     pub mine : n.mine ≡ v.mine ++ joins
     pub commits : HasCommitted joins v n
+    pub missed : HasMissed call v n
     pub roomy : HadRoom w c call earlier
     pub room : is_full_after w c call last ≡ full
     pub now : full ≡ true → last ≡ n.seen
@@ -101,6 +110,7 @@ module _ {S : Type 0} (w : World) (c : CallerId) where
     pub joined : JoinedFirst w c call earlier joins
     pub mine : n.mine ≡ v.mine ++ joins
     pub commits : HasCommitted joins v n
+    pub missed : HasMissed call v n
     -- once there was a look
     pub own : (k : ℕ) (h : List Event) → slice_get earlier k ≡ Some h → events_of c n.seen ≡ n.mine
     pub pending : (k : ℕ) (h : List Event) → slice_get earlier k ≡ Some h → is_collective call ≡ true → is_pending_after w c call n.seen ≡ true
