@@ -77,14 +77,14 @@ fn record_with(
     invocation: &Invocation<'_>,
     call: Call,
     found: Ready,
-    mut room: Room,
+    room: &mut Room,
 ) -> Reply
     requires world { IsWorld table.now.start.shape }
     requires holder { IsHolder table.now invocation.now.caller call held.old pass.old }
     requires found { MayRecord table.now.start.shape invocation.now.caller call found pass.old.known.seen }
-    requires fits { FoundFits table.now.start.shape invocation.now.caller call found room }
-    requires row { room.row ≡ row_of call }
-    requires room { (row_of call).group ≡ None → IsRecordRoom held.old.nodes.own.value.posts held.old.nodes.own.value.memory call room }
+    requires fits { FoundFits table.now.start.shape invocation.now.caller call found room.old }
+    requires row { room.old.row ≡ row_of call }
+    requires room { (row_of call).group ≡ None → IsRecordRoom held.old.nodes.own.value.posts held.old.nodes.own.value.memory call room.old }
     ensures table { pass.new.table ≡ pass.old.table }
     ensures held { Holds table.now.start.shape held.new pass.new.known }
     ensures reply { result ≡ recorded_reply found }
@@ -119,13 +119,13 @@ fn settle(
     if is_early(&found, look) {
         return Err(Halt::NotYet);
     }
-    let Ok(room) = held.nodes.room(alloc, invocation) else {
+    let Ok(mut room) = held.nodes.room(alloc, invocation) else {
         return Err(Halt::NoMemory);
     };
     let Ok(call) = invocation.call.copy(alloc) else {
         return Err(Halt::NoMemory);
     };
-    Ok(record_with(table, pass, held, invocation, call, found, room))
+    Ok(record_with(table, pass, held, invocation, call, found, &mut room))
 }
 
 /// The number of the group that a collective names.
@@ -198,7 +198,7 @@ fn join_first(
     if is_early(&found, look) {
         return Err(Halt::NotYet);
     }
-    Ok(record_with(table, pass, held, invocation, call, found, room))
+    Ok(record_with(table, pass, held, invocation, call, found, &mut room))
 }
 
 /// Whether the caller's rank has no room for the events that a call needs. (own choice)
@@ -236,6 +236,13 @@ fn work(
     }
 }
 
+/// Tells who may wait for it that a call was recorded.
+fn tell(start: &Start, told: &Result<Reply, Halt>, row: &CallRow, own: u32, other: Option<u32>) {
+    if told.is_ok() {
+        start.tell_call(row, own, other);
+    }
+}
+
 /// One attempt of a caller to make a call: it takes the call's shards, looks, does what the look allows, and gives the shards back.
 pub fn attempt(
     table: &CommitTable<Start>,
@@ -261,5 +268,6 @@ pub fn attempt(
     };
     let told = work(table, pass, alloc, &mut held, invocation, look);
     leave(table, pass, held);
+    tell(table.start(), &told, &invocation.row, own.number(), other);
     told
 }

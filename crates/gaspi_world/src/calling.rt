@@ -10,11 +10,12 @@ ghost use Rattle.gaspi_world.specs.Calling.{Calls};
 ghost use Rattle.gaspi_world.specs.declared.calling.Stop.TheVariants.{NoMemory};
 
 use crate::attempts::{Halt, attempt};
+use crate::holding::reached_shard;
 use crate::starts::Start;
 use crate::worlds::Pass;
 use commit_table::CommitTable;
 use gaspi_types::{Invocation, Reply, Timeout};
-use pauses::Pauses;
+use pauses::{Change, Pauses};
 use rank_node::Budget;
 use std::alloc::Global;
 use std::sync::Wait;
@@ -24,7 +25,7 @@ use std::sync::Wait;
 pub enum Stop {
     /// There was no memory. A collective may have joined its group at an earlier look.
     NoMemory,
-    /// The caller's rank has no room for the events that the call needs.
+    /// The caller's rank has no room for the events that the call needs. A collective may have joined its group at an earlier look.
     EventLimit,
 }
 
@@ -48,16 +49,21 @@ pub fn call<R: Wait>(
     ensures ample { (row_of invocation.now.call.now).takes_memory ≡ false → result ≢ Err NoMemory }
     ensures calls { Calls table.now.start.shape invocation.now.caller invocation.now.call.now timeout pass.old.known result pass.new.known }
 {
+    let start = table.start();
+    let ranks = start.shape.ranks();
+    let own = invocation.caller.rank;
+    let other = reached_shard(ranks, invocation.row.touch.reach(ranks, own));
     let mut pauses = Pauses::new();
     let mut budget = Budget::new(timeout);
     let mut look = budget.next();
     for _ in rt.forever() {
+        let change = Change::of(&start.changes, own.number(), other);
         match attempt(table, pass, alloc, invocation, look) {
             Ok(reply) => return Ok(reply),
             Err(Halt::Busy) => pauses.pause(rt),
             Err(Halt::NotYet) => {
                 look = budget.next();
-                pauses.pause(rt);
+                pauses.pause_watching(rt, &change);
             }
             Err(Halt::EventLimit) => return Err(Stop::EventLimit),
             Err(Halt::NoMemory) => return Err(Stop::NoMemory),

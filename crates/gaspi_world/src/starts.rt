@@ -4,13 +4,18 @@ ghost use Rattle.gaspi_types.specs.World.{IsWorld};
 
 use crate::shards::WorldShard;
 use commit_table::Sharded;
-use gaspi_types::{Event, NoMemory, Shape};
+use gaspi_types::{CallRow, Event, NoMemory, Shape};
+use pauses::Changes;
 use std::alloc::Global;
 
 /// The start of a world, by its shape. It is made by `World::start` alone, so that no other table of this machine can be.
 #[derive(Drop)]
 pub struct Start {
     pub shape: Shape,
+    /// Of each shard, whether it may be worth while to look again at a call that waits for what lies there.
+    pub(crate) changes: Changes,
+    /// Of each rank, whether one of its calls has posted, or one of its threads has ended.
+    pub(crate) posts: Changes,
     sealed: (),
     pub ghost valid: { ∥ IsWorld shape ∥₁ },
 }
@@ -18,13 +23,37 @@ pub struct Start {
 impl Start {
     ghost use Rattle.std.specs.Prelude.{◌≡◌, IfOk};
 
+    /// Tells that a call was recorded: workers, where it posted or ended its thread, and who waits at the shard that it has beside its
+    /// rank's.
+    pub(crate) fn tell_call(&self, row: &CallRow, own: u32, other: Option<u32>) {
+        if row.posting.is_some() || row.ends {
+            self.posts.tell(own);
+        }
+        if let Some(other) = other {
+            self.changes.tell(other);
+        }
+    }
+
+    /// Tells that a transfer was made: who waits at its shards.
+    pub(crate) fn tell_transfer(&self, own: u32, other: Option<u32>) {
+        self.changes.tell(own);
+        if let Some(other) = other {
+            self.changes.tell(other);
+        }
+    }
+
     /// That of a shape.
     pub(crate) fn of(alloc: Global, shape: &Shape) -> Result<Start, NoMemory>
         ensures { IfOk result (λ start. start.shape ≡ shape.now) }
     {
         shape.limits();
-        let shape = shape.copy(alloc)?;
-        Ok(Start { shape, sealed: () })
+        let ranks = shape.ranks() as usize;
+        Ok(Start {
+            shape: shape.copy(alloc)?,
+            changes: Changes::new(alloc, ranks + 8)?,
+            posts: Changes::new(alloc, ranks)?,
+            sealed: (),
+        })
     }
 }
 

@@ -25,7 +25,7 @@ use gaspi_types::{Event, Outcome, QueueId, RankId, Transfer};
 use rank_node::{Node, front_footprints, fronts_are_steps, movable_lanes_have_fronts};
 
 /// The transfer of a rank that comes next: the front of a lane that may move. Which lane comes first goes on with the room that calls
-/// take, so that no lane waits for ever behind another.
+/// take, so that lanes come first in turn while calls are made; no clause says so.
 fn next_front(node: &Node) -> Option<Transfer>
     requires { (s : State) × IsSound s × IsPostsOf s node.now.posts.me node.now.posts }
     ensures front { IfSome result (IsFront node.now.posts) }
@@ -153,7 +153,9 @@ fn move_one(table: &CommitTable<Start>, pass: &mut Pass, origin: RankId) -> Movi
         Tried::Still(false) => Moving::Empty,
         Tried::Ready(t, mut held) => {
             commit_front(table, pass, &mut held, t);
+            let other = held.other;
             leave(table, pass, held);
+            table.start().tell_transfer(origin.number(), other);
             Moving::Moved
         }
     }

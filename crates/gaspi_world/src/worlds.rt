@@ -14,6 +14,7 @@ use crate::shards::opening_shards;
 use crate::starts::Start;
 use commit_table::CommitTable;
 use gaspi_types::{CallerId, NoMemory, Rows, Shape};
+use pauses::Changes;
 use std::alloc::Global;
 use std::marker::Model;
 
@@ -125,6 +126,11 @@ impl World {
     {
         self.shape().limits();
         (*self.callers.at(CommitTable::number(pass) as usize)).unwrap()
+    }
+
+    /// How often a call of each rank has posted or ended its thread, as far as it was told: for workers, who wait for such calls.
+    pub fn posts(&self) -> &Changes {
+        &self.table.start().posts
     }
 
     /// The shape of the start.

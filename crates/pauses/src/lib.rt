@@ -5,15 +5,22 @@
 //! processors one of them may run in place of the one that they wait for.
 //!
 //! A loop that tries makes one `Pauses`, calls `pause` after each try that was in vain, and `reset` after each that made progress.
+//! Where the threads that may make a try worth while tell so in `Changes`, it calls `pause_watching`, which ends early then.
 #![tactic(auto)]
 
 ghost use Rattle.std.specs.Prelude.{◌≤◌};
 
+mod changes;
+
+pub use changes::{Change, Changes, Watched};
 use crossbeam_utils::Backoff;
 use std::sync::Wait;
 use std::sync::atomic::AtomicU64;
-use std::thread;
 use std::time::Duration;
+use std::{hint, thread};
+
+/// How often a thread looks for what it watches for before it gives its processor away, where it has not waited for long.
+const SPINS: u32 = 100;
 
 /// How often a thread gives its processor away before it sleeps for the first time.
 const YIELDS_AT_FIRST: u32 = 400;
@@ -63,7 +70,27 @@ impl Pauses {
     pub fn pause<R: Wait>(&mut self, rt: &R) {
         if !self.backoff.is_completed() {
             self.backoff.snooze();
-        } else if self.yields > 0 {
+        } else {
+            self.give_way(rt);
+        }
+    }
+
+    /// Pauses once, after a try that was in vain, and ends early where what is watched for has come. Whether it had come.
+    pub fn pause_watching<R: Wait, W: Watched>(&mut self, rt: &R, watched: &W) -> bool {
+        let spins = if self.doublings == 0 { SPINS } else { 1 };
+        for _ in 0..spins {
+            if watched.has_come() {
+                return true;
+            }
+            hint::spin_loop();
+        }
+        self.give_way(rt);
+        watched.has_come()
+    }
+
+    /// Gives the processor away, or sleeps where that was in vain for long.
+    fn give_way<R: Wait>(&mut self, rt: &R) {
+        if self.yields > 0 {
             self.yields -= 1;
             thread::yield_now();
         } else {

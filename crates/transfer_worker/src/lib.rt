@@ -6,6 +6,7 @@
 //! waits in broken queues.
 #![tactic(auto)]
 
+mod quiet;
 mod rounds;
 mod turns;
 mod workers;

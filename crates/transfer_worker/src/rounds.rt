@@ -6,6 +6,7 @@ ghost use Rattle.gaspi_model.specs.Step.{is_legal};
 ghost use Rattle.gaspi_world.specs.Callers.{IsWorkers};
 ghost use Rattle.transfer_worker.specs.Turns.{GoesOn, Turned};
 
+use crate::quiet::QuietRanks;
 use crate::turns::{Turn, with_try};
 use gaspi_types::RankId;
 use gaspi_world::{Moving, Pass, World, world_histories};
@@ -32,6 +33,63 @@ pub fn try_all(world: &World, pass: &mut Pass, first: u32) -> Turn
             return Turn::Moved;
         }
         so_far = with_try(so_far, moving);
+    }
+    so_far
+}
+
+/// What a try of the ranks comes to that are not known to be quiet, the others.
+#[derive(Clone, Copy, Debug, PartialEq, Eq)]
+pub enum Others {
+    /// One transfer was made.
+    Moved,
+    /// None was, and at a try another thread held a shard that the transfer needed.
+    Busy,
+    /// All ranks are quiet, as far as is known.
+    Quiet,
+}
+
+/// Tries a rank, where it is not known to be quiet.
+fn try_other(world: &World, pass: &mut Pass, origin: RankId, quiet: &mut QuietRanks<'_>) -> Others
+    requires pass { IsOf world.now pass.old }
+    requires free { HoldsNone pass.old.known }
+    requires worker { IsWorkers world.now.start.shape pass.old.known }
+    requires rank { origin < world.now.start.shape.limits.ranks }
+    ensures table { pass.new.table ≡ pass.old.table }
+    ensures free { HoldsNone pass.new.known }
+    ensures goes_on { GoesOn pass.old.known pass.new.known }
+{
+    let count = world.posts().count(origin.number());
+    if quiet.is_quiet(origin.number(), count) {
+        return Others::Quiet;
+    }
+    match world.transfer(pass, origin) {
+        Moving::Moved => Others::Moved,
+        Moving::Busy => Others::Busy,
+        Moving::Empty | Moving::Ended => {
+            quiet.add(origin.number(), count);
+            Others::Quiet
+        }
+    }
+}
+
+/// Tries those ranks that are not known to be quiet, from one rank on, and stops at the first that moved.
+pub fn try_others(world: &World, pass: &mut Pass, first: u32, quiet: &mut QuietRanks<'_>) -> Others
+    requires pass { IsOf world.now pass.old }
+    requires free { HoldsNone pass.old.known }
+    requires worker { IsWorkers world.now.start.shape pass.old.known }
+    requires first { first < world.now.start.shape.limits.ranks }
+    ensures table { pass.new.table ≡ pass.old.table }
+    ensures free { HoldsNone pass.new.known }
+    ensures goes_on { GoesOn pass.old.known pass.new.known }
+{
+    let ranks = world.shape().limits().ranks;
+    let mut so_far = Others::Quiet;
+    for next in 0..ranks {
+        match try_other(world, pass, RankId::of((first + next) % ranks), quiet) {
+            Others::Moved => return Others::Moved,
+            Others::Busy => so_far = Others::Busy,
+            Others::Quiet => {}
+        }
     }
     so_far
 }

@@ -6,7 +6,8 @@ ghost use Rattle.gaspi_model.specs.Step.{is_legal};
 ghost use Rattle.gaspi_world.specs.Callers.{IsWorkers};
 ghost use Rattle.transfer_worker.specs.Turns.{GoesOn, Turned, IsDrained};
 
-use crate::rounds::try_all;
+use crate::quiet::QuietRanks;
+use crate::rounds::{Others, try_all, try_others};
 use crate::turns::Turn;
 use gaspi_world::{Pass, World};
 use pauses::Pauses;
@@ -42,8 +43,29 @@ impl<'a> Worker<'a> {
         try_all(self.world, self.pass, first)
     }
 
-    /// Makes turns until all callers have ended and all that was posted has arrived, but for what waits in broken queues. It takes no
-    /// memory. (GASPI: one-sided communication)
+    /// Pauses where all ranks are quiet, and makes a turn where none has posted meanwhile: whether nothing is left to do.
+    fn rest<R: Wait>(&mut self, rt: &R, pauses: &mut Pauses, quiet: &QuietRanks<'_>) -> bool
+        requires pass { IsOf self.old.world.now self.old.pass.now }
+        requires free { HoldsNone self.old.pass.now.known }
+        requires worker { IsWorkers self.old.world.now.start.shape self.old.pass.now.known }
+        ensures same { (self.new.world.now ≡ self.old.world.now) × (self.new.pass.ghost_name ≡ self.old.pass.ghost_name) }
+        ensures table { self.new.pass.now.table ≡ self.old.pass.now.table }
+        ensures free { HoldsNone self.new.pass.now.known }
+        ensures goes_on { GoesOn self.old.pass.now.known self.new.pass.now.known }
+        ensures drained { result ≡ true → (is_legal self.old.world.now.start.shape self.new.pass.now.known.seen ≡ true) × IsDrained self.old.world.now.start.shape self.new.pass.now.known.seen }
+    {
+        if pauses.pause_watching(rt, quiet) {
+            return false;
+        }
+        match self.turn() {
+            Turn::Drained => true,
+            Turn::Moved | Turn::Busy | Turn::Idle => false,
+        }
+    }
+
+    /// Makes transfers until all callers have ended and all that was posted has arrived, but for what waits in broken queues. Between
+    /// two turns it tries those ranks alone that have posted since a try found nothing, and a turn is made where none has for a while.
+    /// It takes no memory. (GASPI: one-sided communication)
     pub fn drain<R: Wait>(&mut self, rt: &R)
         requires pass { IsOf self.old.world.now self.old.pass.now }
         requires free { HoldsNone self.old.pass.now.known }
@@ -55,13 +77,21 @@ impl<'a> Worker<'a> {
         ensures legal { is_legal self.old.world.now.start.shape self.new.pass.now.known.seen ≡ true }
         ensures drained { IsDrained self.old.world.now.start.shape self.new.pass.now.known.seen }
     {
+        let ranks = u64::from(self.world.shape().limits().ranks);
         let mut pauses = Pauses::new();
+        let mut quiet = QuietRanks::none(self.world);
+        let mut tries = 0u64;
         for _ in rt.forever() {
-            match self.turn() {
-                Turn::Moved => pauses.reset(),
-                Turn::Busy => pauses.pause(rt),
-                Turn::Idle => pauses.pause(rt),
-                Turn::Drained => return,
+            let first = (tries % ranks) as u32;
+            tries = tries.wrapping_add(1);
+            match try_others(self.world, self.pass, first, &mut quiet) {
+                Others::Moved => pauses.reset(),
+                Others::Busy => pauses.pause(rt),
+                Others::Quiet => {
+                    if self.rest(rt, &mut pauses, &quiet) {
+                        return;
+                    }
+                }
             }
         }
         unreachable!()

@@ -1,0 +1,7 @@
+use Rattle.std.proofs.Common.{◌≡◌}
+use Rattle.commit_table.specs.Calls.{HoldsNone}
+use Rattle.transfer_worker.specs.Turns.{GoesOn}
+use Rattle.transfer_worker.proofs.rounds.try_others.Given as goal
+
+abbrev pub invariant-loop-next : goal.invariant-loop-next
+invariant-loop-next l = (l.pass.table ≡ l.fn.pass.table) × HoldsNone l.pass.known × GoesOn l.fn.pass.known l.pass.known
