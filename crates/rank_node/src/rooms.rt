@@ -162,11 +162,13 @@ impl Room {
     ghost use Rattle.std.specs.Prelude.{◌≡◌};
     ghost use Rattle.rank_node.specs.Rooms.{FitsRoom};
 
-    /// An equal reply for the caller, beside that in the event: once. It takes no memory, and the room is still one for the record.
+    /// An equal reply for the caller, beside that in the event: once. It takes no memory, and the room is still one for the record, with
+    /// the lists for a join's values and for the event.
     pub fn again(&mut self, reply: &Reply) -> Reply
         requires { FitsRoom reply.now self.old }
         ensures reply { result ≡ reply.now }
         ensures kept { self.new ≡ record self.old { bytes = self.new.bytes; numbers = self.new.numbers } }
+        ensures numbers { (self.new.numbers.values ≡ self.old.numbers.values) × (self.new.numbers.event ≡ self.old.numbers.event) }
     {
         match reply {
             Reply::Bytes(bytes) => Reply::Bytes(copied_bytes(bytes, take_bytes(&mut self.bytes))),
