@@ -1,12 +1,12 @@
 //! What calls change in the memory that they work on, without memory being allocated.
 
-ghost use Rattle.std.specs.Prelude.{◌≡◌, ◌<◌, Ok, IsOk, IsSome, slice_set};
+ghost use Rattle.std.specs.Prelude.{◌≡◌, ◌<◌, Ok, IsOk, IsSome, IfSome, slice_set};
 ghost use Rattle.gaspi_types.specs.Inboxes.{first_within, deposited};
 ghost use Rattle.gaspi_model.specs.AtomicCalls.{fetch_add_leaves, compare_swap_leaves};
 ghost use Rattle.gaspi_model.specs.Calls.{memory_done};
 ghost use Rattle.gaspi_model.specs.Memories.{slots_of, with_slots};
 ghost use Rattle.gaspi_model.specs.MemoryCalls.{store_leaves};
-ghost use Rattle.gaspi_model.specs.PassiveCalls.{receive_leaves};
+ghost use Rattle.gaspi_model.specs.PassiveCalls.{send_leaves, receive_leaves};
 ghost use Rattle.gaspi_model.specs.SegmentCalls.{delete_leaves};
 
 use crate::making::MadeSegment;
@@ -15,7 +15,8 @@ use gaspi_types::{Call, CompareSwap, Delete, FetchAdd, Message, PassiveReceive, 
 use segment_tables::{add_to_segment, store_bytes, swap_in_segment};
 
 impl NodeMemory {
-    ghost use Rattle.rank_node.specs.Effects.{with_memory, MayDeposit, MayAffectMemory, IsMadeByCall};
+    ghost use Rattle.rank_node.specs.Effects.{with_memory, MayDeposit, MayDepositIf, MayAffectMemory, IsMadeByCall};
+    ghost use Rattle.rank_node.specs.Making.{with_made};
     ghost use Rattle.rank_node.specs.Values.{PostsValue};
 
     /// Takes a segment away, with its slots. (GASPI: segment_delete)
@@ -106,27 +107,41 @@ impl NodeMemory {
         );
     }
 
+    /// Takes the segment that an alloc makes, and puts it at its number. (GASPI: segment_alloc)
+    fn place_made(&mut self, seg: u64, made: &mut Option<MadeSegment>)
+        requires { IsSome made.old }
+        ensures { IfSome made.old (λ made. self.new ≡ with_made self.old seg made) }
+    {
+        match made.take() {
+            Some(made) => self.place_segment(seg, made),
+            None => unreachable!(),
+        }
+    }
+
+    /// Takes the message that a send brings, where there is one, and puts it behind the others of the inbox. (GASPI: passive_send)
+    fn deposit_brought(&mut self, message: &mut Option<Message>)
+        requires { MayDepositIf self.old message.old }
+        ensures { self.new ≡ with_memory self.old (send_leaves message.old self.old.memory) }
+    {
+        if let Some(message) = message.take() {
+            self.deposit(message);
+        }
+    }
+
     /// What a call leaves that was answered neither with a refusal nor with a timeout, in the memory that it works on: with the segment
-    /// that it makes, and the message that it brings.
+    /// that it makes, and the message that it brings, which are taken.
     pub(crate) fn affect(
         &mut self,
         call: &Call,
-        made: Option<MadeSegment>,
-        message: Option<Message>,
+        made: &mut Option<MadeSegment>,
+        message: &mut Option<Message>,
     )
-        requires { MayAffectMemory self.old call.now made message }
-        ensures { (p : PostsValue) → IsMadeByCall p call.now made → self.new ≡ with_memory self.old (memory_done p.limits p.posts message self.old.memory call.now) }
+        requires { MayAffectMemory self.old call.now made.old message.old }
+        ensures { (p : PostsValue) → IsMadeByCall p call.now made.old → self.new ≡ with_memory self.old (memory_done p.limits p.posts message.old self.old.memory call.now) }
     {
         match call {
-            Call::Alloc(call) => match made {
-                Some(made) => self.place_segment(call.seg, made),
-                None => unreachable!(),
-            },
-            Call::PassiveSend(_) => {
-                if let Some(message) = message {
-                    self.deposit(message);
-                }
-            }
+            Call::Alloc(call) => self.place_made(call.seg, made),
+            Call::PassiveSend(_) => self.deposit_brought(message),
             Call::Delete(call) => self.remove_segment(call),
             Call::Store(call) => self.store(call),
             Call::Reset(call) => self.set_slot(call.seg, call.note, 0),

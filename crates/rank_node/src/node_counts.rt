@@ -13,7 +13,7 @@ use gaspi_types::{Invocation, Rows};
 use plain_calls::is_running;
 
 /// How many of these threads have not ended.
-fn running_count(threads: &Rows<ThreadState>) -> usize
+pub(crate) fn running_count(threads: &Rows<ThreadState>) -> usize
     ensures { result ≡ count_by is_running threads.now }
 {
     threads
@@ -37,8 +37,8 @@ impl NodePosts {
     {
         u64::from(self.limits.events)
             .saturating_sub(self.journal.len() as u64)
-            .saturating_sub(self.lanes.owed())
-            .saturating_sub(running_count(&self.threads) as u64)
+            .saturating_sub(self.owed)
+            .saturating_sub(self.running as u64)
     }
 
     /// Whether a collective of a caller is pending on the group that its call names. (GASPI: timeouts)

@@ -27,6 +27,10 @@ pub struct NodePosts {
     pub(crate) groups: Groups,
     pub(crate) pending: Pending,
     pub(crate) threads: Rows<ThreadState>,
+    /// How many events the entries of the lanes owe.
+    pub(crate) owed: u64,
+    /// How many threads have not ended.
+    pub(crate) running: usize,
     pub(crate) journal: Buffer<PlacedEvent>,
 }
 

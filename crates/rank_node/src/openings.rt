@@ -6,6 +6,7 @@ ghost use Rattle.std.specs.List.{range_with_len};
 ghost use Rattle.gaspi_model.specs.State.{declared_size, new_slots, opening_slots};
 ghost use Rattle.rank_node.specs.Openings.{IsOpeningNode};
 
+use crate::node_counts::running_count;
 use crate::node_memory::NodeMemory;
 use crate::node_posts::NodePosts;
 use crate::nodes::Node;
@@ -58,15 +59,19 @@ impl NodePosts {
         ensures { IfOk result (λ posts. posts ≡ posts_at_start shape.now rank) }
     {
         let limits = shape.limits();
+        let lanes = Lanes::new(alloc, limits.queues, limits.ranks, limits.depth)?;
+        let threads = opening_threads(alloc, shape, rank.number())?;
         Ok(NodePosts {
             limits,
             me: rank,
-            lanes: Lanes::new(alloc, limits.queues, limits.ranks, limits.depth)?,
+            owed: lanes.owed(),
+            lanes,
             corrupt: opening_corrupt(alloc, limits.ranks)?,
             segments: opening_table(alloc, shape, rank.number())?,
             groups: Groups::new(alloc, rank, limits.ranks)?,
             pending: Pending::new(alloc)?,
-            threads: opening_threads(alloc, shape, rank.number())?,
+            running: running_count(&threads),
+            threads,
             journal: Buffer::with_room(alloc, limits.events as usize)?,
         })
     }

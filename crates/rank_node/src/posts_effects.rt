@@ -1,6 +1,6 @@
 //! What calls change in the posts of a rank, without memory.
 
-ghost use Rattle.std.specs.Prelude.{◌≡◌, ◌+◌, ◌<◌, ◌≤◌, ◌^◌, Ok, IsOk, Some, slice_set};
+ghost use Rattle.std.specs.Prelude.{◌≡◌, ◌+◌, ◌<◌, ◌≤◌, ◌^◌, Ok, IsOk, IfSome, IsSomeAnd, Some, slice_set};
 ghost use Rattle.gaspi_types.specs.CallRows.{row_of};
 ghost use Rattle.gaspi_types.specs.Groups.{next_group, building_at, drop_checks};
 ghost use Rattle.gaspi_types.specs.SegmentTables.{next_generation};
@@ -12,6 +12,7 @@ ghost use Rattle.gaspi_model.specs.QueueCalls.{wait_finds, closed, purged};
 ghost use Rattle.gaspi_model.specs.SegmentCalls.{with_own, without_own, with_known};
 ghost use Rattle.gaspi_model.specs.declared.states.ThreadState.TheVariants.{Ended};
 
+use crate::node_counts::running_count;
 use crate::node_posts::NodePosts;
 use gaspi_model::ThreadState;
 use gaspi_types::{Call, Extent, GroupAdd, Posting, RankId, ThreadId};
@@ -19,7 +20,7 @@ use post_drafts::Entries;
 use segment_tables::{add_own, remove_own, set_known};
 
 impl NodePosts {
-    ghost use Rattle.std.specs.Prelude.{◌≡◌, ◌+◌, ◌<◌, ◌≤◌, ◌^◌, Ok, IsOk, Some, slice_set, ◌++◌, ◌∷◌, [], length, option_copied};
+    ghost use Rattle.std.specs.Prelude.{◌≡◌, ◌+◌, ◌<◌, ◌≤◌, ◌^◌, Ok, IsOk, IfSome, IsSomeAnd, Some, slice_set, ◌++◌, ◌∷◌, [], length, option_copied};
     ghost use Rattle.rank_node.specs.Effects.{with_posts, MayPost};
 
     /// Posts entries to the end of a lane. (GASPI: write, read, notify)
@@ -32,6 +33,7 @@ impl NodePosts {
             Ok(()) => {}
             Err(_refusal) => unreachable!(),
         }
+        self.owed = self.lanes.owed();
     }
 
     /// The open count of a queue that is ready returns to 0. (GASPI: wait)
@@ -40,6 +42,7 @@ impl NodePosts {
         ensures { self.new ≡ with_posts self.old (closed self.old.posts queue) }
     {
         self.lanes.close_wait(queue);
+        self.owed = self.lanes.owed();
     }
 
     /// Drops the entries of a queue, clears its open count and mends it. Its corrupt ranks stay so. (GASPI: queue_purge)
@@ -50,6 +53,7 @@ impl NodePosts {
             Ok(()) => {}
             Err(_refusal) => {}
         }
+        self.owed = self.lanes.owed();
     }
 
     /// Adds a segment of the next generation of its number to the own ones. (GASPI: segment_alloc)
@@ -116,6 +120,7 @@ impl NodePosts {
         if place < self.threads.len() {
             *self.threads.at_mut(place) = ThreadState::Ended;
         }
+        self.running = running_count(&self.threads);
     }
 
     ghost use Rattle.rank_node.specs.Effects.{MayChangePosts, MayAffectPosts};
@@ -138,22 +143,32 @@ impl NodePosts {
         }
     }
 
-    /// What a call leaves that was answered neither with a refusal nor with a timeout: a post its entries.
+    /// Takes the entries that were reserved for a post, and posts them to the end of a lane. (GASPI: write, read, notify)
+    fn post_reserved(&mut self, to: Posting, entries: &mut Option<Entries>)
+        requires { IsSomeAnd entries.old (λ entries. MayPost self.old to entries) }
+        ensures { IfSome entries.old (λ entries. self.new ≡ with_posts self.old (with_post self.old.posts to.queue to.rank (Ok entries))) }
+    {
+        match entries.take() {
+            Some(entries) => self.post(to, entries),
+            None => unreachable!(),
+        }
+    }
+
+    /// What a call leaves that was answered neither with a refusal nor with a timeout: a post its entries, which are taken.
     pub(crate) fn affect(
         &mut self,
         thread: ThreadId,
         call: &Call,
         posting: Option<Posting>,
-        entries: Option<Entries>,
+        entries: &mut Option<Entries>,
     )
         requires posting { posting ≡ (row_of call.now).posting }
-        requires may { MayAffectPosts self.old posting call.now entries }
+        requires may { MayAffectPosts self.old posting call.now entries.old }
         ensures { self.new ≡ with_posts self.old (posts_done self.old.limits self.old.me self.old.posts thread call.now) }
     {
-        match (posting, entries) {
-            (Some(to), Some(entries)) => self.post(to, entries),
-            (Some(_to), None) => unreachable!(),
-            (None, _) => self.change(thread, call),
+        match posting {
+            Some(to) => self.post_reserved(to, entries),
+            None => self.change(thread, call),
         }
     }
 }

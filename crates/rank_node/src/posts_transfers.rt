@@ -21,6 +21,7 @@ impl NodePosts {
     {
         let queue = u64::from(t.queue.number());
         let outcome = take_next(&mut self.lanes, &mut self.corrupt, source, queue, t.target);
+        self.owed = self.lanes.owed();
         let event = Event::Take(t.origin, t.queue, t.target, t.number, outcome);
         self.add_event(place, event);
     }
@@ -47,6 +48,7 @@ impl NodePosts {
             queue,
             t.target,
         );
+        self.owed = self.lanes.owed();
         let event = Event::Put(t.origin, t.queue, t.target, t.number, outcome);
         self.add_event(place, event);
         outcome

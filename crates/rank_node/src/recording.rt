@@ -30,9 +30,9 @@ pub(crate) fn record(
     ensures memory { memory.new ≡ recorded_memory posts.old room.old.message memory.old call reply }
 {
     if !is_idle(&reply) {
-        memory.affect(&call, room.made.take(), room.message.take());
+        memory.affect(&call, &mut room.made, &mut room.message);
         let posting = room.row.posting;
-        posts.affect(caller.thread, &call, posting, room.entries.take());
+        posts.affect(caller.thread, &call, posting, &mut room.entries);
     }
     posts.add_event(place, Event::Called(caller, call, reply));
 }

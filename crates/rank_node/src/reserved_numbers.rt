@@ -67,13 +67,13 @@ pub(crate) fn copied_args(args: &Args, list: Rows<i128>) -> Args
     }
 }
 
-/// An equal reply, in a list that is long enough.
-fn reply_in(reply: &Reply, list: Rows<i128>) -> Reply
-    requires { ReplyFits reply.now (length list) }
+/// An equal reply. Of numbers it takes the list, which is long enough.
+fn reply_in(reply: &Reply, list: &mut Rows<i128>) -> Reply
+    requires { ReplyFits reply.now (length list.old) }
     ensures { result ≡ reply.now }
 {
     match reply {
-        Reply::List(numbers) => Reply::List(copied(numbers, list)),
+        Reply::List(numbers) => Reply::List(copied(numbers, take_rows(list))),
         Reply::Refused(refusal) => Reply::Refused(*refusal),
         Reply::Value(n) => Reply::Value(*n),
         Reply::Id(n) => Reply::Id(*n),
@@ -86,7 +86,7 @@ fn reply_in(reply: &Reply, list: Rows<i128>) -> Reply
 
 impl ReservedNumbers {
     /// No memory.
-    fn nothing(alloc: Global) -> ReservedNumbers
+    pub(crate) fn nothing(alloc: Global) -> ReservedNumbers
         ensures values { result.values ≡ 0 }
         ensures event { result.event ≡ 0 }
         ensures caller { result.caller ≡ 0 }
@@ -132,6 +132,6 @@ impl ReservedNumbers {
         ensures values { self.new.values ≡ self.old.values }
         ensures event { self.new.event ≡ self.old.event }
     {
-        reply_in(reply, take_rows(&mut self.caller))
+        reply_in(reply, &mut self.caller)
     }
 }

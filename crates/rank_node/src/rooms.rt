@@ -1,11 +1,12 @@
 //! Memory that is reserved before a call is recorded, so that its steps take none.
 
-ghost use Rattle.std.specs.Prelude.{◌≡◌, ◌≤◌, false, length, IfOk, IsOk, Ok, Some};
+ghost use Rattle.std.specs.Prelude.{◌≡◌, ◌≤◌, false, length, IfOk, IsOk, IsSome, None, Ok, Some};
 ghost use Rattle.gaspi_types.specs.CallRows.{row_of};
 ghost use Rattle.gaspi_types.specs.SegmentTables.{alloc_checks};
 ghost use Rattle.gaspi_model.specs.Calls.{call_asks};
 ghost use Rattle.gaspi_model.specs.PassiveCalls.{brought_by};
 ghost use Rattle.rank_node.specs.Making.{made_segment};
+ghost use Rattle.rank_node.specs.Values.{PostsValue, MemoryValue};
 ghost use Rattle.rank_node.specs.Rooms.{HasEntries, HasMade, HasBytes, IsRoomFor};
 
 use crate::making::MadeSegment;
@@ -118,6 +119,66 @@ fn reserve_bytes(alloc: Global, posts: &NodePosts, call: &Call) -> Result<Bytes,
     Ok(Rows::new(alloc))
 }
 
+/// The room of a call that posts nothing and takes no memory.
+fn empty_room(alloc: Global, invocation: &Invocation<'_>) -> Room
+    requires posting { (row_of invocation.now.call.now).posting ≡ None }
+    requires memory { (row_of invocation.now.call.now).takes_memory ≡ false }
+    ensures { (posts : PostsValue) (memory : MemoryValue) → IsRoomFor posts memory invocation.now.call.now result }
+{
+    Room {
+        row: invocation.row,
+        entries: None,
+        made: None,
+        message: None,
+        bytes: Rows::new(alloc),
+        numbers: ReservedNumbers::nothing(alloc),
+    }
+}
+
+/// The room of a call that posts: its entries alone.
+fn post_room(
+    alloc: Global,
+    posts: &NodePosts,
+    invocation: &Invocation<'_>,
+) -> Result<Room, NoMemory>
+    requires { IsSome (row_of invocation.now.call.now).posting }
+    ensures room { (memory : MemoryValue) → IfOk result (λ room. IsRoomFor posts.now memory invocation.now.call.now room) }
+    ensures ample { (row_of invocation.now.call.now).takes_memory ≡ false → IsOk result }
+{
+    let row = invocation.row;
+    Ok(Room {
+        row,
+        entries: reserve_entries(alloc, posts, row.posting, invocation.call)?,
+        made: None,
+        message: None,
+        bytes: Rows::new(alloc),
+        numbers: ReservedNumbers::nothing(alloc),
+    })
+}
+
+/// The room of a call that posts nothing.
+fn memory_room(
+    alloc: Global,
+    posts: &NodePosts,
+    memory: &NodeMemory,
+    invocation: &Invocation<'_>,
+) -> Result<Room, NoMemory>
+    requires posting { (row_of invocation.now.call.now).posting ≡ None }
+    requires notes { posts.now.limits.notes ≤ 1024 }
+    ensures room { IfOk result (λ room. IsRoomFor posts.now memory.now invocation.now.call.now room) }
+    ensures ample { (row_of invocation.now.call.now).takes_memory ≡ false → IsOk result }
+{
+    let call = invocation.call;
+    Ok(Room {
+        row: invocation.row,
+        entries: None,
+        made: reserve_made(alloc, posts, call)?,
+        message: reserve_message(alloc, posts, memory, call)?,
+        bytes: reserve_bytes(alloc, posts, call)?,
+        numbers: ReservedNumbers::for_call(alloc, call)?,
+    })
+}
+
 /// Reserves the memory that a call needs, on the posts and the memory of its caller's rank. A call whose row says so takes none.
 pub(crate) fn reserve(
     alloc: Global,
@@ -129,15 +190,11 @@ pub(crate) fn reserve(
     ensures room { IfOk result (λ room. IsRoomFor posts.now memory.now invocation.now.call.now room) }
     ensures ample { (row_of invocation.now.call.now).takes_memory ≡ false → IsOk result }
 {
-    let call = invocation.call;
-    Ok(Room {
-        row: invocation.row,
-        entries: reserve_entries(alloc, posts, invocation.row.posting, call)?,
-        made: reserve_made(alloc, posts, call)?,
-        message: reserve_message(alloc, posts, memory, call)?,
-        bytes: reserve_bytes(alloc, posts, call)?,
-        numbers: ReservedNumbers::for_call(alloc, call)?,
-    })
+    match (invocation.row.posting, invocation.row.takes_memory) {
+        (None, false) => Ok(empty_room(alloc, invocation)),
+        (None, true) => memory_room(alloc, posts, memory, invocation),
+        (Some(_), _) => post_room(alloc, posts, invocation),
+    }
 }
 
 /// Takes a list of bytes, and leaves the empty one. It takes no memory.
