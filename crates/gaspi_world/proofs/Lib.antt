@@ -3,12 +3,16 @@ pub mod AttemptedCalls
 pub mod CommittedNodes
 pub mod Endings
 pub mod FewCallers
+pub mod Following
 pub mod Going
 pub mod HeldNodes
+pub mod Lanes
 pub mod Looks
 pub mod MergedJournals
+pub mod Movings
 pub mod Numbers
 pub mod OpeningShards
+pub mod OtherShards
 pub mod OwnEvents
 pub mod SpentLooks
 pub mod TakenShards

@@ -1,5 +1,5 @@
 -- What a try to make a transfer of a rank tells.
-use Rattle.std.specs.Prelude.{◌≡◌, ◌≢◌, ◌==◌, ◌⊎◌, eqb, ℕ, Bool, true, false, List, [], ◌∷◌, ◌++◌, length, Some, Ok, slice_get}
+use Rattle.std.specs.Prelude.{◌≡◌, ◌≢◌, ◌==◌, ◌<◌, ◌⊎◌, eqb, ℕ, Bool, true, false, List, [], ◌∷◌, ◌++◌, length, Some, Ok, slice_get}
 use Rattle.std.specs.List.{list_any}
 use mathlib.Core.List.{IsPrefix}
 use Rattle.gaspi_types.specs.World.{World}
@@ -8,7 +8,7 @@ use Rattle.gaspi_types.specs.declared.events.Event.TheVariants.{Called, Joined, 
 use Rattle.gaspi_types.specs.declared.events.Transfer.{Transfer}
 use Rattle.gaspi_types.specs.declared.entries.Entry.{Entry}
 use Rattle.gaspi_model.specs.Shards.{numbers_of}
-use Rattle.gaspi_model.specs.Step.{reached, is_active, transfer_event}
+use Rattle.gaspi_model.specs.Step.{reached, is_active, is_legal, transfer_event}
 use Rattle.gaspi_model.specs.Transfers.{transfers}
 use Rattle.gaspi_model.specs.declared.states.State.{State}
 use Rattle.commit_table.specs.Machine.{Machine, IsOwn}
@@ -113,3 +113,27 @@ module _ (w : World) where
   Tries origin v (Still true) n = HoldsNone n × LookedOnly (world_machine w) v n × HasNoTransfer n.seen origin × HaveEnded n.seen origin
   Tries origin v (Still false) n = HoldsNone n × LookedOnly (world_machine w) v n × HasNoTransfer n.seen origin × HasActive n.seen origin
   Tries origin v (Ready t h) n = Holds w h n × LookedOnly (world_machine w) v n × IsFrontHeld t h × (t.origin ≡ origin)
+
+  -- transfers of the origin were committed at these places, one after another, and nothing else; there were looks, and there may have been
+  -- misses
+  pub record HasMoved {S : Type 0} (origin : ℕ) (v n : Known S Event) : Type 0 where
+    pub places : List ℕ
+    pub commits : n.commits ≡ v.commits ++ places
+    pub each : (k place : ℕ) → slice_get places k ≡ Some place → (e : Event) × (slice_get n.seen place ≡ Some e) × (is_transfer_of origin e ≡ true)
+    pub seen : IsPrefix v.seen n.seen
+    pub looks : IsPrefix v.looks n.looks
+    pub missed : IsPrefix v.missed n.missed
+    pub mine : n.mine ≡ v.mine
+    pub party : n.party ≡ v.party
+    pub start : n.start ≡ v.start
+
+  -- one at least
+  abbrev pub HasMovedOne : {S : Type 0} → ℕ → Known S Event → Known S Event → Type 0
+  HasMovedOne origin v n = (moved : HasMoved origin v n) × (0 < length moved.places)
+
+  -- one transfer of the origin was committed or several; else as of a try to make one
+  abbrev pub MovesOn : {S : Type 0} → ℕ → Known S Event → Moving → Known S Event → Type 0
+  MovesOn origin v Moved n = HasMovedOne origin v n × (is_legal w n.seen ≡ true)
+  MovesOn origin v Busy n = Moves origin v Busy n
+  MovesOn origin v Empty n = Moves origin v Empty n
+  MovesOn origin v Ended n = Moves origin v Ended n

@@ -1,12 +1,13 @@
 //! The shards of an event, taken and given back.
 
-ghost use Rattle.std.specs.Prelude.{◌≡◌, ℕ, ◌<◌, ◌≤◌, ◌+◌, ◌⊎◌, ◌∷◌, [], None, Some, IfSome, IfNone, IsSomeAnd};
+ghost use Rattle.std.specs.Prelude.{◌≡◌, ℕ, ◌<◌, ◌≤◌, ◌+◌, ◌⊎◌, ◌∷◌, [], None, Some, true, false, IfSome, IfNone, IsSomeAnd};
 ghost use Rattle.gaspi_types.specs.World.{IsWorld};
 ghost use Rattle.commit_table.specs.Attempts.{LookedOnly, Missed};
 ghost use Rattle.commit_table.specs.Calls.{IsOf, HoldsNone};
 ghost use Rattle.world_shards.specs.Holds.{TookBoth};
 ghost use Rattle.world_shards.specs.RankShards.{IsEither, rank_other};
 ghost use Rattle.gaspi_world.specs.Holds.{Holds, values_of, other_value, IsOther, IsOtherShard, left_by};
+ghost use Rattle.gaspi_world.specs.Moves.{HasMoved};
 ghost use Rattle.gaspi_world.specs.Shards.{IsRankShard};
 ghost use Rattle.gaspi_world.specs.WorldMachine.{world_machine};
 ghost use Rattle.gaspi_world.specs.declared.shards.WorldShard.TheVariants as shards;
@@ -215,6 +216,91 @@ pub fn open(
     match other {
         Some(other) => open_both(table, pass, own, other),
         None => open_own(table, pass, own),
+    }
+}
+
+/// Takes another shard beside that of a rank, and looks; or misses it.
+fn take_other(
+    table: &CommitTable<Start>,
+    pass: &mut Pass,
+    held: &mut HeldShards,
+    other: u32,
+) -> bool
+    requires pass { IsOf table.now pass.old }
+    requires held { Holds table.now.start.shape held.old pass.old.known }
+    requires alone { held.old.other ≡ None }
+    requires other { IsOtherShard table.now.start.shape held.old.own (Some other) }
+    ensures table { pass.new.table ≡ pass.old.table }
+    ensures held { Holds table.now.start.shape held.new pass.new.known }
+    ensures own { (held.new.own ≡ held.old.own) × (held.new.nodes.own ≡ held.old.nodes.own) }
+    ensures opened { result ≡ true → held.new.other ≡ Some other }
+    ensures missed { result ≡ false → held.new.other ≡ None }
+    ensures moved { HasMoved table.now.start.shape held.old.own pass.old.known pass.new.known }
+{
+    let Some(theirs) = table.try_take(pass, other) else {
+        return false;
+    };
+    table.look(pass);
+    held.other = Some(other);
+    held.nodes.other = into_other(theirs);
+    true
+}
+
+/// Takes another shard beside that of a rank, where there is one, and looks; whether it is held, or there is none.
+pub fn open_other(
+    table: &CommitTable<Start>,
+    pass: &mut Pass,
+    held: &mut HeldShards,
+    other: Option<u32>,
+) -> bool
+    requires pass { IsOf table.now pass.old }
+    requires held { Holds table.now.start.shape held.old pass.old.known }
+    requires alone { held.old.other ≡ None }
+    requires other { IsOtherShard table.now.start.shape held.old.own other }
+    ensures table { pass.new.table ≡ pass.old.table }
+    ensures held { Holds table.now.start.shape held.new pass.new.known }
+    ensures own { (held.new.own ≡ held.old.own) × (held.new.nodes.own ≡ held.old.nodes.own) }
+    ensures opened { result ≡ true → held.new.other ≡ other }
+    ensures missed { result ≡ false → held.new.other ≡ None }
+    ensures moved { HasMoved table.now.start.shape held.old.own pass.old.known pass.new.known }
+{
+    match other {
+        Some(other) => take_other(table, pass, held, other),
+        None => true,
+    }
+}
+
+/// Gives the other shard back, and holds that of a rank alone.
+fn give_other(table: &CommitTable<Start>, pass: &mut Pass, held: &mut HeldShards, other: u32)
+    requires pass { IsOf table.now pass.old }
+    requires held { Holds table.now.start.shape held.old pass.old.known }
+    requires other { held.old.other ≡ Some other }
+    ensures table { pass.new.table ≡ pass.old.table }
+    ensures held { Holds table.now.start.shape held.new pass.new.known }
+    ensures own { held.new.own ≡ held.old.own }
+    ensures alone { held.new.other ≡ None }
+    ensures moved { HasMoved table.now.start.shape held.old.own pass.old.known pass.new.known }
+{
+    let node = std::mem::replace(&mut held.nodes.other, OtherNode::Nothing);
+    held.other = None;
+    let Some(value) = from_other(node) else {
+        unreachable!()
+    };
+    table.give_back(pass, other, value);
+}
+
+/// Gives the other shard back, where one is held, and holds that of a rank alone.
+pub fn leave_other(table: &CommitTable<Start>, pass: &mut Pass, held: &mut HeldShards)
+    requires pass { IsOf table.now pass.old }
+    requires held { Holds table.now.start.shape held.old pass.old.known }
+    ensures table { pass.new.table ≡ pass.old.table }
+    ensures held { Holds table.now.start.shape held.new pass.new.known }
+    ensures own { held.new.own ≡ held.old.own }
+    ensures alone { held.new.other ≡ None }
+    ensures moved { HasMoved table.now.start.shape held.old.own pass.old.known pass.new.known }
+{
+    if let Some(other) = held.other {
+        give_other(table, pass, held, other);
     }
 }
 

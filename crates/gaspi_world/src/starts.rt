@@ -34,10 +34,11 @@ impl Start {
         }
     }
 
-    /// Tells that a transfer was made: who waits at its shards.
+    /// Tells that transfers were made: who waits at their shards.
     pub(crate) fn tell_transfer(&self, own: u32, other: Option<u32>) {
         self.changes.tell(own);
-        if let Some(other) = other {
+        let other = other.unwrap_or(own);
+        if other != own {
             self.changes.tell(other);
         }
     }

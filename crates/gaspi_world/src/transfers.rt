@@ -1,6 +1,6 @@
 //! The transfers of a rank in a world, made one at a time.
 
-ghost use Rattle.std.specs.Prelude.{◌≡◌, ℕ, ◌<◌, ◌≤◌, IfSome, IfNone, Some, false};
+ghost use Rattle.std.specs.Prelude.{◌≡◌, ℕ, ◌<◌, ◌≤◌, IfSome, IfNone, None, Some, false};
 ghost use Rattle.gaspi_types.specs.World.{IsWorld};
 ghost use Rattle.gaspi_types.specs.declared.entries.Entry.{Entry};
 ghost use Rattle.gaspi_model.specs.Sound.{IsSound};
@@ -13,9 +13,11 @@ ghost use Rattle.rank_node.specs.Transfers.{event_of};
 ghost use Rattle.world_shards.specs.RankShards.{rank_other};
 ghost use Rattle.gaspi_world.specs.Callers.{IsWorkers};
 ghost use Rattle.gaspi_world.specs.Holds.{Holds};
-ghost use Rattle.gaspi_world.specs.Moves.{Moves, Tries, IsMovedBehind, IsFrontHeld};
+ghost use Rattle.gaspi_world.specs.Moves.{Moves, MovesOn, HasMoved, HasMovedOne, Tries, IsMovedBehind, IsFrontHeld};
 
-use crate::holding::{HeldShards, both_held, into_rank, leave, one_held, reached_shard};
+use crate::holding::{
+    HeldShards, both_held, into_rank, leave, leave_other, one_held, open_other, reached_shard,
+};
 use crate::moving::Moving;
 use crate::shards::WorldShard;
 use crate::starts::Start;
@@ -161,6 +163,107 @@ fn move_one(table: &CommitTable<Start>, pass: &mut Pass, origin: RankId) -> Movi
     }
 }
 
+/// How many transfers are made in one hold of a rank's shard, at most.
+const MOST_AT_ONCE: u32 = 8;
+
+/// Makes the next transfer of a lane of the rank whose shard is held, where there is one and its other shard is free: whether it was made.
+fn follow(
+    table: &CommitTable<Start>,
+    pass: &mut Pass,
+    held: &mut HeldShards,
+    queue: QueueId,
+    target: RankId,
+) -> bool
+    requires world { IsWorld table.now.start.shape }
+    requires pass { IsOf table.now pass.old }
+    requires held { Holds table.now.start.shape held.old pass.old.known }
+    requires alone { held.old.other ≡ None }
+    ensures table { pass.new.table ≡ pass.old.table }
+    ensures held { Holds table.now.start.shape held.new pass.new.known }
+    ensures own { held.new.own ≡ held.old.own }
+    ensures alone { held.new.other ≡ None }
+    ensures moved { HasMoved table.now.start.shape held.old.own pass.old.known pass.new.known }
+{
+    let Some(t) = held.nodes.own.front(queue, target) else {
+        return false;
+    };
+    let ranks = table.start().shape.ranks();
+    let other = front_shard(&held.nodes.own, ranks, &t);
+    if !open_other(table, pass, held, other) {
+        return false;
+    }
+    move_front(table, pass, held, t);
+    true
+}
+
+/// Makes a transfer that is the front of its lane, and gives back the other shard that it has.
+fn move_front(table: &CommitTable<Start>, pass: &mut Pass, held: &mut HeldShards, t: Transfer)
+    requires world { IsWorld table.now.start.shape }
+    requires pass { IsOf table.now pass.old }
+    requires held { Holds table.now.start.shape held.old pass.old.known }
+    requires front { IsFrontHeld table.now.start.shape t held.old }
+    ensures table { pass.new.table ≡ pass.old.table }
+    ensures held { Holds table.now.start.shape held.new pass.new.known }
+    ensures own { held.new.own ≡ held.old.own }
+    ensures alone { held.new.other ≡ None }
+    ensures moved { HasMovedOne table.now.start.shape held.old.own pass.old.known pass.new.known }
+{
+    commit_front(table, pass, held, t);
+    leave_other(table, pass, held);
+}
+
+/// Makes transfers of a lane of the rank whose shard is held, as long as they follow one another, but not too many.
+fn go_on(
+    table: &CommitTable<Start>,
+    pass: &mut Pass,
+    held: &mut HeldShards,
+    queue: QueueId,
+    target: RankId,
+)
+    requires world { IsWorld table.now.start.shape }
+    requires pass { IsOf table.now pass.old }
+    requires held { Holds table.now.start.shape held.old pass.old.known }
+    requires alone { held.old.other ≡ None }
+    ensures table { pass.new.table ≡ pass.old.table }
+    ensures held { Holds table.now.start.shape held.new pass.new.known }
+    ensures own { held.new.own ≡ held.old.own }
+    ensures alone { held.new.other ≡ None }
+    ensures moved { HasMoved table.now.start.shape held.old.own pass.old.known pass.new.known }
+{
+    for _ in 1..MOST_AT_ONCE {
+        if !follow(table, pass, held, queue, target) {
+            return;
+        }
+    }
+}
+
+/// Makes the next transfer of a rank, where there is one and its shards are free, and those that follow it in its lane.
+fn move_lane(table: &CommitTable<Start>, pass: &mut Pass, origin: RankId) -> Moving
+    requires world { IsWorld table.now.start.shape }
+    requires pass { IsOf table.now pass.old }
+    requires free { HoldsNone pass.old.known }
+    requires rank { origin < table.now.start.shape.limits.ranks }
+    ensures table { pass.new.table ≡ pass.old.table }
+    ensures free { HoldsNone pass.new.known }
+    ensures moves { MovesOn table.now.start.shape origin pass.old.known result pass.new.known }
+{
+    match try_front(table, pass, origin) {
+        Tried::Busy => Moving::Busy,
+        Tried::Still(true) => Moving::Ended,
+        Tried::Still(false) => Moving::Empty,
+        Tried::Ready(t, mut held) => {
+            let (queue, target) = (t.queue, t.target);
+            move_front(table, pass, &mut held, t);
+            go_on(table, pass, &mut held, queue, target);
+            leave(table, pass, held);
+            table
+                .start()
+                .tell_transfer(origin.number(), Some(target.number()));
+            Moving::Moved
+        }
+    }
+}
+
 impl World {
     /// Makes one transfer of a rank, the next of a lane, where one may come next and no other pass holds its shards. It takes no memory.
     /// (GASPI: one-sided communication)
@@ -175,5 +278,20 @@ impl World {
     {
         self.shape().limits();
         move_one(self.table(), pass, origin)
+    }
+
+    /// Makes transfers of a rank in one hold of its shard: the next of a lane, where one may come next and no other pass holds its shards,
+    /// and those that follow it in that lane, up to eight. It takes no memory. (GASPI: one-sided communication)
+    pub fn transfer_lane(&self, pass: &mut Pass, origin: RankId) -> Moving
+        requires pass { IsOf self.now pass.old }
+        requires free { HoldsNone pass.old.known }
+        requires worker { IsWorkers self.now.start.shape pass.old.known }
+        requires rank { origin < self.now.start.shape.limits.ranks }
+        ensures table { pass.new.table ≡ pass.old.table }
+        ensures free { HoldsNone pass.new.known }
+        ensures moves { MovesOn self.now.start.shape origin pass.old.known result pass.new.known }
+    {
+        self.shape().limits();
+        move_lane(self.table(), pass, origin)
     }
 }

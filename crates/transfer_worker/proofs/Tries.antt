@@ -17,7 +17,7 @@ use Rattle.commit_table.specs.Attempts.{LookedOnly}
 use Rattle.commit_table.specs.Calls.{HoldsNone, PassValue}
 use Rattle.commit_table.specs.Views.{mine_after}
 use Rattle.commit_table.specs.declared.views.Known.{Known}
-use Rattle.gaspi_world.specs.Moves.{is_transfer_of, HasNoTransfer, HasActive, HaveEnded, IsBusyMove, Moves}
+use Rattle.gaspi_world.specs.Moves.{is_transfer_of, HasNoTransfer, HasActive, HaveEnded, IsBusyMove, Moves, MovesOn}
 use Rattle.gaspi_world.specs.WorldMachine.{world_machine}
 use Rattle.gaspi_model.specs.Parties.{party_of}
 use Rattle.gaspi_world.specs.declared.moving.Moving.{Moving}
@@ -151,6 +151,21 @@ module _ {S : Type 0} (w : World) where
   )
   moves-on origin v n moves.Empty told = looked-on v n told.0
   moves-on origin v n moves.Ended told = looked-on v n told.0
+
+  -- and a try that may make several transfers
+  pub lane-moves-on : (origin : ℕ) (v n : Known S Event) (r : Moving) → MovesOn w origin v r n → GoesOn v n
+  lane-moves-on origin v n moves.Moved ((moved, some), legal) = record {
+    seen = moved.seen;
+    commits = more-prefix v.commits n.commits moved.places moved.commits;
+    looks = moved.looks;
+    missed = moved.missed;
+    mine = moved.mine;
+    party = moved.party;
+    start = moved.start;
+  }
+  lane-moves-on origin v n moves.Busy told = (moves-on origin v n moves.Busy told).0
+  lane-moves-on origin v n moves.Empty told = (moves-on origin v n moves.Empty told).0
+  lane-moves-on origin v n moves.Ended told = (moves-on origin v n moves.Ended told).0
 
   -- what the tries come to, none of which moved
   abbrev pub SoFar : (ℕ → Type 0) → ℕ → Known S Event → Turn → Known S Event → Type 0

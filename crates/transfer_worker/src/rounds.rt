@@ -40,7 +40,7 @@ pub fn try_all(world: &World, pass: &mut Pass, first: u32) -> Turn
 /// What a try of the ranks comes to that are not known to be quiet, the others.
 #[derive(Clone, Copy, Debug, PartialEq, Eq)]
 pub enum Others {
-    /// One transfer was made.
+    /// Transfers of a lane were made.
     Moved,
     /// None was, and at a try another thread held a shard that the transfer needed.
     Busy,
@@ -62,7 +62,7 @@ fn try_other(world: &World, pass: &mut Pass, origin: RankId, quiet: &mut QuietRa
     if quiet.is_quiet(origin.number(), count) {
         return Others::Quiet;
     }
-    match world.transfer(pass, origin) {
+    match world.transfer_lane(pass, origin) {
         Moving::Moved => Others::Moved,
         Moving::Busy => Others::Busy,
         Moving::Empty | Moving::Ended => {
