@@ -1,6 +1,7 @@
 //! Scripts that end for want of memory, and where a journal begins behind a world text.
 
 use crate::one_rank::caller;
+use gaspi_types::NoMemory;
 use rank_script::{
     Cursor, Halted, RunOutcome, ScriptFault, Scripts, read_input, read_world, split_input,
 };
@@ -17,12 +18,17 @@ fn scripts_of(alloc: Global, text: &[u8]) -> Result<Scripts, ScriptFault> {
 }
 
 /// How the script of the first caller ends where there is no memory for its first line, and which line that is.
-fn stopped(scripts: &Scripts) -> Option<(u64, RunOutcome)> {
-    let mut run = Cursor::new(scripts.of(caller())?);
+fn stopped(alloc: Global, scripts: &Scripts) -> Result<Option<(u64, RunOutcome)>, NoMemory> {
+    let Some(script) = scripts.of(caller()) else {
+        return Ok(None);
+    };
+    let mut run = Cursor::new(alloc, script)?;
     let line = run.line();
-    run.present()?;
+    if run.present().is_none() {
+        return Ok(None);
+    }
     run.stop(Halted::NoMemory);
-    Some((line, run.outcome()?))
+    Ok(run.outcome().map(|outcome| (line, outcome)))
 }
 
 // How else a run goes on and ends is in `tests/expectations.table` and `tests/worlds.table`.
@@ -31,7 +37,7 @@ fn a_run_is_stopped_without_memory(rt: HostRuntime) -> Result<(), Fail> {
     let scripts = scripts_of(rt.alloc(), ONE_RANK)?;
     assert!(rt;
         matches!(
-            stopped(&scripts),
+            stopped(rt.alloc(), &scripts)?,
             Some((3, RunOutcome::NoMemory { line: 3 }))
         )
     );

@@ -15,7 +15,8 @@ use Rattle.gaspi_model.specs.declared.states.Why.{Why}
 use Rattle.bench_laws.specs.Laws.{RanToTheEnd, draws_until}
 use Rattle.journal_numbers.specs.Numbers.{is_call, is_transfer, is_notification, words_until, AreNumbers}
 use Rattle.journal_numbers.specs.declared.numbers.Numbers4.{Numbers4}
-use Rattle.rank_script.specs.Bench.{bench_scripts, bench_callers, bench_lines, bench_shape}
+use Rattle.rank_script.specs.Bench.{bench_callers, bench_lines, bench_shape}
+use Rattle.rank_script.specs.BenchScripts.{bench_scripts}
 use Rattle.rank_script.specs.Runs.{IsRun}
 use Rattle.rank_script.specs.WorldText.{AreScriptsOf, is_script_of}
 use Rattle.rank_script.specs.declared.scripts.RunOutcome.{RunOutcome}

@@ -35,6 +35,7 @@ module _ (world : TableValue Start) (scripts : List Script) (limit : ℕ) where
       blocks = subst (λ (n : ℕ). 1 ≤ n) (sym is.0) some;
     },
     record { table = (refl, refl); free = λ i. refl; caller = is.2; fresh = refl },
+    is.3,
   )
   needs-made place (Worker turns) is some plain looks = ((refl, refl), λ i. refl, (place, refl, is))
 

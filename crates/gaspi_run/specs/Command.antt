@@ -21,7 +21,8 @@ use Rattle.command_line.specs.declared.words.Command.TheVariants.{Run, Step, Che
 use Rattle.bench_laws.specs.Laws.{draws_until}
 use Rattle.journal_numbers.specs.Numbers.{AreNumbers}
 use Rattle.journal_numbers.specs.declared.numbers.Numbers4.{Numbers4}
-use Rattle.rank_script.specs.Bench.{bench_shape, bench_scripts}
+use Rattle.rank_script.specs.Bench.{bench_shape}
+use Rattle.rank_script.specs.BenchScripts.{bench_scripts}
 use Rattle.rank_script.specs.Lines.{input_limit}
 use Rattle.rank_script.specs.WorldText.{Said, TextFault, world_text, journal_place, checked_world}
 use Rattle.rank_script.specs.declared.scripts.Script.{Script}

@@ -9,6 +9,7 @@ use Rattle.commit_table.specs.declared.views.Known.{Known}
 use Rattle.gaspi_world.specs.Callers.{IsPassOf, IsWorkers}
 use Rattle.gaspi_world.specs.declared.launching.Task.{Task}
 use Rattle.gaspi_world.specs.declared.starts.Start.{Start}
+use Rattle.rank_script.specs.Runs.{going_on}
 use Rattle.rank_script.specs.WorldText.{is_script_of}
 use Rattle.rank_script.specs.declared.scripts.RunOutcome.{RunOutcome}
 use Rattle.rank_script.specs.declared.scripts.RunOutcome.TheVariants as outcomes
@@ -23,7 +24,7 @@ use Rattle.gaspi_run.specs.declared.parts.Part.TheVariants.{Caller, Worker}
 
 -- what a part needs of its pass: it is that of its caller, or of a worker, and has done nothing yet
 abbrev pub NeedsOf : Part → TableValue Start → PassValue Start Event → Type 0
-NeedsOf (Caller body) world pass = IsRunnable body.script.now body.limit × IsFresh body.script.now world pass
+NeedsOf (Caller body) world pass = IsRunnable body.script.now body.limit × IsFresh body.script.now world pass × (body.cursor ≡ going_on body.script.now.lines)
 NeedsOf (Worker turns) world pass = IsOf world pass × HoldsNone pass.known × IsWorkers world.start.shape pass.known
 
 -- A worker has made transfers, and none was left.
@@ -63,10 +64,10 @@ abbrev pub AreCallersThere : TableValue Start → Type 0
 AreCallersThere world = (place : ℕ) → place < length world.start.shape.callers → (c : CallerId) × IsPassOf world.start.shape c (made_pass world place).known
 
 module _ (world : TableValue Start) (scripts : List Script) (limit : ℕ) where
-  -- a caller's part has the script of the caller with the number of its pass; the workers' parts stand behind those
+  -- a caller's part has the script of the caller with the number of its pass, before its first line; the workers' parts stand behind those
   abbrev pub IsPartOf : ℕ → Part → Type 0
   IsPartOf place (Caller body) =
-      (body.limit ≡ limit) × (find (is_script_of body.script.now.caller) scripts ≡ Some body.script.now) × IsPassOf world.start.shape body.script.now.caller (made_pass world place).known
+      (body.limit ≡ limit) × (find (is_script_of body.script.now.caller) scripts ≡ Some body.script.now) × IsPassOf world.start.shape body.script.now.caller (made_pass world place).known × (body.cursor ≡ going_on body.script.now.lines)
   IsPartOf place (Worker turns) = length world.start.shape.callers ≤ place
 
   -- a part and its pass, before it runs

@@ -274,7 +274,10 @@ fn caller_turn(turns: &mut Turns, alloc: Global, limit: u32, place: usize) -> Re
         return end_caller(turns, alloc, place, outcome);
     }
     match cursor.present() {
-        Some((call, timeout)) => go_on(turns, alloc, limit, place, call, timeout),
+        Some((call, timeout)) => {
+            let call = call.copy(alloc)?;
+            go_on(turns, alloc, limit, place, &call, timeout)
+        }
         None => Ok(()),
     }
 }

@@ -38,7 +38,7 @@ fn add_start<'a>(
     };
     waiting.push(Waiting {
         caller: script.caller,
-        cursor: Cursor::new(script),
+        cursor: Cursor::new(waiting.allocator(), script)?,
         looks: 0,
     })
 }

@@ -12,7 +12,7 @@ use crate::parts::Part;
 use crate::turns::Finished;
 use gaspi_types::{NoMemory, Rows};
 use gaspi_world::{Pass, Passes, Task, World, launch};
-use rank_script::{RunOutcome, Scripts};
+use rank_script::{Cursor, RunOutcome, Scripts};
 use script_bodies::ScriptBody;
 use std::alloc::Global;
 use std::sync::Wait;
@@ -25,67 +25,72 @@ pub(crate) struct RanParts {
     pub outcomes: Rows<Finished>,
 }
 
-/// The script of the caller whose pass this is, to be run.
+/// The script of the caller whose pass this is, to be run. What its run takes of memory for the script is taken here.
 fn caller_part<'a>(
+    alloc: Global,
     world: &World,
     scripts: &'a Scripts,
     pass: &Pass,
     place: usize,
     limit: u32,
-) -> Part<'a>
+) -> Result<Part<'a>, NoMemory>
     requires pass { pass.now ≡ made_pass world.now place }
     requires caller { (c : CallerId) × IsPassOf world.now.start.shape c pass.now.known }
     requires scripts { AreScriptsOf world.now.start.shape scripts.now }
-    ensures { IsPartOf world.now scripts.now limit place result }
+    ensures { IfOk result (λ part. IsPartOf world.now scripts.now limit place part) }
 {
     let caller = world.caller_of(pass);
     let Some(script) = scripts.of(caller) else {
         unreachable!()
     };
-    Part::Caller(ScriptBody {
+    let cursor = Cursor::new(alloc, script)?;
+    Ok(Part::Caller(ScriptBody {
         script,
+        cursor,
         limit,
         outcome: None,
-    })
+    }))
 }
 
 /// What the thread with a pass does, where the passes of the callers stand first.
 fn part_of<'a>(
+    alloc: Global,
     world: &World,
     scripts: &'a Scripts,
     pass: &Pass,
     place: usize,
     limit: u32,
-) -> Part<'a>
+) -> Result<Part<'a>, NoMemory>
     requires pass { pass.now ≡ made_pass world.now place }
     requires callers { AreCallersThere world.now }
     requires scripts { AreScriptsOf world.now.start.shape scripts.now }
-    ensures { IsPartOf world.now scripts.now limit place result }
+    ensures { IfOk result (λ part. IsPartOf world.now scripts.now limit place part) }
 {
     let callers = world.shape().callers().len();
     if place < callers {
-        return caller_part(world, scripts, pass, place, limit);
+        return caller_part(alloc, world, scripts, pass, place, limit);
     }
-    Part::Worker {
+    Ok(Part::Worker {
         turns: (place - callers) as u64,
-    }
+    })
 }
 
 /// A pass with what its thread does.
 fn task_of<'a>(
+    alloc: Global,
     world: &World,
     scripts: &'a Scripts,
     pass: Pass,
     place: usize,
     limit: u32,
-) -> Task<Part<'a>>
+) -> Result<Task<Part<'a>>, NoMemory>
     requires pass { pass ≡ made_pass world.now place }
     requires callers { AreCallersThere world.now }
     requires scripts { AreScriptsOf world.now.start.shape scripts.now }
-    ensures { IsReady world.now scripts.now limit place result }
+    ensures { IfOk result (λ task. IsReady world.now scripts.now limit place task) }
 {
-    let body = part_of(world, scripts, &pass, place, limit);
-    Task { body, pass }
+    let body = part_of(alloc, world, scripts, &pass, place, limit)?;
+    Ok(Task { body, pass })
 }
 
 /// A task for each pass, in their order.
@@ -104,7 +109,7 @@ fn tasks_of<'a>(
 {
     let mut tasks = Vec::with_capacity(alloc, passes.len())?;
     for pass in passes {
-        let task = task_of(world, scripts, pass, tasks.len(), limit);
+        let task = task_of(alloc, world, scripts, pass, tasks.len(), limit)?;
         tasks.push(task)?;
     }
     Ok(tasks)

@@ -6,6 +6,7 @@ pub mod JournalLines
 pub mod LateFaults
 pub mod OtherBytes
 pub mod ReadLines
+pub mod RingRounds
 pub mod RingWorld
 pub mod SomeWords
 pub mod UntilJournal

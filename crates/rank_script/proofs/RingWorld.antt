@@ -1,53 +1,18 @@
--- The ring of `bench`: its numbers, what it declares, and its lines.
-use Rattle.std.proofs.Common.{append_assoc, ◌≡◌, ℕ, zero, suc, ◌+◌, ◌*◌, ◌<◌, ◌≤◌, false, List, [], ◌∷◌, ◌++◌, length, get_or, Some, Result, Ok, Err, refl, subst, ap, ◌∙◌, arith, add-one, length-append}
+-- The ring of `bench`: what it declares, and its lines.
+use Rattle.std.proofs.Common.{◌≡◌, ℕ, zero, suc, ◌+◌, ◌*◌, ◌<◌, ◌≤◌, false, List, [], ◌∷◌, Result, Ok, Err, refl, subst, ◌∙◌, arith, add-one}
 use Rattle.std.specs.Prelude.{◌==◌, cond}
-use Rattle.std.specs.List.{All, slice_get, list_any, count_by}
-use Rattle.std.proofs.Math.ListN.{get_or-append}
-use Rattle.std.proofs.Math.Seq.{get_or-append_seam}
+use Rattle.std.specs.List.{All, list_any, count_by}
 use Rattle.std.proofs.lemmas.Bool.{ne_eqb, lt-ltb}
-use Rattle.std.proofs.lemmas.Grind.{common_steps}
 use Rattle.std.proofs.lemmas.List.Elements.{All-nil, All-append}
 use Rattle.std.proofs.lemmas.List.Folds.{list_any-append}
 use Rattle.std.proofs.lemmas.List.Sums.{sum_by-append}
-use Rattle.std.proofs.lemmas.Nat.{mul-add-lt}
-use Rattle.std.proofs.lemmas.Option.{slice_get-get_or}
 use Rattle.gaspi_types.specs.World.{World, is_segment, is_caller, segment_added, caller_added, Declares}
 use Rattle.gaspi_types.specs.declared.shapes.CallerId.{CallerId}
 use Rattle.gaspi_types.specs.declared.shapes.ShapeFault.{ShapeFault}
 use Rattle.gaspi_types.specs.declared.shapes.ShapeFault.TheVariants as faults
 use Rattle.rank_script.specs.Bench.{sending_lines, receiving_lines, round_lines, bench_lines, bench_segments, bench_callers, right_of, left_of, first_number, bench_bytes}
-use Rattle.rank_script.specs.Generator.{after_draws, draws_from}
 use Rattle.rank_script.specs.PlainScripts.{IsPlain, MayLook}
 use Rattle.rank_script.specs.declared.scripts.ScriptLine.{ScriptLine}
-
--- Its numbers.
-
-pub length-draws_from : (seed count : ℕ) → length (draws_from seed count) ≡ count
-length-draws_from seed zero = refl
-length-draws_from seed (suc count) =
-    length-append (draws_from seed count) (after_draws seed (suc count) ∷ []) ∙ omega (arith, length-draws_from seed count)
-
--- the number at a place of a list with one more
-at-more : (xs : List ℕ) (y k v : ℕ) → k < length xs + 1 → (k < length xs → get_or xs k 0 ≡ v) → (k ≡ length xs → y ≡ v) → get_or (xs ++ y ∷ []) k 0 ≡ v
-at-more xs y k v below before last = grind (arith, common_steps, get_or-append {A = ℕ}, get_or-append_seam {A = ℕ})
-
-get_or-draws_from : (seed count k : ℕ) → k < count → get_or (draws_from seed count) k 0 ≡ after_draws seed (k + 1)
-get_or-draws_from seed zero k below = absurd (omega arith)
-get_or-draws_from seed (suc count) k below =
-    let long = length-draws_from seed count in
-    at-more (draws_from seed count) (after_draws seed (suc count)) k (after_draws seed (k + 1)) (omega arith)
-    (λ (h : k < length (draws_from seed count)). get_or-draws_from seed count k (omega arith))
-    (λ (h : k ≡ length (draws_from seed count)). let same : suc count ≡ k + 1 = omega arith in ap (after_draws seed) same)
-
--- the number drawn at a place
-pub slice_get-draws_from : (seed count k : ℕ) → k < count → slice_get (draws_from seed count) k ≡ Some (after_draws seed (k + 1))
-slice_get-draws_from seed count k below =
-    let long = length-draws_from seed count in
-    slice_get-get_or (draws_from seed count) k 0 (omega arith) ∙ ap (λ (n : ℕ). Some n) (get_or-draws_from seed count k below)
-
--- the number of a rank in a round is among those of all rounds
-pub is-drawn : (ranks rounds round rank : ℕ) → round < rounds → rank < ranks → round * ranks + rank < ranks * rounds
-is-drawn ranks rounds round rank early there = mul-add-lt round ranks rank rounds early there
 
 -- What it declares: the next rank is not declared yet.
 
@@ -160,10 +125,3 @@ bench-plain = all-rounds IsPlain sending-plain receiving-plain
 
 pub bench-looks : (seed ranks rounds rank count : ℕ) → All MayLook (bench_lines seed ranks rounds rank count)
 bench-looks = all-rounds MayLook sending-looks receiving-looks
-
--- the lines of a round, added in two parts
-pub added-round : (seed ranks rounds rank round number : ℕ) (sent received : List ℕ) (old between new : List ScriptLine) → number ≡ first_number ranks rounds rank + 7 * round
-    → sent ≡ bench_bytes seed ranks round rank → received ≡ bench_bytes seed ranks round (left_of ranks rank)
-    → between ≡ old ++ sending_lines number (right_of ranks rank) sent → new ≡ between ++ receiving_lines number received → new ≡ old ++ round_lines seed ranks rounds rank round
-added-round seed ranks rounds rank round number sent received old between new numbered posts comes first then =
-    rw (then, first, numbered, posts, comes) (append_assoc old (sending_lines (first_number ranks rounds rank + 7 * round) (right_of ranks rank) (bench_bytes seed ranks round rank)) (receiving_lines (first_number ranks rounds rank + 7 * round) (bench_bytes seed ranks round (left_of ranks rank))))

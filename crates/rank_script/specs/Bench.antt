@@ -11,7 +11,6 @@ use Rattle.gaspi_types.specs.declared.replies.Reply.TheVariants as replies
 use Rattle.gaspi_types.specs.declared.shapes.CallerId.{CallerId}
 use Rattle.gaspi_types.specs.declared.shapes.Declared.{Declared}
 use Rattle.rank_script.specs.Generator.{after_draws}
-use Rattle.rank_script.specs.declared.scripts.Script.{Script}
 use Rattle.rank_script.specs.declared.scripts.ScriptLine.{ScriptLine}
 
 -- the neighbours of a rank in a ring of so many
@@ -71,11 +70,6 @@ module _ (seed ranks rounds : ℕ) where
   abbrev pub bench_lines : ℕ → ℕ → List ScriptLine
   bench_lines rank zero = []
   bench_lines rank (suc round) = bench_lines rank round ++ round_lines rank round
-
-  -- the scripts of so many ranks
-  abbrev pub bench_scripts : ℕ → List Script
-  bench_scripts zero = []
-  bench_scripts (suc rank) = bench_scripts rank ++ record { caller = record { rank = rank; thread = 0 }; lines = bench_lines rank rounds } ∷ []
 
 -- a segment of sixteen bytes for each of so many ranks
 abbrev pub bench_segments : ℕ → List Declared

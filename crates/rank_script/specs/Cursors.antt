@@ -1,5 +1,5 @@
 -- What a cursor over a script is seen as. (own choice)
-use Rattle.std.specs.Prelude.{ℕ, List, [], ◌∷◌}
+use Rattle.std.specs.Prelude.{ℕ, List, [], ◌∷◌, Option, None, Some}
 use Rattle.rank_script.specs.declared.scripts.ScriptLine.{ScriptLine}
 use Rattle.rank_script.specs.declared.scripts.RunOutcome.{RunOutcome}
 use Rattle.rank_script.specs.Runs.{Progress, Going, Over}
@@ -8,3 +8,8 @@ use Rattle.rank_script.specs.Runs.{Progress, Going, Over}
 abbrev pub going_or_over : List ScriptLine → ℕ → RunOutcome → Progress
 going_or_over [] made ending = Over ending
 going_or_over (line ∷ lines) made ending = Going line made lines
+
+-- lines, where there are any
+abbrev pub lines_or_none : Option (List ScriptLine) → List ScriptLine
+lines_or_none None = []
+lines_or_none (Some lines) = lines

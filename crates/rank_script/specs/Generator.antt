@@ -1,5 +1,5 @@
 -- The generator of numbers of 32 bits. (own choice)
-use Rattle.std.specs.Prelude.{ℕ, zero, suc, ◌+◌, ◌*◌, ◌%◌, List, [], ◌∷◌, ◌++◌}
+use Rattle.std.specs.Prelude.{ℕ, zero, suc, ◌+◌, ◌*◌, ◌%◌}
 
 -- the number after a draw
 abbrev pub drawn : ℕ → ℕ
@@ -9,8 +9,3 @@ drawn x = (69069 * x + 1) % 4294967296
 abbrev pub after_draws : ℕ → ℕ → ℕ
 after_draws seed zero = seed
 after_draws seed (suc count) = drawn (after_draws seed count)
-
--- so many numbers, each drawn from the one before it, the first from a seed
-abbrev pub draws_from : ℕ → ℕ → List ℕ
-draws_from seed zero = []
-draws_from seed (suc count) = draws_from seed count ++ after_draws seed (suc count) ∷ []

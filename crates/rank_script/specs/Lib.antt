@@ -1,10 +1,14 @@
 pub mod Bench
+pub mod BenchScripts
 pub mod Cursors
 pub mod CutLines
 pub mod Generator
 pub mod Lines
 pub mod PlainScripts
 pub mod Readings
+pub mod RingLines
+pub mod RoundLines
+pub mod Rounds
 pub mod Runs
 pub mod UntilJournal
 pub mod WorldText

@@ -1,19 +1,21 @@
 //! Walking a script, call by call.
 
-ghost use Rattle.std.specs.Prelude.{◌≡◌, ◌+◌, ◌<◌, ◌^◌, true};
+ghost use Rattle.std.specs.Prelude.{◌≡◌, ◌+◌, ◌<◌, ◌^◌, true, IfOk};
 ghost use Rattle.std.specs.Option.{option_map};
 ghost use Rattle.rank_script.specs.Runs.{Over, going_on, advanced, stopped, present_of, line_of, outcome_of, is_stuck, is_retried, is_failed, is_timeout};
 
+use crate::remaining::Remaining;
 use crate::scripts::{Halted, RunOutcome, Script, ScriptLine};
 use call_rules::same_reply;
-use gaspi_types::{Call, Reply, Timeout};
+use gaspi_types::{Call, NoMemory, Reply, Timeout};
+use std::alloc::Global;
 use std::marker::Model;
 
 /// How far a run of a script has come: the lines whose calls are still to be made, or how the run ended.
 #[derive(Debug, Drop)]
 pub struct Cursor<'a> {
     /// The lines that are left, the present one first.
-    lines: &'a [ScriptLine],
+    left: Remaining<'a>,
     /// How often the present line's call was made.
     made: u32,
     /// How the run ended, where no line is left.
@@ -27,29 +29,27 @@ impl<'a> Model for Cursor<'a> {
 
     ghost use Rattle.rank_script.specs.Cursors.{going_or_over};
 
-    ghost view = { λ c. going_or_over c.lines.now c.made c.ending };
+    ghost view = { λ c. going_or_over c.left c.made c.ending };
 }
 
 impl<'a> Cursor<'a> {
-    /// Before the first line.
-    pub fn new(script: &'a Script) -> Cursor<'a>
-        ensures { result ≡ going_on script.now.lines }
+    /// Before the first line. Lines that no memory holds take that of one round here, and none while the run goes on.
+    pub fn new(alloc: Global, script: &'a Script) -> Result<Cursor<'a>, NoMemory>
+        ensures { IfOk result (λ cursor. cursor ≡ going_on script.now.lines) }
     {
-        Cursor {
-            lines: script.lines.as_slice(),
+        Ok(Cursor {
+            left: Remaining::new(alloc, &script.lines)?,
             made: 0,
             ending: RunOutcome::Ended,
-        }
+        })
     }
 
     /// The call to be made next, with its timeout; none exactly where the run has ended.
-    pub fn present(&self) -> Option<(&'a Call, Timeout)>
+    pub fn present(&self) -> Option<(&Call, Timeout)>
         ensures { option_map (λ call. (call.0.now, call.1)) result ≡ present_of self.now }
     {
-        match self.lines {
-            [line, ..] => Some((&line.call, line.timeout)),
-            [] => None,
-        }
+        let line = self.left.first()?;
+        Some((&line.call, line.timeout))
     }
 
     /// Goes on after the reply of the present call: the same call again where it timed out and its line has tries left,
@@ -57,17 +57,18 @@ impl<'a> Cursor<'a> {
     pub fn advance(&mut self, reply: &Reply)
         ensures { self.new ≡ advanced self.old reply.now }
     {
-        let [line, later @ ..] = self.lines else {
+        let Some(line) = self.left.first() else {
             return;
         };
+        let number = line.number;
         if is_stuck(line, reply) {
-            self.end(RunOutcome::Stuck { line: line.number });
+            self.end(RunOutcome::Stuck { line: number });
         } else if is_retried(line, self.made, reply) {
             self.made += 1;
         } else if is_failed(line, reply) {
-            self.end(RunOutcome::Failed { line: line.number });
+            self.end(RunOutcome::Failed { line: number });
         } else {
-            self.lines = later;
+            self.left.step();
             self.made = 0;
             self.ending = RunOutcome::Ended;
         }
@@ -77,7 +78,7 @@ impl<'a> Cursor<'a> {
     fn end(&mut self, outcome: RunOutcome)
         ensures { self.new ≡ Over outcome }
     {
-        self.lines = &[];
+        self.left.clear();
         self.ending = outcome;
     }
 
@@ -85,7 +86,7 @@ impl<'a> Cursor<'a> {
     pub fn stop(&mut self, halted: Halted)
         ensures { self.new ≡ stopped self.old halted }
     {
-        let [line, ..] = self.lines else {
+        let Some(line) = self.left.first() else {
             return;
         };
         let line = line.number;
@@ -99,9 +100,9 @@ impl<'a> Cursor<'a> {
     pub fn line(&self) -> u64
         ensures { result ≡ line_of self.now }
     {
-        match self.lines {
-            [line, ..] => line.number,
-            [] => 0,
+        match self.left.first() {
+            Some(line) => line.number,
+            None => 0,
         }
     }
 
@@ -109,10 +110,9 @@ impl<'a> Cursor<'a> {
     pub fn outcome(&self) -> Option<RunOutcome>
         ensures { result ≡ outcome_of self.now }
     {
-        if self.lines.is_empty() {
-            Some(self.ending)
-        } else {
-            None
+        match self.left.first() {
+            Some(_) => None,
+            None => Some(self.ending),
         }
     }
 }

@@ -3,6 +3,7 @@
 ghost use Rattle.std.specs.Prelude.{◌≡◌, ◌<◌, ◌++◌, ◌∷◌, [], length, ◌==◌, find, option_copied, slice_get, Some, OnOk, OnErr};
 ghost use Rattle.rank_script.specs.declared.scripts.ScriptFault.TheVariants.{NoMemory};
 
+use crate::ring_ranks::RingRank;
 use gaspi_types::{Call, CallerId, NoMemory, Reply, Rows, Timeout};
 use std::alloc::Global;
 use std::marker::Model;
@@ -21,11 +22,60 @@ pub struct ScriptLine {
     pub expected: Option<Reply>,
 }
 
+/// The lines of a script: those of a rank in a ring, where there is one, which no memory holds, and then others.
+#[derive(Debug, Drop)]
+pub struct ScriptLines {
+    pub(crate) ring: Option<RingRank>,
+    pub(crate) others: Rows<ScriptLine>,
+}
+
+impl Model for ScriptLines {
+    ghost use Rattle.std.specs.Prelude.{List, ◌++◌};
+    ghost use Rattle.rank_script.specs.declared.scripts.ScriptLine.{ScriptLine};
+    ghost use Rattle.rank_script.specs.RingLines.{ring_lines};
+
+    ghost Value = { List ScriptLine };
+
+    ghost view = { λ lines. ring_lines lines.ring ++ lines.others };
+}
+
+impl ScriptLines {
+    ghost use Rattle.rank_script.specs.Bench.{bench_lines};
+
+    /// No line. It takes no memory.
+    pub(crate) fn new(alloc: Global) -> ScriptLines
+        ensures { result ≡ [] }
+    {
+        ScriptLines {
+            ring: None,
+            others: Rows::new(alloc),
+        }
+    }
+
+    /// The lines of a rank in a ring. It takes no memory.
+    pub(crate) fn of_ring(alloc: Global, ring: RingRank) -> ScriptLines
+        ensures { result ≡ bench_lines ring.seed ring.ranks ring.rounds ring.rank ring.rounds }
+    {
+        ScriptLines {
+            ring: Some(ring),
+            others: Rows::new(alloc),
+        }
+    }
+
+    /// Adds a line at the end. Without memory nothing changes.
+    pub(crate) fn push(&mut self, line: ScriptLine) -> Result<(), NoMemory>
+        ensures ok { OnOk result (self.new ≡ self.old ++ line ∷ []) }
+        ensures err { OnErr result (self.new ≡ self.old) }
+    {
+        self.others.push(line)
+    }
+}
+
 /// The script of a caller.
-#[derive(Debug, PartialEq, Eq, Drop)]
+#[derive(Debug, Drop)]
 pub struct Script {
     pub caller: CallerId,
-    pub lines: Rows<ScriptLine>,
+    pub lines: ScriptLines,
 }
 
 /// How a run of a script ended.
@@ -144,7 +194,7 @@ impl Scripts {
     {
         self.scripts.push(Script {
             caller,
-            lines: Rows::new(alloc),
+            lines: ScriptLines::new(alloc),
         })
     }
 

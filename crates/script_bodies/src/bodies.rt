@@ -2,7 +2,7 @@
 
 use crate::running::{end, run_lines};
 use gaspi_world::{Body, Pass, World, waits_on};
-use rank_script::{RunOutcome, Script, runs};
+use rank_script::{Cursor, RunOutcome, Script, runs};
 use std::alloc::Global;
 use std::sync::Wait;
 
@@ -10,6 +10,8 @@ use std::sync::Wait;
 #[derive(Drop)]
 pub struct ScriptBody<'a> {
     pub script: &'a Script,
+    /// How far the run has come; before the first line at first.
+    pub cursor: Cursor<'a>,
     /// How many looks a call may take that blocks.
     pub limit: u32,
     /// How the run ended, once it has.
@@ -18,9 +20,10 @@ pub struct ScriptBody<'a> {
 
 impl<'a> Body for ScriptBody<'a> {
     ghost use Rattle.std.specs.Prelude.{◌≡◌};
+    ghost use Rattle.rank_script.specs.Runs.{going_on};
     ghost use Rattle.script_bodies.specs.Bodies.{IsRunnable, IsFresh, HasRunScript};
 
-    ghost needs = { λ body world pass. IsRunnable body.script.now body.limit × IsFresh body.script.now world pass };
+    ghost needs = { λ body world pass. IsRunnable body.script.now body.limit × IsFresh body.script.now world pass × (body.cursor ≡ going_on body.script.now.lines) };
 
     ghost did = { λ body pass next after. (next.script ≡ body.script) × (next.limit ≡ body.limit) × HasRunScript body.script.now body.limit next.outcome pass after };
 
@@ -29,7 +32,7 @@ impl<'a> Body for ScriptBody<'a> {
         runs();
         waits_on();
         world.shape().limits();
-        let outcome = run_lines(rt, alloc, world, pass, self.script, self.limit);
+        let outcome = run_lines(rt, alloc, world, pass, self);
         end(rt, alloc, world, pass);
         self.outcome = Some(outcome);
     }

@@ -13,15 +13,16 @@ ghost use Rattle.gaspi_world.specs.Callers.{IsPassOf};
 ghost use Rattle.gaspi_world.specs.Calling.{MayCall, CallsBy, IsCalled};
 ghost use Rattle.gaspi_world.specs.declared.calling.Stop.TheVariants.{NoMemory};
 ghost use Rattle.script_bodies.specs.Bodies.{IsRunnable, IsFresh};
-ghost use Rattle.rank_script.specs.Runs.{Over};
+ghost use Rattle.rank_script.specs.Runs.{Over, going_on};
 ghost use Rattle.script_bodies.specs.Runs.{moved};
 ghost use Rattle.script_bodies.specs.SoFar.{HasNoEnd, HasComeTo};
 
+use crate::bodies::ScriptBody;
 use crate::looks::bounded;
 use gaspi_model::{enabled, replies};
 use gaspi_types::{Call, Reply, Timeout};
 use gaspi_world::{Pass, Rank, Stop, World, waits_on};
-use rank_script::{Cursor, Halted, RunOutcome, Script, runs};
+use rank_script::{Cursor, Halted, RunOutcome, runs};
 use std::alloc::Global;
 use std::sync::Wait;
 
@@ -53,31 +54,32 @@ fn move_on(cursor: &mut Cursor, made: Result<Reply, Stop>)
     }
 }
 
-/// Makes the calls of a script until its run is over.
+/// Makes the calls of the script of a body until its run is over.
 pub(crate) fn run_lines<R: Wait>(
     rt: &R,
     alloc: Global,
     world: &World,
     pass: &mut Pass,
-    script: &Script,
-    limit: u32,
+    body: &mut ScriptBody<'_>,
 ) -> RunOutcome
     requires world { IsWorld world.now.start.shape }
-    requires script { IsRunnable script.now limit }
-    requires pass { IsFresh script.now world.now pass.old }
+    requires script { IsRunnable body.old.script.now body.old.limit }
+    requires pass { IsFresh body.old.script.now world.now pass.old }
+    requires start { body.old.cursor ≡ going_on body.old.script.now.lines }
+    ensures script { body.new.script ≡ body.old.script }
+    ensures limit { body.new.limit ≡ body.old.limit }
     ensures table { pass.new.table ≡ pass.old.table }
     ensures free { HoldsNone pass.new.known }
-    ensures run { HasComeTo world.now.start.shape script.now.caller script.now.lines limit (Over result) pass.old.known pass.new.known }
+    ensures run { HasComeTo world.now.start.shape body.old.script.now.caller body.old.script.now.lines body.old.limit (Over result) pass.old.known pass.new.known }
 {
     enabled();
     runs();
     waits_on();
-    let mut cursor = Cursor::new(script);
-    while let Some((call, timeout)) = cursor.present() {
-        let made = make(rt, alloc, world, pass, call, bounded(timeout, limit));
-        move_on(&mut cursor, made);
+    while let Some((call, timeout)) = body.cursor.present() {
+        let made = make(rt, alloc, world, pass, call, bounded(timeout, body.limit));
+        move_on(&mut body.cursor, made);
     }
-    cursor.outcome().unwrap()
+    body.cursor.outcome().unwrap()
 }
 
 /// Makes the end of a caller, which is recorded and done where the caller has not ended.

@@ -99,7 +99,7 @@ fn write_transcript(
 ) -> Result<(), NoMemory>
     ensures { OnOk result (text.new ≡ text.old ++ transcript script.now.caller (going_on script.now.lines) (pairs_of calls.now)) }
 {
-    let mut cursor = Cursor::new(script);
+    let mut cursor = Cursor::new(text.allocator(), script)?;
     for own in calls {
         if is_over(&cursor, own.call) {
             return write_ending(text, script.caller, &cursor);

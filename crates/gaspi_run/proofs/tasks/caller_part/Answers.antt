@@ -14,4 +14,4 @@ pub returns : goal.returns
 returns c =
     let found : find (is_script_of c.caller_of-caller.result) c.args.scripts.now ≡ Some c.in-Some.script.now = sym c.of.ensures ∙ ap (option_copied {T = Script}) c.in-Some.is in
     let part = caller-part c.args.world.now c.args.scripts.now c.args.limit c.args.place c.caller_of-caller.result c.in-Some.script.now c.args.pass.now c.requires.pass c.caller_of-caller.ensures.is found in
-    (refl, part.0, part.1)
+    (refl, part.0, part.1, c.in_ok-cursor.ensures)

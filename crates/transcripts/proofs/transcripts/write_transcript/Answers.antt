@@ -6,7 +6,7 @@ use Rattle.transcripts.proofs.Transcribing.{HasTold, on-ok, read-at, told-over, 
 use Rattle.transcripts.proofs.transcripts.write_transcript.Goals as goal
 
 pub loop-own-init : goal.loop-own-init
-loop-own-init c = ap (λ (p : Progress). c.args.text.now ++ transcript c.args.script.now.caller p (pairs_of c.args.calls.now)) c.new-cursor.ensures
+loop-own-init c = ap (λ (p : Progress). c.args.text.now ++ transcript c.args.script.now.caller p (pairs_of c.args.calls.now)) c.in_ok-cursor.ensures
 
 pub returns-then-is_over : goal.returns-then-is_over
 returns-then-is_over c =

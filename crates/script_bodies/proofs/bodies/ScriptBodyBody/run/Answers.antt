@@ -6,8 +6,8 @@ use Rattle.script_bodies.proofs.bodies.ScriptBodyBody.run.Goals as goal
 
 pub returns : goal.returns
 returns g c = (
-  refl,
-  refl,
+  c.run_lines-outcome.ensures.script,
+  c.run_lines-outcome.ensures.limit,
   record {
     table = c.end.ensures.table ∙ c.run_lines-outcome.ensures.table;
     free = c.end.ensures.free;

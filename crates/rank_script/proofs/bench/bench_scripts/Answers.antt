@@ -2,14 +2,12 @@ use Rattle.std.proofs.Common.{sym, subst}
 use Rattle.std.specs.List.{All}
 use Rattle.rank_script.specs.PlainScripts.{IsPlain, MayLook}
 use Rattle.rank_script.proofs.RingWorld.{bench-plain, bench-looks}
-use Rattle.rank_script.proofs.bench.Ring.scripts.Goals as goal
+use Rattle.rank_script.proofs.bench.bench_scripts.Goals as goal
 
 pub add-requires-clause-plain : goal.add-requires-clause-plain
 add-requires-clause-plain c =
-    let ring = c.args.self.now in
-    subst (All IsPlain) (sym c.in_ok-lines.ensures) (bench-plain ring.seed ring.ranks ring.rounds c.loop-rank.rank ring.rounds)
+    subst (All IsPlain) (sym c.of_ring-lines.ensures) (bench-plain c.args.seed c.args.ranks c.args.rounds c.loop-rank.rank c.args.rounds)
 
 pub add-requires-clause-look : goal.add-requires-clause-look
 add-requires-clause-look c =
-    let ring = c.args.self.now in
-    subst (All MayLook) (sym c.in_ok-lines.ensures) (bench-looks ring.seed ring.ranks ring.rounds c.loop-rank.rank ring.rounds)
+    subst (All MayLook) (sym c.of_ring-lines.ensures) (bench-looks c.args.seed c.args.ranks c.args.rounds c.loop-rank.rank c.args.rounds)
