@@ -5,16 +5,19 @@ from __future__ import annotations
 import os
 import re
 from collections.abc import Iterator
-from dataclasses import dataclass
+from dataclasses import dataclass, replace
 from pathlib import Path
 
 TOP = Path(__file__).resolve().parent.parent
 SEEDS = ("0", "1", "4294967295")  # the seeds under which what `step` writes is judged
-RACES = 63  # how often a world with a race is run on threads
-COMMANDS = ("run", "run --brief", "step", "step --brief", "check")  # what reads a world text
+TOLD = ("step --brief", "run --brief --limit 100000000", "run --brief --limit 100000000 --workers 4")  # what tells replies
+RACES = {1: 63, 2: 12, 3: 12, 4: 25}  # how often a world with a race is run on threads, by its number of workers
+JUDGES = ("check", "why --place 0")  # what reads a journal
+COMMANDS = ("run", "run --brief", "step", "step --brief", *JUDGES)  # what reads a world text
 ENDINGS = {"failed": 3, "stuck": 3, "limit": 8}  # how a script may end early, and the status
 ESCAPES = {"t": "\t", "r": "\r", "\\": "\\", '"': '"'}
 END = "--"  # the line that ends a block
+CLOSED = Path()  # stands for an output that is a pipe which nobody reads
 
 
 class Unreadable(Exception):
@@ -29,7 +32,7 @@ class Case:
     name: str
     words: list[bytes]
     source: bytes | Path  # standard input: its bytes, or what is opened for it
-    output: bytes | Path | None  # its bytes, what is opened for it and not compared, or None: any legal journal
+    output: bytes | Path | None  # its bytes, what is opened for it (or CLOSED) and not compared, or None: any legal journal
     status: int
     whole: bool = False  # whether it stands in full; such a case is run by the launcher
     once: tuple[bytes, ...] = ()  # what each stands in exactly one line of the journal, where any legal one will do
@@ -50,16 +53,18 @@ def escaped(text: str) -> str:
     """A text that is written in one line: `|` is a line feed, and a backslash begins an escape."""
 
     def meant(found: re.Match[str]) -> str:
-        byte, repeated, times, single, bar = found.groups()
+        byte, repeated, times, last, single, bar = found.groups()
         if byte:
             return bytes.fromhex(byte).decode("utf-8", "surrogateescape")
+        if repeated and last:
+            return "".join(escaped(repeated.replace("@", str(number))) for number in range(int(times), int(last) + 1))
         if repeated:
-            return repeated * int(times)
+            return escaped(repeated) * int(times)
         if not bar and single not in ESCAPES:
             raise Unreadable(f"unknown escape in {text}")
         return "\n" if bar else ESCAPES[single]
 
-    return re.sub(r"\\(?:x([0-9a-f]{2})|\{([^*]+)\*(\d+)\}|(.?))|(\|)", meant, text)
+    return re.sub(r"\\(?:x([0-9a-f]{2})|\{([^*]+)\*(\d+)(?:\.\.(\d+))?\}|(.?))|(\|)", meant, text)
 
 
 def words_of(text: str) -> list[bytes]:
@@ -101,6 +106,7 @@ class Table:
             "case": self.case,
             "stepped": self.stepped,
             "raced": self.raced,
+            "told": self.told,
             "scripts": self.scripts,
             "calls": self.calls,
             "journals": self.journals,
@@ -108,6 +114,7 @@ class Table:
             "faults": self.faults,
             "line-faults": self.line_faults,
             "cuts": self.cuts,
+            "journal-cuts": self.journal_cuts,
         }
         while self.taken < len(self.lines):
             word, _, rest = self.take().partition(" ")
@@ -176,7 +183,8 @@ class Table:
         while self.next_word() == "words":
             all_words.append(self.part("words"))
         source = self.stream(self.part("input"))
-        output = self.stream(self.part("output"))
+        said = self.part("output")
+        output = CLOSED if said == "closed" else self.stream(said)
         status = self.part("status")
         if not status.isdigit():
             raise Unreadable(f"no number of a status: {status}")
@@ -188,6 +196,8 @@ class Table:
         how, _, rest = said.partition(" ")
         if said == "":
             return encoded(self.block())
+        if said == "lines":
+            return encoded(escaped(self.block()))
         if said == "nothing":
             return b""
         if how == "line":
@@ -209,12 +219,47 @@ class Table:
         yield from under_seeds(place, title, encoded(self.block()))
 
     def raced(self, name: str) -> Iterator[Case]:
-        """A world that is run on threads again and again: each journal is legal, and has each text in one line."""
+        """A world that is run on threads again and again: each journal is legal, and has each text in one line.
+
+        Behind `NUMBER times by WORKERS:` it is run so often with so many workers.
+        """
+        own = re.fullmatch(r"(\d+) times by ([1-4]): (.+)", name)
+        races, name = (RACES | {int(own[2]): int(own[1])}, own[3]) if own else (RACES, name)
         place, title, world = self.place(), self.new_title(name), encoded(self.block())
         once = tuple(encoded(row) for row in self.rows())
-        for turn in range(1, RACES + 1):
-            words = [b"run", b"--limit", b"100000000"]
-            yield Case(place, f"{title}: run {turn}", words, world, None, 0, once=once)
+        for workers, times in races.items():
+            words = [b"run", b"--limit", b"100000000", b"--workers", b"%d" % workers]
+            for turn in range(1, times + 1):
+                yield Case(place, f"{title}: workers {workers}, run {turn}", words, world, None, 0, once=once)
+
+    def told(self, name: str) -> Iterator[Case]:
+        """A world with what its callers are told, whoever comes first: each line of theirs is `LINE -> REPLY`.
+
+        Callers stand by rank, then thread. What is repeated may have many lines.
+        """
+        place, title = self.place(), self.new_title(name)
+        lines = escaped("\n".join(self.rows())).removesuffix("\n").split("\n")
+        source, output, caller, ending, statuses = "", "", "", "ended", {0}
+        for number, row in enumerate(lines, 1):
+            line, *replies = row.split(" -> ")
+            source += f"{line}\n"
+            begun = re.fullmatch(r"rank (\d+) thread (\d)", line)
+            if begun and caller:
+                output += f"{caller} {ending}\n"
+            if begun:
+                caller, ending = f"{begun[1]}.{begun[2]}", "ended"
+            elif bool(replies) != bool(caller and ending == "ended"):
+                raise Unreadable(f"a line with no reply, or with one behind the end: {row}")
+            if replies and replies[-1] in ENDINGS:
+                statuses.add(ENDINGS[replies[-1]])
+                ending = f"{replies.pop()} {number}"
+            output += "".join(f"{caller} {number} {reply}\n" for reply in replies)
+        output += f"{caller} {ending}\n" if caller else ""
+        status = next(it for it in (3, 8, 0) if it in statuses)
+        for words in TOLD:
+            yield Case(place, f"{title}: {words}", words_of(words), encoded(source), encoded(output), status)
+        words = "run --limit 100000000 --workers 4"
+        yield Case(place, f"{title}: what {words} writes is legal", words_of(words), encoded(source), None, 0)
 
     def scripts(self, world: str) -> Iterator[Case]:
         """Scripts of 0.0 behind a world, parted by empty lines."""
@@ -249,28 +294,47 @@ class Table:
         return self.row(rows[0], "step --brief", source, f"{told}0.0 {ending or 'ended'}\n", status)
 
     def journals(self, world: str) -> Iterator[Case]:
-        """Journals over a world, parted by empty lines; `not EVENT: WHY` is no step at its place."""
+        """Journals over a world, parted by empty lines.
+
+        `not EVENT: WHY` is no step at its place, and `why K: WRITES` is what the whole journal says of place K.
+        """
         front = self.text(world) + "journal 1\n"
         events, place = "", 0
+        asked: list[Case] = []
         for row in self.rows_and_gaps():
             if row.startswith("not "):
                 event, colon, why = row[4:].rpartition(": ")
                 if not colon:
                     raise Unreadable(f"no cause in {row}")
                 journal = f"{front}{events}{place} {event}\nend {place + 1}\n"
-                yield self.row(row, "check", journal, f"illegal {place} {why}\n", 4)
+                for words in JUDGES:
+                    yield self.row(f"{words}: {row}", words, journal, f"illegal {place} {why}\n", 4)
+            elif row.startswith("why "):
+                asked.append(self.explained(row))
             elif row:
                 events, place = f"{events}{place} {row}\n", place + 1
             else:
                 journal = f"{front}{events}end {place}\n"
                 yield self.row("the journal that ends here", "check", journal, f"legal {place}\n", 0)
-                events, place = "", 0
+                yield from (replace(case, source=encoded(journal)) for case in asked)
+                events, place, asked = "", 0, []
+
+    def explained(self, row: str) -> Case:
+        """A row `why K: WRITES`, whose journal does not stand yet."""
+        words, told = parted(row)
+        place = words.removeprefix("why ")
+        if told == "none":
+            return self.row(row, f"why --place {place}", "", f"no notification {place}\n", 4)
+        writes = told.split(", ") if told else []
+        lines = [f"why {place} writes {len(writes)}", *writes]
+        return self.row(row, f"why --place {place}", "", "".join(f"{line}\n" for line in lines), 0)
 
     def no_journals(self, world: str) -> Iterator[Case]:
         """Rows `LINE: TEXT` of texts behind a world that are no journal."""
         for row in self.rows():
             line, text = parted(row)
-            yield self.row(row, "check", self.text(world) + escaped(text), f"not a journal {line}\n", 4)
+            for words in JUDGES:
+                yield self.row(f"{words}: {row}", words, self.text(world) + escaped(text), f"not a journal {line}\n", 4)
 
     def faults(self, words: str) -> Iterator[Case]:
         """Rows `FAULT: TEXT` of world texts with a fault, for these words or for all commands."""
@@ -290,18 +354,41 @@ class Table:
                 yield self.row(f"{asked}: {row}", asked, text, f"fault {fault} line {number}\n", 2)
 
     def cuts(self, name: str) -> Iterator[Case]:
-        """Rows `FIRST..LAST STATUS: OUTPUT` of a text cut after so many of its bytes, from none to all."""
+        """Rows `FIRST..LAST STATUS: OUTPUT` of a world text cut after so many of its bytes, from none to all.
+
+        A fault is that of all commands. Where there is none, `run` gives what `step` gives, and no journal follows.
+        """
         text, next_cut = self.text(name), 0
         for row in self.rows():
             said, output = parted(row)
             found = re.fullmatch(r"(\d+)\.\.(\d+) (\d+)", said)
             if not found or int(found[1]) != next_cut:
                 raise Unreadable(f"wanted {next_cut}..LAST STATUS: OUTPUT")
+            status = int(found[3])
             for cut in range(next_cut, int(found[2]) + 1):
-                yield self.row(f"the first {cut} bytes", "step --brief", text[:cut], escaped(output), int(found[3]))
+                title, front = f"the first {cut} bytes", text[:cut]
+                for words in COMMANDS if status == 2 else ("step --brief", "run --brief --limit 100000000"):
+                    yield self.row(f"{words}: {title}", words, front, escaped(output), status)
+                for words in () if status == 2 else JUDGES:
+                    yield self.row(f"{words}: {title}", words, front, f"not a journal {len(front.splitlines()) + 1}\n", 4)
             next_cut = int(found[2]) + 1
         if next_cut != len(text) + 1:
             raise Unreadable(f"the rows end with {next_cut - 1} bytes, and the text with {len(text)}")
+
+    def journal_cuts(self, world: str) -> Iterator[Case]:
+        """A legal journal behind a world text, cut after each of its bytes, from none to all.
+
+        The line is named that is cut, or the one behind the last line feed. A front part of its first word is a line of
+        the world text.
+        """
+        front, journal = self.text(world), self.block()
+        for cut in range(len(journal)):
+            text = front + journal[:cut]
+            line = text.count("\n") + 1
+            output, status = (f"fault S3 line {line}\n", 2) if 0 < cut < len("journal") else (f"not a journal {line}\n", 4)
+            for words in JUDGES:
+                yield self.row(f"{words}: the first {cut} bytes", words, text, output, status)
+        yield self.row("check: the whole journal", "check", front + journal, f"legal {journal.count(chr(10)) - 2}\n", 0)
 
 
 def read_tables(paths: list[Path]) -> tuple[list[Case], list[str]]:

@@ -1,1 +1,4 @@
+pub mod Explanations
+pub mod LaneWrites
+pub mod Tracked
 pub mod Verdicts

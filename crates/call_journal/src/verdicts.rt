@@ -1,11 +1,15 @@
 //! Journals judged.
 
-ghost use Rattle.std.specs.Prelude.{IfOk};
+ghost use Rattle.std.specs.Prelude.{◌≡◌, IfOk};
+ghost use Rattle.notification_laws.specs.Contributions.{ContributesOnce};
+ghost use Rattle.notification_laws.specs.Notifications.{HandsOutOnce};
 ghost use Rattle.call_journal.specs.Verdicts.{IsVerdict};
+ghost use Rattle.call_journal.specs.declared.verdicts.Verdict.TheVariants.{Legal};
 
 use gaspi_model::{StepFault, Why};
 use gaspi_types::{NoMemory, Shape};
 use journal_texts::Journal;
+use notification_laws::{contribution_counts, notification_values};
 use plain_machine::Machine;
 use std::alloc::Global;
 
@@ -19,7 +23,7 @@ pub enum Verdict {
 }
 
 /// Replays a journal from the opening state of a world.
-pub fn check(alloc: Global, shape: &Shape, journal: &Journal) -> Result<Verdict, NoMemory>
+fn replay(alloc: Global, shape: &Shape, journal: &Journal) -> Result<Verdict, NoMemory>
     ensures { IfOk result (λ verdict. IsVerdict shape.now journal.now verdict) }
 {
     let mut machine = Machine::start(alloc, shape)?;
@@ -34,4 +38,17 @@ pub fn check(alloc: Global, shape: &Shape, journal: &Journal) -> Result<Verdict,
         }
     }
     Ok(Verdict::Legal)
+}
+
+/// Whether a journal is legal. In a legal one no notification value is handed out twice, and no rank has given to a group twice. (GASPI:
+/// notifications, collectives)
+pub fn check(alloc: Global, shape: &Shape, journal: &Journal) -> Result<Verdict, NoMemory>
+    ensures verdict { IfOk result (λ verdict. IsVerdict shape.now journal.now verdict) }
+    ensures handed { IfOk result (λ verdict. verdict ≡ Legal → HandsOutOnce shape.now journal.now) }
+    ensures contributed { IfOk result (λ verdict. verdict ≡ Legal → ContributesOnce shape.now journal.now) }
+{
+    contribution_counts();
+    notification_values();
+    shape.limits();
+    replay(alloc, shape, journal)
 }

@@ -94,14 +94,14 @@ app_full : (a : App) (words : List Text)
 app_full a words e = level_full (built a).top (names_of (built a)) nothing_held (argument_words a words) _ _ e
 
 no_name : (first : Text) → bytes_eq (codes "run") first ≡ false → bytes_eq (codes "step") first ≡ false → bytes_eq (codes "check") first ≡ false
-    → bytes_eq (codes "bench") first ≡ false → subcommand_met (names_of (built the_app)) idle first ≡ None
-no_name first run step check bench = rw (run, step, check, bench) refl
+    → bytes_eq (codes "why") first ≡ false → bytes_eq (codes "bench") first ≡ false → subcommand_met (names_of (built the_app)) idle first ≡ None
+no_name first run step check why bench = rw (run, step, check, why, bench) refl
 
 other_full : (first : Text) (rest : List Text) → bytes_eq (codes "run") first ≡ false → bytes_eq (codes "step") first ≡ false
-    → bytes_eq (codes "check") first ≡ false → bytes_eq (codes "bench") first ≡ false → bytes_eq first (45 ∷ 45 ∷ []) ≡ false
+    → bytes_eq (codes "check") first ≡ false → bytes_eq (codes "why") first ≡ false → bytes_eq (codes "bench") first ≡ false → bytes_eq first (45 ∷ 45 ∷ []) ≡ false
     → is_empty (fault_of the_app (first ∷ rest)) ≡ false
-other_full first rest run step check bench dashes =
-    app_full the_app (first ∷ rest) (walk_full (built the_app).top (names_of (built the_app)) first rest (no_name first run step check bench) dashes)
+other_full first rest run step check why bench dashes =
+    app_full the_app (first ∷ rest) (walk_full (built the_app).top (names_of (built the_app)) first rest (no_name first run step check why bench) dashes)
 
 -- after `--` each word is a value, and no argument takes one
 trailing_full : (rest : List Text) → is_empty (fault_of the_app ((45 ∷ 45 ∷ []) ∷ rest)) ≡ false
@@ -121,12 +121,12 @@ differs a b other = go (bytes_eq a b) refl
     go true e = absurd (other (sym ((bytes_eq-Decides a b).0 e)))
 
 pub other_first_word : (first : Text) (rest : List Text) → (first ≡ codes "run" → ⊥) → (first ≡ codes "step" → ⊥) → (first ≡ codes "check" → ⊥)
-    → (first ≡ codes "bench" → ⊥) → command_of (first ∷ rest) ≡ None
-other_first_word first rest run step check bench = refused_by (first ∷ rest) (go (bytes_eq first (45 ∷ 45 ∷ [])) refl)
+    → (first ≡ codes "why" → ⊥) → (first ≡ codes "bench" → ⊥) → command_of (first ∷ rest) ≡ None
+other_first_word first rest run step check why bench = refused_by (first ∷ rest) (go (bytes_eq first (45 ∷ 45 ∷ [])) refl)
   where
     go : (b : Bool) → bytes_eq first (45 ∷ 45 ∷ []) ≡ b → is_empty (fault_of the_app (first ∷ rest)) ≡ false
     go false e =
         other_full first rest (differs (codes "run") first run) (differs (codes "step") first step) (differs (codes "check") first check)
-        (differs (codes "bench") first bench) e
+        (differs (codes "why") first why) (differs (codes "bench") first bench) e
     go true e =
         subst (λ (w : Text). is_empty (fault_of the_app (w ∷ rest)) ≡ false) (sym ((bytes_eq-Decides first (45 ∷ 45 ∷ [])).0 e)) (trailing_full rest)

@@ -118,10 +118,10 @@ module _ (a b c : Text) (plain_a : IsPlainWord a) (plain_b : IsPlainWord b) (pla
   unfolding walked
   is_entered = refl
 
-  rows_read : (l m n : ℕ) → number_of (without_minus a) ≡ Some l → number_of (without_minus b) ≡ Some m → number_of (without_minus c) ≡ Some n
+  rows_read : (l m n : ℕ) → number_of 32 (without_minus a) ≡ Some l → number_of 32 (without_minus b) ≡ Some m → number_of 32 (without_minus c) ≡ Some n
       → words_in (Some (codes "bench", three)) ≡ Some (Bench l m n)
   rows_read l m n seed ranks rounds =
-      three_given (λ x y z. Bench x y z) (number_of (without_minus a)) (number_of (without_minus b)) (number_of (without_minus c)) l m n seed ranks rounds
+      three_given (λ x y z. Bench x y z) (number_of 32 (without_minus a)) (number_of 32 (without_minus b)) (number_of 32 (without_minus c)) l m n seed ranks rounds
 
   module _ (a_in : accepts false (Signed (pos 0) (pos 4294967295)) a ≡ true) (b_in : accepts false (Signed (pos 1) (pos 16)) b ≡ true)
       (c_in : accepts false (Signed (pos 1) (pos 5000)) c ≡ true) where
@@ -153,7 +153,7 @@ module _ (a b c : Text) (plain_a : IsPlainWord a) (plain_b : IsPlainWord b) (pla
     rows_are : rows_after bench_shape.rules [] given ≡ three
     rows_are = ap (λ (w : Walk). finished bench_shape.rules w.held) walk_ends ∙ finishes
 
-    given_words : (l m n : ℕ) → number_of (without_minus a) ≡ Some l → number_of (without_minus b) ≡ Some m → number_of (without_minus c) ≡ Some n
+    given_words : (l m n : ℕ) → number_of 32 (without_minus a) ≡ Some l → number_of 32 (without_minus b) ≡ Some m → number_of 32 (without_minus c) ≡ Some n
         → command_of (codes "bench" ∷ given) ≡ Some (Bench l m n)
     given_words l m n seed ranks rounds =
         sym (taken (codes "bench" ∷ given) (all_pass ∙ ap (λ (kinds : Kinds). or_else kinds []) level_is_free))

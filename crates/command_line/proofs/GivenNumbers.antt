@@ -1,4 +1,4 @@
--- `run --workers 1 --limit N --brief` and `step --seed N --limit N --brief` give just these numbers, word by word.
+-- `run --workers N --limit N --brief` and `step --seed N --limit N --brief` give just these numbers, word by word.
 use Rattle.std.proofs.Common.{◌≡◌, ◌∙◌, ◌<◌, ◌≤◌, ◌^◌, ◌==◌, ◌&&◌, ℕ, ℤ, Bool, cond, true, false, refl, sym, ap, ap₂, subst, arith, List, [], ◌∷◌, Some, None, codes, ne_eqb, le-leb, lt-ltb, drop}
 use Rattle.std.specs.Prelude.{pos, neg_ℤ, int_le, fold}
 use Rattle.std.specs.Fmt.{decimal}
@@ -98,7 +98,7 @@ least of_run = 1
 least of_step = 0
 
 abbrev most : Numbered → ℕ
-most of_run = 1
+most of_run = 4
 most of_step = 4294967295
 
 abbrev command_by : Numbered → ℕ → ℕ → Command
@@ -208,10 +208,10 @@ module _ (f l : Text) (fp : IsPlainWord f) (lp : IsPlainWord l) where
   is_entered of_run = refl
   is_entered of_step = refl
 
-  rows_read : (c : Numbered) (m n : ℕ) → number_of (without_minus f) ≡ Some m → number_of (without_minus l) ≡ Some n
+  rows_read : (c : Numbered) (m n : ℕ) → number_of 32 (without_minus f) ≡ Some m → number_of 32 (without_minus l) ≡ Some n
       → words_in (Some (name_of c, (end c).held.rows)) ≡ Some (command_by c m n)
-  rows_read of_run m n first limit = both_given (λ x y. Run x y true) (number_of (without_minus f)) (number_of (without_minus l)) m n first limit
-  rows_read of_step m n first limit = both_given (λ x y. Step x y true) (number_of (without_minus f)) (number_of (without_minus l)) m n first limit
+  rows_read of_run m n first limit = both_given (λ x y. Run x y true) (number_of 32 (without_minus f)) (number_of 32 (without_minus l)) m n first limit
+  rows_read of_step m n first limit = both_given (λ x y. Step x y true) (number_of 32 (without_minus f)) (number_of 32 (without_minus l)) m n first limit
 
   module _ (c : Numbered) (f_in : accepts false (Signed (pos (least c)) (pos (most c))) f ≡ true) (l_in : accepts false (Signed (pos 1) (pos 100000000)) l ≡ true) where
     abbrev s : Shape
@@ -243,7 +243,7 @@ module _ (f l : Text) (fp : IsPlainWord f) (lp : IsPlainWord l) where
     rows_are : rows_after s.rules [] (given c) ≡ (end c).held.rows
     rows_are = ap (λ (w : Walk). finished s.rules w.held) walk_ends ∙ finishes c
 
-    given_words : (m n : ℕ) → number_of (without_minus f) ≡ Some m → number_of (without_minus l) ≡ Some n
+    given_words : (m n : ℕ) → number_of 32 (without_minus f) ≡ Some m → number_of 32 (without_minus l) ≡ Some n
         → command_of (name_of c ∷ given c) ≡ Some (command_by c m n)
     given_words m n first limit =
         sym (taken (name_of c ∷ given c) (all_pass c ∙ ap (λ (kinds : Kinds). or_else kinds []) level_is_free))
@@ -263,7 +263,7 @@ no_minus (x ∷ xs) h =
     let minus : (x == 45) ≡ false = ne_eqb _ _ (λ e. omega (arith, digit_from_value x h.1.0)) in
     rw minus refl
 
-no_plus : (t : Text) → IsNumeral 10 t → without_leading_plus t ≡ t
+pub no_plus : (t : Text) → IsNumeral 10 t → without_leading_plus t ≡ t
 no_plus [] h = refl
 no_plus (x ∷ xs) h =
     let plus : (x == 43) ≡ false = ne_eqb _ _ (λ e. omega (arith, digit_from_value x h.1.0)) in
@@ -290,10 +290,10 @@ module _ (t : Text) (h : IsNumeral 10 t) (low high n : ℕ) (is : digits_value 1
   accepted = ap₂ (λ (a b : Bool). a && b) (ap is_numeral (without_sign t h) ∙ numeral_passes t h)
       (in_order (signed_digits_value 10 t) (sym (signed_value t h ∙ ap pos is)))
 
-pub read : (t : Text) → IsNumeral 10 t → (n : ℕ) → digits_value 10 t ≡ n → n ≤ 4294967295 → number_of (without_minus t) ≡ Some n
+pub read : (t : Text) → IsNumeral 10 t → (n : ℕ) → digits_value 10 t ≡ n → n ≤ 4294967295 → number_of 32 (without_minus t) ≡ Some n
 read t h n is most =
     let numeral : IsNumeral 10 (without_leading_plus t) = subst (IsNumeral 10) (sym (no_plus t h)) h in
-    ap number_of (no_minus t h) ∙ number_given t n numeral (ap (digits_value 10) (no_plus t h) ∙ is) most
+    ap (number_of 32) (no_minus t h) ∙ number_given 32 t n numeral (ap (digits_value 10) (no_plus t h) ∙ is) (omega arith)
 
 module _ (limit : ℕ) (limit_least : 1 ≤ limit) (limit_most : limit ≤ 100000000) where
   abbrev limit_numeral : IsNumeral 10 (decimal limit) × (digits_value 10 (decimal limit) ≡ limit)
@@ -302,13 +302,16 @@ module _ (limit : ℕ) (limit_least : 1 ≤ limit) (limit_most : limit ≤ 10000
   limit_accepted : accepts false (Signed (pos 1) (pos 100000000)) (decimal limit) ≡ true
   limit_accepted = accepted (decimal limit) limit_numeral.0 1 100000000 limit limit_numeral.1 limit_least limit_most (omega arith)
 
-  limit_read : number_of (without_minus (decimal limit)) ≡ Some limit
+  limit_read : number_of 32 (without_minus (decimal limit)) ≡ Some limit
   limit_read = read (decimal limit) limit_numeral.0 limit limit_numeral.1 (omega arith)
 
-  pub given_limit : command_of (codes "run" ∷ codes "--workers" ∷ codes "1" ∷ codes "--limit" ∷ decimal limit ∷ codes "--brief" ∷ []) ≡ Some (Run 1 limit true)
-  given_limit =
-      given_words (codes "1") (decimal limit) (record { dashes = refl; long = refl; short = refl }) (plain_numeral (decimal limit) limit_numeral.0)
-      of_run refl limit_accepted 1 limit refl limit_read
+  pub given_workers : (workers : ℕ) → 1 ≤ workers → workers ≤ 4
+      → command_of (codes "run" ∷ codes "--workers" ∷ decimal workers ∷ codes "--limit" ∷ decimal limit ∷ codes "--brief" ∷ []) ≡ Some (Run workers limit true)
+  given_workers workers workers_least workers_most =
+      let numeral = decimal_is_IsNumeral workers (omega arith) in
+      given_words (decimal workers) (decimal limit) (plain_numeral (decimal workers) numeral.0) (plain_numeral (decimal limit) limit_numeral.0)
+      of_run (accepted (decimal workers) numeral.0 1 4 workers numeral.1 workers_least workers_most (omega arith)) limit_accepted workers limit
+      (read (decimal workers) numeral.0 workers numeral.1 (omega arith)) limit_read
 
   pub given_numbers : (seed : ℕ) → seed ≤ 4294967295
       → command_of (codes "step" ∷ codes "--seed" ∷ decimal seed ∷ codes "--limit" ∷ decimal limit ∷ codes "--brief" ∷ []) ≡ Some (Step seed limit true)

@@ -4,4 +4,5 @@ pub mod NeededNumbers
 pub mod Ranges
 pub mod FirstWords
 pub mod GivenNumbers
+pub mod GivenWhy
 pub mod GivenBench

@@ -1,18 +1,24 @@
--- Each option of `bench`, all of which are needed, holds a number in its range where clap has taken the words.
-use Rattle.std.proofs.Common.{◌≡◌, ◌∙◌, ◌<◌, ◌^◌, ◌&&◌, ◌||◌, ℕ, Bool, true, false, refl, sym, ap, subst, arith, List, [], ◌∷◌, Some, true≢false, codes}
-use Rattle.std.specs.Prelude.{not, find, fold, if◌then◌else◌}
+-- Each option of `why` and `bench`, all of which are needed, holds a number in its range where clap has taken the words.
+use Rattle.std.proofs.Common.{◌≡◌, ◌∙◌, ◌<◌, ◌≤◌, ◌^◌, ◌&&◌, ◌||◌, ℕ, Bool, true, false, refl, sym, ap, subst, arith, List, [], ◌∷◌, length, Some, true≢false, codes, nat_lt}
+use Rattle.std.specs.Prelude.{not, find, fold, nat_le, if◌then◌else◌}
 use Rattle.std.specs.Str.{bytes_eq}
+use Rattle.std.specs.Str.Parse.{digits_value, without_leading_plus}
+use Rattle.std.proofs.lemmas.Bool.{leb-true}
 use Rattle.std.specs.List.{AllByRecursion, list_any}
 use Rattle.std.specs.Option.{option_map_or}
 use Rattle.std.proofs.lemmas.Slice.Eq.{bytes_eq-Decides}
 use Rattle.clap.specs.declared.error.kind.ErrorKind.TheVariants.{MissingRequiredArgument}
 use Rattle.clap.specs.Facts.{explicit_source}
-use Rattle.clap.specs.Kinds.{Kinds, or_else}
-use Rattle.clap.specs.Faults.{check_fault, defaults_fault, settle_fault, walk_fault}
+use Rattle.clap.specs.ValueTests.{accepts, is_numeral}
+use Rattle.clap.specs.Kinds.{Kinds, or_else, range_kinds}
+use Rattle.clap.specs.Faults.{check_fault, defaults_fault, set_fault, settle_fault, walk_fault}
 use Rattle.clap.specs.Takes.{is_given}
 use Rattle.clap.specs.Walk.{Held, Row, Rule, Text, default_rows, finished, has_row, nothing_held, reading_by, rows_after, settled, walk, walk_from, with_default}
-use Rattle.clap.specs.Simple.{Shape}
-use Rattle.command_line.proofs.TakenNumbers.{HasLongNamesAlone, IsOption, IsTaken, Keeps, all_keep, bench_shape, cons≢nil, either_false, found, none_second, number_built, other_number_keeps, own_keeps, settled_rows_keep}
+use Rattle.clap.specs.Simple.{Shape, filled, with_index}
+use Rattle.clap.specs.declared.builder.value_parser.ValueParser.TheVariants.{Unsigned}
+use Rattle.clap.proofs.WalkLemmas.{both}
+use Rattle.command_line.proofs.TakenNumbers.{HasLongNamesAlone, Holds, IsOption, IsTaken, Keeps, all_keep, bench_shape, cons≢nil, either_false, first_taken, found, none_second, number_built, other_number_keeps, own_keeps, set_keeps, settled_rows_keep, why_shape}
+use Rattle.command_line.specs.Words.{number_of, place_rule}
 
 -- ---- options without a default
 
@@ -93,9 +99,9 @@ module _ (P : Row → Type 0) (again : Bool) where
   all_needed [] all = tt
   all_needed (b ∷ rs) all = (all.0.needed, all_needed rs all.1)
 
-module _ (id : Text) (low high : ℕ) where
-  needed_taken : (s : Shape) → HasLongNamesAlone s → ChecksOptionsAlone s → AllByRecursion (IsNeeded (IsOption id low high) s.args_override_self) s.rules
-      → list_any (λ b. bytes_eq b.id id) s.rules ≡ true → IsTaken id low high s
+module _ (bits : ℕ) (id : Text) (low high : ℕ) where
+  needed_taken : (s : Shape) → HasLongNamesAlone s → ChecksOptionsAlone s → AllByRecursion (IsNeeded (Holds bits id low high) s.args_override_self) s.rules
+      → list_any (λ b. bytes_eq b.id id) s.rules ≡ true → IsTaken id low high bits s
   needed_taken s named alone all has words e =
       let end : Held = (walk s.rules [] nothing_held words).held in
       let rows : List Row = (settled s.rules end).rows in
@@ -105,14 +111,15 @@ module _ (id : Text) (low high : ℕ) where
       let walks : Kinds = walk_fault s [] (walk_from nothing_held) words in
       let checked : checks ≡ []
       = none_second defaults checks (none_second settles (or_else defaults checks) (none_second walks (or_else settles (or_else defaults checks)) e)) in
-      let same : finished s.rules end ≡ rows = no_defaults s.rules rows (all_bare (IsOption id low high) s.args_override_self s.rules all) in
-      let given = given_of id (finished s.rules end) s.rules (all_needed (IsOption id low high) s.args_override_self s.rules all)
+      let same : finished s.rules end ≡ rows = no_defaults s.rules rows (all_bare (Holds bits id low high) s.args_override_self s.rules all) in
+      let given = given_of id (finished s.rules end) s.rules (all_needed (Holds bits id low high) s.args_override_self s.rules all)
       (none_missing s (finished s.rules end) alone checked) has in
-      let keep = all_keep (IsOption id low high) s.args_override_self s.rules (uses_keep (IsOption id low high) s.args_override_self s.rules all) in
-      let good = settled_rows_keep s named (IsOption id low high) keep words e in
-      found id low high (rows_after s.rules [] words) (given_row id (finished s.rules end) given)
-      (subst (AllByRecursion (IsOption id low high)) (sym same) good)
+      let keep = all_keep (Holds bits id low high) s.args_override_self s.rules (uses_keep (Holds bits id low high) s.args_override_self s.rules all) in
+      let good = settled_rows_keep s named (Holds bits id low high) keep words e in
+      found bits id low high (rows_after s.rules [] words) (given_row id (finished s.rules end) given)
+      (subst (AllByRecursion (Holds bits id low high)) (sym same) good)
 
+module _ (id : Text) (low high : ℕ) where
   own_needed : high < 2 ^ 32 → IsNeeded (IsOption id low high) false (number_built id [] true low high)
   own_needed small = record { keeps = own_keeps id low high [] true small; bare = refl; needed = refl }
 
@@ -123,6 +130,39 @@ module _ (id : Text) (low high : ℕ) where
     needed = refl;
   }
 
+-- ---- the place of `why`
+
+why_names : HasLongNamesAlone why_shape
+why_names = record { shorts = λ x. refl; positionals = λ i. refl }
+
+why_checks : ChecksOptionsAlone why_shape
+why_checks = record { help = refl; subcommand = refl; negates = refl }
+
+abbrev place_built : Rule
+place_built = with_index 1 (filled place_rule)
+
+-- a number of 64 bits, which is read as it is written
+place_accepted : (t : Text) → accepts false (Unsigned 0 18446744073709551615) t ≡ true
+    → (n : ℕ) × (number_of 64 t ≡ Some n) × (0 ≤ n) × (n ≤ 18446744073709551615)
+place_accepted t e =
+    let digits : Text = without_leading_plus t in
+    let parts = both (is_numeral digits) _ e in
+    let bounds = both (nat_lt (digits_value 10 digits) (2 ^ 64)) _ parts.1 in
+    let within = both (nat_le 0 (digits_value 10 digits)) _ bounds.1 in
+    (digits_value 10 digits, rw (parts.0, bounds.0) refl, omega arith, leb-true _ _ within.1)
+
+place_keeps : Keeps (Holds 64 (codes "place") 0 18446744073709551615) false place_built
+place_keeps [] rows e all = absurd (cons≢nil e)
+place_keeps (v ∷ vs) rows e all =
+    set_keeps (Holds 64 (codes "place") 0 18446744073709551615) place_built (v ∷ vs) rows
+    (none_second (range_kinds 1 1 (length (v ∷ vs))) (set_fault false place_built (v ∷ vs) rows) e)
+    (λ f same. place_accepted v (first_taken (Unsigned 0 18446744073709551615) v vs f)) all
+
+pub place_of_why : IsTaken (codes "place") 0 18446744073709551615 64 why_shape
+place_of_why =
+    needed_taken 64 (codes "place") 0 18446744073709551615 why_shape why_names why_checks
+    (record { keeps = place_keeps; bare = refl; needed = refl }, tt) refl
+
 -- ---- the numbers of `bench`
 
 bench_names : HasLongNamesAlone bench_shape
@@ -131,23 +171,23 @@ bench_names = record { shorts = λ x. refl; positionals = λ i. refl }
 bench_checks : ChecksOptionsAlone bench_shape
 bench_checks = record { help = refl; subcommand = refl; negates = refl }
 
-pub seed_of_bench : IsTaken (codes "seed") 0 4294967295 bench_shape
+pub seed_of_bench : IsTaken (codes "seed") 0 4294967295 32 bench_shape
 seed_of_bench =
-    needed_taken (codes "seed") 0 4294967295 bench_shape bench_names bench_checks (
+    needed_taken 32 (codes "seed") 0 4294967295 bench_shape bench_names bench_checks (
       own_needed (codes "seed") 0 4294967295 (omega arith),
       (other_needed (codes "seed") 0 4294967295 (codes "ranks") 1 16 refl, (other_needed (codes "seed") 0 4294967295 (codes "rounds") 1 5000 refl, tt)),
     ) refl
 
-pub ranks_of_bench : IsTaken (codes "ranks") 1 16 bench_shape
+pub ranks_of_bench : IsTaken (codes "ranks") 1 16 32 bench_shape
 ranks_of_bench =
-    needed_taken (codes "ranks") 1 16 bench_shape bench_names bench_checks (
+    needed_taken 32 (codes "ranks") 1 16 bench_shape bench_names bench_checks (
       other_needed (codes "ranks") 1 16 (codes "seed") 0 4294967295 refl,
       (own_needed (codes "ranks") 1 16 (omega arith), (other_needed (codes "ranks") 1 16 (codes "rounds") 1 5000 refl, tt)),
     ) refl
 
-pub rounds_of_bench : IsTaken (codes "rounds") 1 5000 bench_shape
+pub rounds_of_bench : IsTaken (codes "rounds") 1 5000 32 bench_shape
 rounds_of_bench =
-    needed_taken (codes "rounds") 1 5000 bench_shape bench_names bench_checks (
+    needed_taken 32 (codes "rounds") 1 5000 bench_shape bench_names bench_checks (
       other_needed (codes "rounds") 1 5000 (codes "seed") 0 4294967295 refl,
       (other_needed (codes "rounds") 1 5000 (codes "ranks") 1 16 refl, (own_needed (codes "rounds") 1 5000 (omega arith), tt)),
     ) refl

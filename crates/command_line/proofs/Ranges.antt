@@ -12,11 +12,11 @@ use Rattle.clap.specs.declared.error.Error.{Error}
 use Rattle.clap.specs.declared.error.kind.ErrorKind.{ErrorKind}
 use Rattle.clap.specs.declared.error.kind.ErrorKind.TheVariants.{OutOfMemory}
 use Rattle.clap.proofs.OnLiterals.{clap_on_literals}
-use Rattle.command_line.proofs.NeededNumbers.{ranks_of_bench, rounds_of_bench, seed_of_bench}
-use Rattle.command_line.proofs.TakenNumbers.{bench_shape, check_shape, cons≢nil, limit_of_run, limit_of_step, none_first, none_second, run_shape, seed_of_step, step_shape, workers_of_run}
-use Rattle.command_line.specs.Words.{bench_of, command_of, flag_at, number_at, run_of, step_of, the_app, words_in}
+use Rattle.command_line.proofs.NeededNumbers.{place_of_why, ranks_of_bench, rounds_of_bench, seed_of_bench}
+use Rattle.command_line.proofs.TakenNumbers.{bench_shape, check_shape, cons≢nil, limit_of_run, limit_of_step, none_first, none_second, run_shape, seed_of_step, step_shape, why_shape, workers_of_run}
+use Rattle.command_line.specs.Words.{bench_of, command_of, flag_at, number_at, run_of, step_of, the_app, why_of, words_in}
 use Rattle.command_line.specs.declared.words.Command.{Command}
-use Rattle.command_line.specs.declared.words.Command.TheVariants.{Run, Step, Check, Bench}
+use Rattle.command_line.specs.declared.words.Command.TheVariants.{Run, Step, Check, Why, Bench}
 
 -- ---- the command
 
@@ -54,9 +54,10 @@ refused words k among = go (fault_of the_app words) among
 -- a command, with its numbers in their ranges
 abbrev pub IsRead : Option Command → Type 0
 IsRead None = ⊥
-IsRead (Some (Run workers limit brief)) = (1 ≤ workers) × (workers ≤ 1) × (1 ≤ limit) × (limit ≤ 100000000)
+IsRead (Some (Run workers limit brief)) = (1 ≤ workers) × (workers ≤ 4) × (1 ≤ limit) × (limit ≤ 100000000)
 IsRead (Some (Step seed limit brief)) = (1 ≤ limit) × (limit ≤ 100000000)
 IsRead (Some Check) = ⊤
+IsRead (Some (Why place)) = ⊤
 IsRead (Some (Bench seed ranks rounds)) = (1 ≤ ranks) × (ranks ≤ 16) × (1 ≤ rounds) × (rounds ≤ 5000)
 
 some_of : (o : Option Command) → IsRead o → is_some o ≡ true
@@ -80,7 +81,7 @@ run_read words e =
     let rows : List Row = rows_after run_shape.rules [] words in
     let workers = workers_of_run words e in
     let limit = limit_of_run words e in
-    let given = both_given (λ m n. Run m n (flag_at (codes "brief") rows)) (number_at (codes "workers") rows) (number_at (codes "limit") rows)
+    let given = both_given (λ m n. Run m n (flag_at (codes "brief") rows)) (number_at 32 (codes "workers") rows) (number_at 32 (codes "limit") rows)
     workers.0 limit.0 workers.1 limit.1 in
     subst IsRead (sym given)
     (workers.2, workers.3, limit.2, limit.3)
@@ -90,10 +91,15 @@ step_read words e =
     let rows : List Row = rows_after step_shape.rules [] words in
     let seed = seed_of_step words e in
     let limit = limit_of_step words e in
-    let given = both_given (λ m n. Step m n (flag_at (codes "brief") rows)) (number_at (codes "seed") rows) (number_at (codes "limit") rows)
+    let given = both_given (λ m n. Step m n (flag_at (codes "brief") rows)) (number_at 32 (codes "seed") rows) (number_at 32 (codes "limit") rows)
     seed.0 limit.0 seed.1 limit.1 in
     subst IsRead (sym given)
     (limit.2, limit.3)
+
+why_read : (words : List Text) → level_fault why_shape [] nothing_held words false [] ≡ [] → IsRead (why_of (rows_after why_shape.rules [] words))
+why_read words e =
+    let place = place_of_why words e in
+    subst IsRead (sym (ap (option_map (λ k. Why k)) place.1)) tt
 
 bench_read : (words : List Text) → level_fault bench_shape [] nothing_held words false [] ≡ [] → IsRead (bench_of (rows_after bench_shape.rules [] words))
 bench_read words e =
@@ -101,30 +107,31 @@ bench_read words e =
     let seed = seed_of_bench words e in
     let ranks = ranks_of_bench words e in
     let rounds = rounds_of_bench words e in
-    let given = three_given (λ l m n. Bench l m n) (number_at (codes "seed") rows) (number_at (codes "ranks") rows) (number_at (codes "rounds") rows)
+    let given = three_given (λ l m n. Bench l m n) (number_at 32 (codes "seed") rows) (number_at 32 (codes "ranks") rows) (number_at 32 (codes "rounds") rows)
     seed.0 ranks.0 rounds.0 seed.1 ranks.1 rounds.1 in
     subst IsRead (sym given)
     (ranks.2, ranks.3, rounds.2, rounds.3)
 
 -- the subcommand that a parse enters
-abbrev shape_by : Bool → Bool → Bool → Bool → Option Shape
-shape_by run step check bench = if run then Some run_shape else (if step then Some step_shape
-    else (if check then Some check_shape else (if bench then Some bench_shape else None)))
+abbrev shape_by : Bool → Bool → Bool → Bool → Bool → Option Shape
+shape_by run step check why bench = if run then Some run_shape else (if step then Some step_shape
+    else (if check then Some check_shape else (if why then Some why_shape else (if bench then Some bench_shape else None))))
 
 entered_read : (stop : Option (Text × List Text)) → entered_fault (built the_app) stop ≡ [] → is_some (entered (built the_app) stop) ≡ true
     → IsRead (words_in (entered (built the_app) stop))
 entered_read None passes some = absurd (true≢false (sym some))
 entered_read (Some p) passes some =
     go (answers_to p.0 (label_of run_shape)) (answers_to p.0 (label_of step_shape)) (answers_to p.0 (label_of check_shape))
-    (answers_to p.0 (label_of bench_shape)) passes some
+    (answers_to p.0 (label_of why_shape)) (answers_to p.0 (label_of bench_shape)) passes some
   where
-    go : (a b c d : Bool) → option_map_or (λ s. level_fault s [] nothing_held p.1 false []) (shape_by a b c d) [] ≡ []
-        → is_some (option_map (λ s. rows_at s p.1) (shape_by a b c d)) ≡ true → IsRead (words_in (option_map (λ s. rows_at s p.1) (shape_by a b c d)))
-    go true b c d f g = run_read p.1 f
-    go false true c d f g = step_read p.1 f
-    go false false true d f g = tt
-    go false false false true f g = bench_read p.1 f
-    go false false false false f g = absurd (true≢false (sym g))
+    go : (a b c d f : Bool) → option_map_or (λ s. level_fault s [] nothing_held p.1 false []) (shape_by a b c d f) [] ≡ []
+        → is_some (option_map (λ s. rows_at s p.1) (shape_by a b c d f)) ≡ true → IsRead (words_in (option_map (λ s. rows_at s p.1) (shape_by a b c d f)))
+    go true b c d f passed g = run_read p.1 passed
+    go false true c d f passed g = step_read p.1 passed
+    go false false true d f passed g = tt
+    go false false false true f passed g = why_read p.1 passed
+    go false false false false true passed g = bench_read p.1 passed
+    go false false false false false passed g = absurd (true≢false (sym g))
 
 app_range : (a : App) (words : List Text) → fault_of a words ≡ []
     → entered_fault (built a) (walk (built a).top.rules (names_of (built a)) nothing_held (argument_words a words)).stopped ≡ []

@@ -1,13 +1,12 @@
 -- What the getters of clap's matches give, in the terms of the definitions.
-use Rattle.std.proofs.Common.{◌≡◌, ◌∙◌, ◌<◌, ◌≤◌, ◌^◌, ◌&&◌, ℕ, Bool, true, false, refl, sym, ap, ap₂, arith, [], ◌∷◌, length, Option, Some, None, Result, Ok, Err, true≢false, nat_lt, lt-ltb, ltb-true, codes}
-use Rattle.std.specs.Prelude.{⊤, nat_le, option_map, option_and_then, if◌then◌else◌}
+use Rattle.std.proofs.Common.{◌≡◌, ◌∙◌, ◌<◌, ◌^◌, ◌&&◌, ℕ, Bool, true, false, refl, sym, ap, ap₂, subst, [], ◌∷◌, length, Option, Some, None, Result, Ok, Err, true≢false, nat_lt, lt-ltb, ltb-true, codes}
+use Rattle.std.specs.Prelude.{⊤, option_map, option_and_then, if◌then◌else◌}
 use Rattle.std.specs.Option.{option_map_or}
 use Rattle.std.specs.List.{list_all}
 use Rattle.std.specs.Char.{digit_value}
 use Rattle.std.specs.Borrow.{Bor}
 use Rattle.std.specs.Str.{bytes_eq}
 use Rattle.std.specs.Str.Parse.{AllDigits, IsNumeral, ParsesUnsigned, digits_value, without_leading_plus}
-use Rattle.std.proofs.lemmas.Bool.{leb-true, le-leb}
 use Rattle.clap.specs.Matches.{ReadsOne, first_value, one_text}
 use Rattle.clap.specs.ValueTests.{is_numeral}
 use Rattle.clap.specs.Walk.{Text, rows_of}
@@ -37,59 +36,54 @@ numeral_of ds e =
 
 -- ---- the number of an option
 
-pub number_given : (t : Text) (n : ℕ) → IsNumeral 10 (without_leading_plus t) → digits_value 10 (without_leading_plus t) ≡ n → n ≤ 4294967295
-    → number_of t ≡ Some n
-number_given t n numeral is most =
-    let small : digits_value 10 (without_leading_plus t) ≤ 4294967295 = omega arith in
-    rw (numeral_passes (without_leading_plus t) numeral, le-leb _ _ small) (ap (λ (m : ℕ). Some m) is)
+module _ (bits : ℕ) where
+  pub number_given : (t : Text) (n : ℕ) → IsNumeral 10 (without_leading_plus t) → digits_value 10 (without_leading_plus t) ≡ n → n < 2 ^ bits
+      → number_of bits t ≡ Some n
+  number_given t n numeral is small =
+      let below : digits_value 10 (without_leading_plus t) < 2 ^ bits = subst (λ (m : ℕ). m < 2 ^ bits) (sym is) small in
+      rw (numeral_passes (without_leading_plus t) numeral, lt-ltb _ _ below) (ap (λ (m : ℕ). Some m) is)
 
-no_number : (t : Text) → (IsNumeral 10 (without_leading_plus t) × (digits_value 10 (without_leading_plus t) < 2 ^ 32) → ⊥) → number_of t ≡ None
-no_number t bad = go (is_numeral ds && nat_le (digits_value 10 ds) 4294967295) refl
-  where
-    ds : Text
-    ds = without_leading_plus t
-
-    go : (b : Bool) → (is_numeral ds && nat_le (digits_value 10 ds) 4294967295) ≡ b → number_of t ≡ None
-    go false e = rw e refl
-    go true e =
-        let parts = both (is_numeral ds) _ e in
-        let below : digits_value 10 ds ≤ 4294967295 = leb-true _ _ parts.1 in
-        absurd (bad (numeral_of ds parts.0, omega arith))
-
--- the definition reads a text as `parse` does
-pub reads_own : (t : Text) → ReadsOne {E = ⊤} (λ u r. ParsesUnsigned 32 10 u r) t (number_of t)
-reads_own t = go (is_numeral ds && nat_le (digits_value 10 ds) 4294967295) refl
-  where
-    ds : Text
-    ds = without_leading_plus t
-
-    go : (b : Bool) → (is_numeral ds && nat_le (digits_value 10 ds) 4294967295) ≡ b
-        → ReadsOne {E = ⊤} (λ u r. ParsesUnsigned 32 10 u r) t (if b then Some (digits_value 10 ds) else None)
-    go true e =
-        let parts = both (is_numeral ds) _ e in
-        let below : digits_value 10 ds ≤ 4294967295 = leb-true _ _ parts.1 in
-        ((numeral_of ds parts.0, omega arith), refl)
-    go false e = (tt, λ h. absurd (true≢false (sym (ap₂ (λ (a c : Bool). a && c) (numeral_passes ds h.0) (le-leb _ _ (below h.1))) ∙ e)))
-      where
-        below : digits_value 10 ds < 2 ^ 32 → digits_value 10 ds ≤ 4294967295
-        below h = omega arith
-
-module _ {E : Type 0} (G : Text → Result ℕ E → Type 0) (parses : (t : Text) (x : Result ℕ E) → G t x → ParsesUnsigned 32 10 t x) where
-  one_is : (t : Text) (r : Option ℕ) → ReadsOne G t r → r ≡ number_of t
-  one_is t (Some n) h =
-      let parsed = parses t (Ok n) h in
-      let small : n ≤ 4294967295 = omega (arith, parsed.0.1, parsed.1) in
-      sym (number_given t n parsed.0.0 (sym parsed.1) small)
-  one_is t None h = sym (no_number t (parses t (Err h.0) h.1))
-
-  -- the number that `get_one` gives
-  pub number_is : (f : Found) (id : Text) (r : Option ℕ) → (one_text f id ≡ None → r ≡ None)
-      → ((t : Text) → one_text f id ≡ Some t → ReadsOne G t r) → r ≡ number_at id (rows_of f)
-  number_is f id r none value = go (one_text f id) refl ∙ ap (option_and_then number_of) (one_text-rows f id)
+  no_number : (t : Text) → (IsNumeral 10 (without_leading_plus t) × (digits_value 10 (without_leading_plus t) < 2 ^ bits) → ⊥) → number_of bits t ≡ None
+  no_number t bad = go (is_numeral ds && nat_lt (digits_value 10 ds) (2 ^ bits)) refl
     where
-      go : (o : Option Text) → one_text f id ≡ o → r ≡ option_and_then number_of (one_text f id)
-      go None e = none e ∙ sym (ap (option_and_then number_of) e)
-      go (Some t) e = one_is t r (value t e) ∙ sym (ap (option_and_then number_of) e)
+      ds : Text
+      ds = without_leading_plus t
+
+      go : (b : Bool) → (is_numeral ds && nat_lt (digits_value 10 ds) (2 ^ bits)) ≡ b → number_of bits t ≡ None
+      go false e = rw e refl
+      go true e =
+          let parts = both (is_numeral ds) _ e in
+          absurd (bad (numeral_of ds parts.0, ltb-true _ _ parts.1))
+
+  -- the definition reads a text as `parse` does
+  pub reads_own : (t : Text) → ReadsOne {E = ⊤} (λ u r. ParsesUnsigned bits 10 u r) t (number_of bits t)
+  reads_own t = go (is_numeral ds && nat_lt (digits_value 10 ds) (2 ^ bits)) refl
+    where
+      ds : Text
+      ds = without_leading_plus t
+
+      go : (b : Bool) → (is_numeral ds && nat_lt (digits_value 10 ds) (2 ^ bits)) ≡ b
+          → ReadsOne {E = ⊤} (λ u r. ParsesUnsigned bits 10 u r) t (if b then Some (digits_value 10 ds) else None)
+      go true e =
+          let parts = both (is_numeral ds) _ e in
+          ((numeral_of ds parts.0, ltb-true _ _ parts.1), refl)
+      go false e = (tt, λ h. absurd (true≢false (sym (ap₂ (λ (a c : Bool). a && c) (numeral_passes ds h.0) (lt-ltb _ _ h.1)) ∙ e)))
+
+  module _ {E : Type 0} (G : Text → Result ℕ E → Type 0) (parses : (t : Text) (x : Result ℕ E) → G t x → ParsesUnsigned bits 10 t x) where
+    one_is : (t : Text) (r : Option ℕ) → ReadsOne G t r → r ≡ number_of bits t
+    one_is t (Some n) h =
+        let parsed = parses t (Ok n) h in
+        sym (number_given t n parsed.0.0 (sym parsed.1) (subst (λ (m : ℕ). m < 2 ^ bits) (sym parsed.1) parsed.0.1))
+    one_is t None h = sym (no_number t (parses t (Err h.0) h.1))
+
+    -- the number that `get_one` gives
+    pub number_is : (f : Found) (id : Text) (r : Option ℕ) → (one_text f id ≡ None → r ≡ None)
+        → ((t : Text) → one_text f id ≡ Some t → ReadsOne G t r) → r ≡ number_at bits id (rows_of f)
+    number_is f id r none value = go (one_text f id) refl ∙ ap (option_and_then (number_of bits)) (one_text-rows f id)
+      where
+        go : (o : Option Text) → one_text f id ≡ o → r ≡ option_and_then (number_of bits) (one_text f id)
+        go None e = none e ∙ sym (ap (option_and_then (number_of bits)) e)
+        go (Some t) e = one_is t r (value t e) ∙ sym (ap (option_and_then (number_of bits)) e)
 
 -- ---- a flag
 

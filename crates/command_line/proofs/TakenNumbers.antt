@@ -44,8 +44,11 @@ step_shape = first_shape (later_shapes (built the_app).subs)
 abbrev pub check_shape : Shape
 check_shape = first_shape (later_shapes (later_shapes (built the_app).subs))
 
+abbrev pub why_shape : Shape
+why_shape = first_shape (later_shapes (later_shapes (later_shapes (built the_app).subs)))
+
 abbrev pub bench_shape : Shape
-bench_shape = first_shape (later_shapes (later_shapes (later_shapes (built the_app).subs)))
+bench_shape = first_shape (later_shapes (later_shapes (later_shapes (later_shapes (built the_app).subs))))
 
 -- ---- lists of kinds
 
@@ -110,7 +113,7 @@ module _ (P : Row → Type 0) where
   AllGood rows = AllByRecursion P rows
 
   -- a value set where no row has the id
-  set_keeps : (b : Rule) (values : List Text) (rows : List Row) → set_fault false b values rows ≡ []
+  pub set_keeps : (b : Rule) (values : List Text) (rows : List Row) → set_fault false b values rows ≡ []
       → (values_fault b values ≡ [] → P (new_row b CommandLine values)) → AllGood rows
       → AllGood (with_values b.id (reading_by b) CommandLine values (without b.id rows))
   set_keeps b values rows e one all =
@@ -327,30 +330,30 @@ defaulted P rows b v vs is one all =
 -- ---- an option with a number
 
 -- a row of the option holds a number in the range
-abbrev pub Holds : Text → ℕ → ℕ → Row → Type 0
-Holds id low high r = bytes_eq r.id id ≡ true → (n : ℕ) × (option_and_then number_of (row_text r) ≡ Some n) × (low ≤ n) × (n ≤ high)
+abbrev pub Holds : ℕ → Text → ℕ → ℕ → Row → Type 0
+Holds bits id low high r = bytes_eq r.id id ≡ true → (n : ℕ) × (option_and_then (number_of bits) (row_text r) ≡ Some n) × (low ≤ n) × (n ≤ high)
 
 accepted : (low high : ℕ) (t : Text) → high < 2 ^ 32 → accepts false (Signed (pos low) (pos high)) t ≡ true
-    → (n : ℕ) × (number_of (without_minus t) ≡ Some n) × (low ≤ n) × (n ≤ high)
+    → (n : ℕ) × (number_of 32 (without_minus t) ≡ Some n) × (low ≤ n) × (n ≤ high)
 accepted low high t small e =
-    signed_reads ⊤ (λ u r. ParsesUnsigned 32 10 u r) 32 low high t (number_of (without_minus t)) (reads_own (without_minus t)) (λ u x g. g) small
+    signed_reads ⊤ (λ u r. ParsesUnsigned 32 10 u r) 32 low high t (number_of 32 (without_minus t)) (reads_own 32 (without_minus t)) (λ u x g. g) small
     (accepts-Accepts false (Signed (pos low) (pos high)) t e)
 
-first_taken : (p : ValueParser) (v : Text) (vs : List Text) → values_kinds false p (v ∷ vs) ≡ [] → accepts false p v ≡ true
+pub first_taken : (p : ValueParser) (v : Text) (vs : List Text) → values_kinds false p (v ∷ vs) ≡ [] → accepts false p v ≡ true
 first_taken p v vs e = go (accepts false p v) refl (none_first (value_kinds false p v) (values_kinds false p vs) e)
   where
     go : (b : Bool) → accepts false p v ≡ b → (if b then [] else refused_kind p ∷ []) ≡ [] → accepts false p v ≡ true
     go true is f = is
     go false is f = absurd (cons≢nil f)
 
-pub found : (id : Text) (low high : ℕ) (rows : List Row) → has_row id rows ≡ true → AllByRecursion (Holds id low high) rows
-    → (n : ℕ) × (number_at id rows ≡ Some n) × (low ≤ n) × (n ≤ high)
-found id low high [] e all = absurd (true≢false (sym e))
-found id low high (r ∷ rs) e all = go (bytes_eq r.id id) refl e (λ f. found id low high rs f all.1)
+pub found : (bits : ℕ) (id : Text) (low high : ℕ) (rows : List Row) → has_row id rows ≡ true → AllByRecursion (Holds bits id low high) rows
+    → (n : ℕ) × (number_at bits id rows ≡ Some n) × (low ≤ n) × (n ≤ high)
+found bits id low high [] e all = absurd (true≢false (sym e))
+found bits id low high (r ∷ rs) e all = go (bytes_eq r.id id) refl e (λ f. found bits id low high rs f all.1)
   where
     go : (b : Bool) → bytes_eq r.id id ≡ b → (b || has_row id rs) ≡ true
-        → (has_row id rs ≡ true → (n : ℕ) × (number_at id rs ≡ Some n) × (low ≤ n) × (n ≤ high))
-        → (n : ℕ) × (option_and_then number_of (option_and_then row_text (if b then Some r else find (λ x. bytes_eq x.id id) rs)) ≡ Some n) × (low ≤ n) × (n ≤ high)
+        → (has_row id rs ≡ true → (n : ℕ) × (number_at bits id rs ≡ Some n) × (low ≤ n) × (n ≤ high))
+        → (n : ℕ) × (option_and_then (number_of bits) (option_and_then row_text (if b then Some r else find (λ x. bytes_eq x.id id) rs)) ≡ Some n) × (low ≤ n) × (n ≤ high)
     go true is f more = all.0 is
     go false is f more = more f
 
@@ -420,7 +423,7 @@ brief_built = with_index 1 (filled brief_rule)
 
 module _ (id : Text) (low high : ℕ) where
   abbrev pub IsOption : Row → Type 0
-  IsOption = Holds id low high
+  IsOption = Holds 32 id low high
 
   -- the option itself
   pub own_keeps : (defaults : List Text) (required : Bool) → high < 2 ^ 32 → Keeps IsOption false (number_built id defaults required low high)
@@ -430,7 +433,7 @@ module _ (id : Text) (low high : ℕ) where
       (none_second (range_kinds 1 1 (length (v ∷ vs))) (set_fault false (number_built id defaults required low high) (v ∷ vs) rows) e)
       (λ f same. accepted low high v small (first_taken (Signed (pos low) (pos high)) v vs f)) all
 
-  own_suits : (default : Text) (n : ℕ) → high < 2 ^ 32 → number_of (without_minus default) ≡ Some n → low ≤ n → n ≤ high
+  own_suits : (default : Text) (n : ℕ) → high < 2 ^ 32 → number_of 32 (without_minus default) ≡ Some n → low ≤ n → n ≤ high
       → Suits IsOption false (number_built id (default ∷ []) false low high)
   own_suits default n small is above below = record {
     keeps = own_keeps (default ∷ []) false small;
@@ -474,22 +477,22 @@ module _ (id : Text) (low high : ℕ) where
   }
 
   -- the number of the option after the words of a subcommand that clap takes
-  abbrev pub IsTaken : Shape → Type 0
-  IsTaken s = (words : List Text) → level_fault s [] nothing_held words false [] ≡ []
-      → (n : ℕ) × (number_at id (rows_after s.rules [] words) ≡ Some n) × (low ≤ n) × (n ≤ high)
+  abbrev pub IsTaken : ℕ → Shape → Type 0
+  IsTaken bits s = (words : List Text) → level_fault s [] nothing_held words false [] ≡ []
+      → (n : ℕ) × (number_at bits id (rows_after s.rules [] words) ≡ Some n) × (low ≤ n) × (n ≤ high)
 
   option_taken : (s : Shape) → HasLongNamesAlone s → AllByRecursion (Suits IsOption s.args_override_self) s.rules
-      → list_any (λ b. bytes_eq b.id id) s.rules ≡ true → IsTaken s
+      → list_any (λ b. bytes_eq b.id id) s.rules ≡ true → IsTaken 32 s
   option_taken s named suits has words e =
       let rows : List Row = (settled s.rules (walk s.rules [] nothing_held words).held).rows in
       let all = settled_rows_keep s named IsOption (all_keep IsOption s.args_override_self s.rules (uses_keep IsOption s.args_override_self s.rules suits)) words e in
       let one : (has_row id rows || list_any (λ b. bytes_eq b.id id) s.rules) ≡ true = or_true (has_row id rows) _ has in
       let last = all_defaulted IsOption s.args_override_self id s.rules rows suits all one in
-      found id low high (rows_after s.rules [] words) last.1 last.0
+      found 32 id low high (rows_after s.rules [] words) last.1 last.0
 
 -- ---- the numbers of `run` and of `step`
 
-limit_suits : Suits (Holds (codes "limit") 1 100000000) false (number_built (codes "limit") (codes "1000000" ∷ []) false 1 100000000)
+limit_suits : Suits (Holds 32 (codes "limit") 1 100000000) false (number_built (codes "limit") (codes "1000000" ∷ []) false 1 100000000)
 limit_suits = own_suits (codes "limit") 1 100000000 (codes "1000000") 1000000 (omega arith) refl (omega arith) (omega arith)
 
 run_names : HasLongNamesAlone run_shape
@@ -498,28 +501,28 @@ run_names = record { shorts = λ x. refl; positionals = λ i. refl }
 step_names : HasLongNamesAlone step_shape
 step_names = record { shorts = λ x. refl; positionals = λ i. refl }
 
-pub workers_of_run : IsTaken (codes "workers") 1 1 run_shape
+pub workers_of_run : IsTaken (codes "workers") 1 4 32 run_shape
 workers_of_run =
-    option_taken (codes "workers") 1 1 run_shape run_names (
-      own_suits (codes "workers") 1 1 (codes "1") 1 (omega arith) refl (omega arith) (omega arith),
-      (other_suits (codes "workers") 1 1 (codes "limit") (codes "1000000") 1 100000000 refl, (brief_suits (codes "workers") 1 1 refl, tt)),
+    option_taken (codes "workers") 1 4 run_shape run_names (
+      own_suits (codes "workers") 1 4 (codes "1") 1 (omega arith) refl (omega arith) (omega arith),
+      (other_suits (codes "workers") 1 4 (codes "limit") (codes "1000000") 1 100000000 refl, (brief_suits (codes "workers") 1 4 refl, tt)),
     ) refl
 
-pub limit_of_run : IsTaken (codes "limit") 1 100000000 run_shape
+pub limit_of_run : IsTaken (codes "limit") 1 100000000 32 run_shape
 limit_of_run =
     option_taken (codes "limit") 1 100000000 run_shape run_names (
-      other_suits (codes "limit") 1 100000000 (codes "workers") (codes "1") 1 1 refl,
+      other_suits (codes "limit") 1 100000000 (codes "workers") (codes "1") 1 4 refl,
       (limit_suits, (brief_suits (codes "limit") 1 100000000 refl, tt)),
     ) refl
 
-pub seed_of_step : IsTaken (codes "seed") 0 4294967295 step_shape
+pub seed_of_step : IsTaken (codes "seed") 0 4294967295 32 step_shape
 seed_of_step =
     option_taken (codes "seed") 0 4294967295 step_shape step_names (
       own_suits (codes "seed") 0 4294967295 (codes "0") 0 (omega arith) refl (omega arith) (omega arith),
       (other_suits (codes "seed") 0 4294967295 (codes "limit") (codes "1000000") 1 100000000 refl, (brief_suits (codes "seed") 0 4294967295 refl, tt)),
     ) refl
 
-pub limit_of_step : IsTaken (codes "limit") 1 100000000 step_shape
+pub limit_of_step : IsTaken (codes "limit") 1 100000000 32 step_shape
 limit_of_step =
     option_taken (codes "limit") 1 100000000 step_shape step_names (
       other_suits (codes "limit") 1 100000000 (codes "seed") (codes "0") 0 4294967295 refl,

@@ -1,5 +1,5 @@
 -- What the words of the command line ask for, by clap's own reading of the command as data. (own choice)
-use Rattle.std.specs.Prelude.{ℕ, pos, Bool, true, false, List, [], ◌∷◌, Option, Some, None, if◌then◌else◌, ◌&&◌, nat_le, option_map, option_and_then, codes}
+use Rattle.std.specs.Prelude.{◌^◌, ℕ, pos, Bool, true, false, List, [], ◌∷◌, Option, Some, None, if◌then◌else◌, ◌&&◌, nat_lt, option_map, option_and_then, codes}
 use Rattle.std.specs.Option.{option_map_or}
 use Rattle.std.specs.Str.{bytes_eq}
 use Rattle.std.specs.Str.Parse.{digits_value, without_leading_plus}
@@ -8,18 +8,18 @@ use Rattle.clap.specs.Walk.{is_empty}
 use Rattle.clap.specs.Simple.{on_top}
 use Rattle.clap.specs.Words.{App, Row, Rule, Shape, Text, fault_of, first_of, new_app, new_rule, one_of, subcommand_of, with_rule, with_subcommand}
 use Rattle.clap.specs.declared.builder.action.ArgAction.TheVariants.{Set, SetTrue}
-use Rattle.clap.specs.declared.builder.value_parser.ValueParser.TheVariants.{Signed}
+use Rattle.clap.specs.declared.builder.value_parser.ValueParser.TheVariants.{Signed, Unsigned}
 use Rattle.command_line.specs.declared.words.Command.{Command}
-use Rattle.command_line.specs.declared.words.Command.TheVariants.{Run, Step, Check, Bench}
+use Rattle.command_line.specs.declared.words.Command.TheVariants.{Run, Step, Check, Why, Bench}
 
 -- ---- the command as data
 
--- `--workers N`: the number 1 alone, which it also is where it is not given
+-- `--workers N`: a number from 1 to 4, and 1 where it is not given
 abbrev pub workers_rule : Rule
 workers_rule = record (new_rule (codes "workers")) {
   long = Some (codes "workers");
   action = Some Set;
-  parser = Some (Signed (pos 1) (pos 1));
+  parser = Some (Signed (pos 1) (pos 4));
   defaults = codes "1" ∷ [];
 }
 
@@ -46,6 +46,15 @@ abbrev pub brief_rule : Rule
 brief_rule = record (new_rule (codes "brief")) {
   long = Some (codes "brief");
   action = Some SetTrue;
+}
+
+-- `--place K`: a number from 0 to 18446744073709551615, which is needed
+abbrev pub place_rule : Rule
+place_rule = record (new_rule (codes "place")) {
+  long = Some (codes "place");
+  action = Some Set;
+  parser = Some (Unsigned 0 18446744073709551615);
+  required = true;
 }
 
 -- `--seed N` where it is needed: a number from 0 to 4294967295
@@ -87,6 +96,10 @@ step_app = with_rule (with_rule (with_rule (new_app (codes "step")) seed_rule) l
 abbrev pub check_app : App
 check_app = new_app (codes "check")
 
+-- `why --place K`
+abbrev pub why_app : App
+why_app = with_rule (new_app (codes "why")) place_rule
+
 -- `bench --seed N --ranks R --rounds M`
 abbrev pub bench_app : App
 bench_app = with_rule (with_rule (with_rule (new_app (codes "bench")) needed_seed_rule) ranks_rule) rounds_rule
@@ -109,20 +122,24 @@ program_app = on_top with_settings (new_app (codes "gaspirun"))
 abbrev pub running_app : App
 running_app = with_subcommand (with_subcommand program_app run_app.top) step_app.top
 
+-- and with those that read a journal
+abbrev pub judging_app : App
+judging_app = with_subcommand (with_subcommand running_app check_app.top) why_app.top
+
 abbrev pub the_app : App
-the_app = with_subcommand (with_subcommand running_app check_app.top) bench_app.top
+the_app = with_subcommand judging_app bench_app.top
 
 -- ---- what is read of the matches
 
--- the number of 32 bits that a text spells
-abbrev pub number_of : Text → Option ℕ
-number_of text =
+-- the number of so many bits that a text spells
+abbrev pub number_of : ℕ → Text → Option ℕ
+number_of bits text =
     let digits = without_leading_plus text in
-    if is_numeral digits && nat_le (digits_value 10 digits) 4294967295 then Some (digits_value 10 digits) else None
+    if is_numeral digits && nat_lt (digits_value 10 digits) (2 ^ bits) then Some (digits_value 10 digits) else None
 
--- the number that an option has
-abbrev pub number_at : Text → List Row → Option ℕ
-number_at id rows = option_and_then number_of (one_of id rows)
+-- the number of so many bits that an option has
+abbrev pub number_at : ℕ → Text → List Row → Option ℕ
+number_at bits id rows = option_and_then (number_of bits) (one_of id rows)
 
 -- a flag was given
 abbrev pub flag_at : Text → List Row → Bool
@@ -130,15 +147,18 @@ flag_at id rows = option_map_or (λ text. bytes_eq text (codes "true")) (first_o
 
 abbrev pub run_of : List Row → Option Command
 run_of rows = option_and_then (λ workers. option_map (λ limit. Run workers limit (flag_at (codes "brief") rows))
-    (number_at (codes "limit") rows)) (number_at (codes "workers") rows)
+    (number_at 32 (codes "limit") rows)) (number_at 32 (codes "workers") rows)
 
 abbrev pub step_of : List Row → Option Command
 step_of rows = option_and_then (λ seed. option_map (λ limit. Step seed limit (flag_at (codes "brief") rows))
-    (number_at (codes "limit") rows)) (number_at (codes "seed") rows)
+    (number_at 32 (codes "limit") rows)) (number_at 32 (codes "seed") rows)
+
+abbrev pub why_of : List Row → Option Command
+why_of rows = option_map (λ place. Why place) (number_at 64 (codes "place") rows)
 
 abbrev pub bench_of : List Row → Option Command
 bench_of rows = option_and_then (λ seed. option_and_then (λ ranks. option_map (λ rounds. Bench seed ranks rounds)
-    (number_at (codes "rounds") rows)) (number_at (codes "ranks") rows)) (number_at (codes "seed") rows)
+    (number_at 32 (codes "rounds") rows)) (number_at 32 (codes "ranks") rows)) (number_at 32 (codes "seed") rows)
 
 -- what the subcommand of a parse and its matches ask for
 abbrev pub words_in : Option (Text × List Row) → Option Command
@@ -146,7 +166,8 @@ words_in None = None
 words_in (Some entered) = if bytes_eq entered.0 (codes "run") then run_of entered.1
     else (if bytes_eq entered.0 (codes "step") then step_of entered.1
     else (if bytes_eq entered.0 (codes "check") then Some Check
-    else (if bytes_eq entered.0 (codes "bench") then bench_of entered.1 else None)))
+    else (if bytes_eq entered.0 (codes "why") then why_of entered.1
+    else (if bytes_eq entered.0 (codes "bench") then bench_of entered.1 else None))))
 
 -- ---- the words
 

@@ -7,8 +7,10 @@ ghost use Rattle.command_line.specs.Words.{
   bench_app,
   brief_rule,
   check_app,
+  judging_app,
   limit_rule,
   needed_seed_rule,
+  place_rule,
   program_app,
   ranks_rule,
   rounds_rule,
@@ -17,13 +19,14 @@ ghost use Rattle.command_line.specs.Words.{
   seed_rule,
   step_app,
   the_app,
+  why_app,
   workers_rule,
 };
 
 use clap::{Arg, ArgAction, Command, value_parser};
 use std::alloc::{AllocError, Global};
 
-/// `--workers N`: how many workers make the transfers, today one alone.
+/// `--workers N`: how many workers make the transfers.
 fn workers<'a>(alloc: Global) -> Arg<'a>
     ensures rule { rule_of result ≡ workers_rule }
     ensures local { result.global ≡ false }
@@ -31,7 +34,7 @@ fn workers<'a>(alloc: Global) -> Arg<'a>
     Arg::new(alloc, "workers")
         .long("workers")
         .action(ArgAction::Set)
-        .value_parser(value_parser!(u32).range(1..=1))
+        .value_parser(value_parser!(u32).range(1..=4))
         .default_value("1")
 }
 
@@ -67,6 +70,18 @@ fn brief<'a>(alloc: Global) -> Arg<'a>
     Arg::new(alloc, "brief")
         .long("brief")
         .action(ArgAction::SetTrue)
+}
+
+/// `--place K`: the place of the put of a notification.
+fn place<'a>(alloc: Global) -> Arg<'a>
+    ensures rule { rule_of result ≡ place_rule }
+    ensures local { result.global ≡ false }
+{
+    Arg::new(alloc, "place")
+        .long("place")
+        .action(ArgAction::Set)
+        .value_parser(value_parser!(u64))
+        .required(true)
 }
 
 /// `--seed N` where it is needed.
@@ -135,6 +150,14 @@ fn check<'a>(alloc: Global) -> Command<'a>
     Command::new(alloc, "check")
 }
 
+/// `why`, with its argument.
+fn why<'a>(alloc: Global) -> Result<Command<'a>, AllocError>
+    ensures app { IfOk result (λ command. app_of command ≡ why_app) }
+    ensures local { IfOk result (λ command. (fields_of command).has_globals ≡ false) }
+{
+    Command::new(alloc, "why").arg(place(alloc))
+}
+
 /// `bench`, with its arguments.
 fn bench<'a>(alloc: Global) -> Result<Command<'a>, AllocError>
     ensures app { IfOk result (λ command. app_of command ≡ bench_app) }
@@ -168,11 +191,18 @@ fn running_program<'a>(alloc: Global) -> Result<Command<'a>, AllocError>
         .subcommand(step(alloc)?)
 }
 
+/// The program with the subcommands that read a journal, too.
+fn judging_program<'a>(alloc: Global) -> Result<Command<'a>, AllocError>
+    ensures { IfOk result (λ command. app_of command ≡ judging_app) }
+{
+    running_program(alloc)?
+        .subcommand(check(alloc))?
+        .subcommand(why(alloc)?)
+}
+
 /// The program.
 pub(crate) fn program<'a>(alloc: Global) -> Result<Command<'a>, AllocError>
     ensures { IfOk result (λ command. app_of command ≡ the_app) }
 {
-    running_program(alloc)?
-        .subcommand(check(alloc))?
-        .subcommand(bench(alloc)?)
+    judging_program(alloc)?.subcommand(bench(alloc)?)
 }

@@ -13,16 +13,20 @@ pub fn words_that_are_taken()
     ensures run_plain { command_of (codes "run" ∷ []) ≡ Some (Command.Run 1 1000000 false) }
     ensures run_brief { command_of (codes "run" ∷ codes "--brief" ∷ [])
         ≡ Some (Command.Run 1 1000000 true) }
-    ensures run_workers { command_of (codes "run" ∷ codes "--workers" ∷ codes "1" ∷ [])
+    ensures run_workers { command_of (codes "run" ∷ codes "--workers" ∷ codes "2" ∷ [])
+        ≡ Some (Command.Run 2 1000000 false) }
+    ensures run_least_workers { command_of (codes "run" ∷ codes "--workers" ∷ codes "1" ∷ [])
         ≡ Some (Command.Run 1 1000000 false) }
+    ensures run_most_workers { command_of (codes "run" ∷ codes "--workers" ∷ codes "4" ∷ [])
+        ≡ Some (Command.Run 4 1000000 false) }
     ensures run_least_limit { command_of (codes "run" ∷ codes "--limit" ∷ codes "1" ∷ [])
         ≡ Some (Command.Run 1 1 false) }
     ensures run_most_limit { command_of (codes "run" ∷ codes "--limit" ∷ codes "100000000" ∷ [])
         ≡ Some (Command.Run 1 100000000 false) }
-    ensures run_all { command_of (codes "run" ∷ codes "--workers" ∷ codes "1" ∷ codes "--limit" ∷ codes "3" ∷ codes "--brief" ∷ [])
-        ≡ Some (Command.Run 1 3 true) }
-    ensures run_other_order { command_of (codes "run" ∷ codes "--brief" ∷ codes "--limit" ∷ codes "3" ∷ codes "--workers" ∷ codes "1" ∷ [])
-        ≡ Some (Command.Run 1 3 true) }
+    ensures run_all { command_of (codes "run" ∷ codes "--workers" ∷ codes "3" ∷ codes "--limit" ∷ codes "5" ∷ codes "--brief" ∷ [])
+        ≡ Some (Command.Run 3 5 true) }
+    ensures run_other_order { command_of (codes "run" ∷ codes "--brief" ∷ codes "--limit" ∷ codes "5" ∷ codes "--workers" ∷ codes "3" ∷ [])
+        ≡ Some (Command.Run 3 5 true) }
     ensures plain { command_of (codes "step" ∷ []) ≡ Some (Command.Step 0 1000000 false) }
     ensures brief { command_of (codes "step" ∷ codes "--brief" ∷ [])
         ≡ Some (Command.Step 0 1000000 true) }
@@ -39,6 +43,10 @@ pub fn words_that_are_taken()
     ensures other_order { command_of (codes "step" ∷ codes "--brief" ∷ codes "--limit" ∷ codes "3" ∷ codes "--seed" ∷ codes "5" ∷ [])
         ≡ Some (Command.Step 5 3 true) }
     ensures check { command_of (codes "check" ∷ []) ≡ Some Command.Check }
+    ensures why { command_of (codes "why" ∷ codes "--place" ∷ codes "4" ∷ []) ≡ Some (Command.Why 4) }
+    ensures why_joined { command_of (codes "why" ∷ codes "--place=4" ∷ []) ≡ Some (Command.Why 4) }
+    ensures why_least { command_of (codes "why" ∷ codes "--place" ∷ codes "0" ∷ []) ≡ Some (Command.Why 0) }
+    ensures why_most { command_of (codes "why" ∷ codes "--place" ∷ codes "18446744073709551615" ∷ []) ≡ Some (Command.Why 18446744073709551615) }
     ensures bench { command_of (codes "bench" ∷ codes "--seed" ∷ codes "5" ∷ codes "--ranks" ∷ codes "4" ∷ codes "--rounds" ∷ codes "3" ∷ []) ≡ Some (Command.Bench 5 4 3) }
     ensures bench_other_order { command_of (codes "bench" ∷ codes "--rounds" ∷ codes "3" ∷ codes "--seed" ∷ codes "5" ∷ codes "--ranks" ∷ codes "4" ∷ []) ≡ Some (Command.Bench 5 4 3) }
     ensures bench_least { command_of (codes "bench" ∷ codes "--seed" ∷ codes "0" ∷ codes "--ranks" ∷ codes "1" ∷ codes "--rounds" ∷ codes "1" ∷ []) ≡ Some (Command.Bench 0 1 1) }
@@ -55,7 +63,7 @@ pub fn words_that_are_refused()
     ensures longer_run { command_of (codes "runs" ∷ []) ≡ None }
     ensures longer_step { command_of (codes "steps" ∷ []) ≡ None }
     ensures workers_zero { command_of (codes "run" ∷ codes "--workers" ∷ codes "0" ∷ []) ≡ None }
-    ensures workers_past_most { command_of (codes "run" ∷ codes "--workers" ∷ codes "2" ∷ []) ≡ None }
+    ensures workers_past_most { command_of (codes "run" ∷ codes "--workers" ∷ codes "5" ∷ []) ≡ None }
     ensures workers_without_number { command_of (codes "run" ∷ codes "--workers" ∷ []) ≡ None }
     ensures workers_no_number { command_of (codes "run" ∷ codes "--workers" ∷ codes "x" ∷ []) ≡ None }
     ensures workers_twice { command_of (codes "run" ∷ codes "--workers" ∷ codes "1" ∷ codes "--workers" ∷ codes "1" ∷ []) ≡ None }
@@ -78,6 +86,21 @@ pub fn words_that_are_refused()
     ensures limit_twice { command_of (codes "step" ∷ codes "--limit" ∷ codes "5" ∷ codes "--limit" ∷ codes "5" ∷ []) ≡ None }
     ensures brief_twice { command_of (codes "step" ∷ codes "--brief" ∷ codes "--brief" ∷ []) ≡ None }
     ensures brief_with_value { command_of (codes "step" ∷ codes "--brief=true" ∷ []) ≡ None }
+    ensures why_alone { command_of (codes "why" ∷ []) ≡ None }
+    ensures why_place_without_number { command_of (codes "why" ∷ codes "--place" ∷ []) ≡ None }
+    ensures why_place_no_number { command_of (codes "why" ∷ codes "--place" ∷ codes "x" ∷ []) ≡ None }
+    ensures why_place_minus { command_of (codes "why" ∷ codes "--place" ∷ codes "-1" ∷ []) ≡ None }
+    ensures why_place_joined_minus { command_of (codes "why" ∷ codes "--place=-0" ∷ []) ≡ None }
+    ensures why_place_past_most { command_of (codes "why" ∷ codes "--place" ∷ codes "18446744073709551616" ∷ []) ≡ None }
+    ensures why_place_twice { command_of (codes "why" ∷ codes "--place" ∷ codes "4" ∷ codes "--place" ∷ codes "4" ∷ []) ≡ None }
+    ensures why_word { command_of (codes "why" ∷ codes "4" ∷ []) ≡ None }
+    ensures why_word_behind { command_of (codes "why" ∷ codes "--place" ∷ codes "4" ∷ codes "5" ∷ []) ≡ None }
+    ensures why_brief { command_of (codes "why" ∷ codes "--brief" ∷ []) ≡ None }
+    ensures why_place_and_brief { command_of (codes "why" ∷ codes "--place" ∷ codes "4" ∷ codes "--brief" ∷ []) ≡ None }
+    ensures why_limit { command_of (codes "why" ∷ codes "--place" ∷ codes "4" ∷ codes "--limit" ∷ codes "5" ∷ []) ≡ None }
+    ensures check_place { command_of (codes "check" ∷ codes "--place" ∷ codes "4" ∷ []) ≡ None }
+    ensures run_place { command_of (codes "run" ∷ codes "--place" ∷ codes "4" ∷ []) ≡ None }
+    ensures longer_why { command_of (codes "whys" ∷ codes "--place" ∷ codes "4" ∷ []) ≡ None }
     ensures bench_alone { command_of (codes "bench" ∷ []) ≡ None }
     ensures bench_without_seed { command_of (codes "bench" ∷ codes "--ranks" ∷ codes "4" ∷ codes "--rounds" ∷ codes "3" ∷ []) ≡ None }
     ensures bench_without_ranks { command_of (codes "bench" ∷ codes "--seed" ∷ codes "5" ∷ codes "--rounds" ∷ codes "3" ∷ []) ≡ None }
@@ -116,6 +139,9 @@ pub fn help_and_version_are_refused()
     ensures of_step { command_of (codes "step" ∷ codes "--help" ∷ []) ≡ None }
     ensures short_of_step { command_of (codes "step" ∷ codes "-h" ∷ []) ≡ None }
     ensures of_check { command_of (codes "check" ∷ codes "--help" ∷ []) ≡ None }
+    ensures of_why { command_of (codes "why" ∷ codes "--help" ∷ []) ≡ None }
+    ensures short_of_why { command_of (codes "why" ∷ codes "-h" ∷ []) ≡ None }
+    ensures of_why_with_place { command_of (codes "why" ∷ codes "--place" ∷ codes "4" ∷ codes "--help" ∷ []) ≡ None }
     ensures of_bench { command_of (codes "bench" ∷ codes "--seed" ∷ codes "5" ∷ codes "--ranks" ∷ codes "4" ∷ codes "--rounds" ∷ codes "3" ∷ codes "--help" ∷ []) ≡ None }
     ensures short_of_bench { command_of (codes "bench" ∷ codes "--seed" ∷ codes "5" ∷ codes "--ranks" ∷ codes "4" ∷ codes "--rounds" ∷ codes "3" ∷ codes "-h" ∷ []) ≡ None }
 {}
@@ -123,34 +149,39 @@ pub fn help_and_version_are_refused()
 /// A number may have a plus and leading zeros, and 0 a minus where `=` joins it; `--` at the end says nothing.
 #[tactic(auto, unfolding(crate::specs::Words::command_of, clap::proofs::OnLiterals::clap_on_literals))]
 pub fn other_forms_that_are_taken()
-    ensures run_plus { command_of (codes "run" ∷ codes "--workers" ∷ codes "+1" ∷ []) ≡ Some (Command.Run 1 1000000 false) }
-    ensures run_zeros { command_of (codes "run" ∷ codes "--workers" ∷ codes "01" ∷ []) ≡ Some (Command.Run 1 1000000 false) }
+    ensures run_plus { command_of (codes "run" ∷ codes "--workers" ∷ codes "+3" ∷ []) ≡ Some (Command.Run 3 1000000 false) }
+    ensures run_zeros { command_of (codes "run" ∷ codes "--workers" ∷ codes "04" ∷ []) ≡ Some (Command.Run 4 1000000 false) }
     ensures run_dashes { command_of (codes "run" ∷ codes "--" ∷ []) ≡ Some (Command.Run 1 1000000 false) }
     ensures plus { command_of (codes "step" ∷ codes "--seed" ∷ codes "+5" ∷ []) ≡ Some (Command.Step 5 1000000 false) }
     ensures zeros { command_of (codes "step" ∷ codes "--seed" ∷ codes "05" ∷ []) ≡ Some (Command.Step 5 1000000 false) }
     ensures minus { command_of (codes "step" ∷ codes "--seed=-0" ∷ []) ≡ Some (Command.Step 0 1000000 false) }
     ensures dashes { command_of (codes "step" ∷ codes "--" ∷ []) ≡ Some (Command.Step 0 1000000 false) }
     ensures check_dashes { command_of (codes "check" ∷ codes "--" ∷ []) ≡ Some Command.Check }
+    ensures why_plus { command_of (codes "why" ∷ codes "--place" ∷ codes "+4" ∷ []) ≡ Some (Command.Why 4) }
+    ensures why_zeros { command_of (codes "why" ∷ codes "--place" ∷ codes "04" ∷ []) ≡ Some (Command.Why 4) }
+    ensures why_dashes { command_of (codes "why" ∷ codes "--place" ∷ codes "4" ∷ codes "--" ∷ []) ≡ Some (Command.Why 4) }
     ensures bench_plus { command_of (codes "bench" ∷ codes "--seed" ∷ codes "+5" ∷ codes "--ranks" ∷ codes "4" ∷ codes "--rounds" ∷ codes "3" ∷ []) ≡ Some (Command.Bench 5 4 3) }
     ensures bench_zeros { command_of (codes "bench" ∷ codes "--seed" ∷ codes "5" ∷ codes "--ranks" ∷ codes "04" ∷ codes "--rounds" ∷ codes "3" ∷ []) ≡ Some (Command.Bench 5 4 3) }
     ensures bench_joined { command_of (codes "bench" ∷ codes "--seed=-0" ∷ codes "--ranks=4" ∷ codes "--rounds=3" ∷ []) ≡ Some (Command.Bench 0 4 3) }
     ensures bench_dashes { command_of (codes "bench" ∷ codes "--seed" ∷ codes "5" ∷ codes "--ranks" ∷ codes "4" ∷ codes "--rounds" ∷ codes "3" ∷ codes "--" ∷ []) ≡ Some (Command.Bench 5 4 3) }
 {}
 
-/// A first word that is neither `run` nor `step` nor `check` nor `bench` is refused, whatever follows.
+/// A first word that is neither `run` nor `step` nor `check` nor `why` nor `bench` is refused, whatever follows.
 pub fn other_first_words_are_refused()
     ensures { (first : List ℕ) (rest : List (List ℕ)) → first ≢ codes "run" → first ≢ codes "step" → first ≢ codes "check"
-        → first ≢ codes "bench" → command_of (first ∷ rest) ≡ None }
+        → first ≢ codes "why" → first ≢ codes "bench" → command_of (first ∷ rest) ≡ None }
 {}
 
 /// Every number in its range, spelled in decimal, gives just these values.
 pub fn numbers_are_read()
-    ensures run { (limit : ℕ) → 1 ≤ limit → limit ≤ 100000000
-        → command_of (codes "run" ∷ codes "--workers" ∷ codes "1" ∷ codes "--limit" ∷ decimal limit ∷ codes "--brief" ∷ [])
-        ≡ Some (Command.Run 1 limit true) }
+    ensures run { (workers limit : ℕ) → 1 ≤ workers → workers ≤ 4 → 1 ≤ limit → limit ≤ 100000000
+        → command_of (codes "run" ∷ codes "--workers" ∷ decimal workers ∷ codes "--limit" ∷ decimal limit ∷ codes "--brief" ∷ [])
+        ≡ Some (Command.Run workers limit true) }
     ensures step { (seed limit : ℕ) → seed ≤ 4294967295 → 1 ≤ limit → limit ≤ 100000000
         → command_of (codes "step" ∷ codes "--seed" ∷ decimal seed ∷ codes "--limit" ∷ decimal limit ∷ codes "--brief" ∷ [])
         ≡ Some (Command.Step seed limit true) }
+    ensures why { (place : ℕ) → place ≤ 18446744073709551615
+        → command_of (codes "why" ∷ codes "--place" ∷ decimal place ∷ []) ≡ Some (Command.Why place) }
     ensures bench { (seed ranks rounds : ℕ) → seed ≤ 4294967295 → 1 ≤ ranks → ranks ≤ 16 → 1 ≤ rounds → rounds ≤ 5000
         → command_of (codes "bench" ∷ codes "--seed" ∷ decimal seed ∷ codes "--ranks" ∷ decimal ranks ∷ codes "--rounds" ∷ decimal rounds ∷ [])
         ≡ Some (Command.Bench seed ranks rounds) }

@@ -1,8 +1,8 @@
 //! The words of the command line, read.
 
-ghost use Rattle.std.specs.Prelude.{◌≡◌, ◌≢◌, ◌≤◌, IfOk, ℕ, Bool, Some, map, None};
+ghost use Rattle.std.specs.Prelude.{◌≡◌, ◌≢◌, ◌≤◌, IfOk, ℕ, Bool, Some, codes, map, None};
 ghost use Rattle.clap.specs.Words.{found_of, kind_of, rows_of, subcommand_rows_of};
-ghost use Rattle.command_line.specs.Words.{bench_of, command_of, flag_at, number_at, run_of, step_of, words_in};
+ghost use Rattle.command_line.specs.Words.{bench_of, command_of, flag_at, number_at, run_of, step_of, why_of, words_in};
 
 use crate::arguments::program;
 use clap::error::ErrorKind;
@@ -15,7 +15,7 @@ use std::alloc::Global;
 pub enum Command {
     /// `run`: run a world text on threads.
     Run {
-        /// How many workers make the transfers: 1, since one alone does today.
+        /// How many workers make the transfers, from 1 to 4.
         workers: u32,
         /// How many looks a call that blocks has, from 1 to 100,000,000.
         limit: u32,
@@ -33,6 +33,11 @@ pub enum Command {
     },
     /// `check`: replay a journal.
     Check,
+    /// `why`: tell which writes a notification of a journal stands for.
+    Why {
+        /// The place of the put of the notification, from 0.
+        place: u64,
+    },
     /// `bench`: run a world that is made from a seed, and tell its numbers.
     Bench {
         /// Where the generator starts.
@@ -46,9 +51,16 @@ pub enum Command {
 
 /// The number of an option.
 fn number(matches: &ArgMatches<'_>, id: &str) -> Option<u32>
-    ensures { result ≡ number_at id.now (rows_of (found_of matches.now)) }
+    ensures { result ≡ number_at 32 id.now (rows_of (found_of matches.now)) }
 {
     matches.get_one::<u32>(id)
+}
+
+/// The place that `--place` names.
+fn place(matches: &ArgMatches<'_>) -> Option<u64>
+    ensures { result ≡ number_at 64 (codes "place") (rows_of (found_of matches.now)) }
+{
+    matches.get_one::<u64>("place")
 }
 
 /// Whether a flag was given.
@@ -85,6 +97,14 @@ fn step(matches: &ArgMatches<'_>) -> Option<Command>
     Some(Command::Step { seed, limit, brief })
 }
 
+/// What the words after `why` ask for.
+fn why(matches: &ArgMatches<'_>) -> Option<Command>
+    ensures { result ≡ why_of (rows_of (found_of matches.now)) }
+{
+    let place = place(matches)?;
+    Some(Command::Why { place })
+}
+
 /// What the words after `bench` ask for.
 fn bench(matches: &ArgMatches<'_>) -> Option<Command>
     ensures { result ≡ bench_of (rows_of (found_of matches.now)) }
@@ -110,6 +130,8 @@ fn asked(matches: &ArgMatches<'_>) -> Option<Command>
         step(inner)
     } else if name == "check" {
         Some(Command::Check)
+    } else if name == "why" {
+        why(inner)
     } else if name == "bench" {
         bench(inner)
     } else {
@@ -128,12 +150,12 @@ fn refused(error: &Error) -> Result<Option<Command>, NoMemory>
 }
 
 /// What the words after the program's name ask for: `run [--workers N] [--limit N] [--brief]`,
-/// `step [--seed N] [--limit N] [--brief]`, `check` or `bench --seed N --ranks R --rounds M`. None where the words are refused.
+/// `step [--seed N] [--limit N] [--brief]`, `check`, `why --place K` or `bench --seed N --ranks R --rounds M`. None where the words are refused.
 pub fn read_words(alloc: Global, words: &[&str]) -> Result<Option<Command>, NoMemory>
     ensures command { IfOk result (λ command. command ≡ command_of (map (λ word. word.now) words.now)) }
     ensures workers { IfOk result (λ command. (workers limit : ℕ) (brief : Bool)
         → command ≡ Some (Command.Run workers limit brief)
-        → (1 ≤ workers) × (workers ≤ 1) × (1 ≤ limit) × (limit ≤ 100000000)) }
+        → (1 ≤ workers) × (workers ≤ 4) × (1 ≤ limit) × (limit ≤ 100000000)) }
     ensures limit { IfOk result (λ command. (seed limit : ℕ) (brief : Bool)
         → command ≡ Some (Command.Step seed limit brief) → (1 ≤ limit) × (limit ≤ 100000000)) }
     ensures bench { IfOk result (λ command. (seed ranks rounds : ℕ)

@@ -6,6 +6,8 @@
 #![tactic(auto)]
 
 #[cfg(test)]
+mod explanations;
+#[cfg(test)]
 mod faults;
 #[cfg(test)]
 mod journals;

@@ -14,7 +14,7 @@ use Rattle.rank_script.specs.declared.scripts.ScriptFault.TheVariants.{At, NoMem
 use Rattle.gaspi_run.specs.Command.{fault_text, IsTold, world_read, is_plain, HasBenched, AnswersInput, AnswersBench, Answers}
 use Rattle.gaspi_run.specs.Saying.{SaysFault, Says, SaysStop}
 use Rattle.command_line.specs.declared.words.Command.{Command}
-use Rattle.command_line.specs.declared.words.Command.TheVariants.{Run, Step, Check, Bench}
+use Rattle.command_line.specs.declared.words.Command.TheVariants.{Run, Step, Check, Why, Bench}
 use Rattle.gaspi_run.specs.declared.commands.Answer.{Answer}
 use Rattle.gaspi_run.specs.declared.telling.Told.{Told}
 
@@ -27,12 +27,14 @@ abbrev pub reads : Command → Bool
 reads (Run workers limit brief) = true
 reads (Step seed limit brief) = true
 reads Check = true
+reads (Why place) = true
 reads (Bench seed ranks rounds) = false
 
 pub plain-reads : (command : Command) → is_plain command ≡ true → reads command ≡ true
 plain-reads (Run workers limit brief) plain = refl
 plain-reads (Step seed limit brief) plain = refl
 plain-reads Check plain = refl
+plain-reads (Why place) plain = refl
 plain-reads (Bench seed ranks rounds) plain = plain
 
 -- its answer is one of those to an input
@@ -41,6 +43,7 @@ pub answers-reading : (command : Command) (before after : Option (List ℕ)) (fa
 answers-reading (Run workers limit brief) before after faults faults' held held' sink_faults sink_faults' answer reading is = is
 answers-reading (Step seed limit brief) before after faults faults' held held' sink_faults sink_faults' answer reading is = is
 answers-reading Check before after faults faults' held held' sink_faults sink_faults' answer reading is = is
+answers-reading (Why place) before after faults faults' held held' sink_faults sink_faults' answer reading is = is
 answers-reading (Bench seed ranks rounds) before after faults faults' held held' sink_faults sink_faults' answer reading is = absurd (let no : ⊥ = cc in no)
 
 -- an input that is too long
@@ -48,6 +51,7 @@ long-text : (command : Command) (text : List ℕ) → reads command ≡ true →
 long-text (Run workers limit brief) text reading long = rw (lt-ltb input_limit (length text) long) refl
 long-text (Step seed limit brief) text reading long = rw (lt-ltb input_limit (length text) long) refl
 long-text Check text reading long = rw (lt-ltb input_limit (length text) long) refl
+long-text (Why place) text reading long = rw (lt-ltb input_limit (length text) long) refl
 long-text (Bench seed ranks rounds) text reading long = absurd (let no : ⊥ = cc in no)
 
 -- there is a longer text than of any length

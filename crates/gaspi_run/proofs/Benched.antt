@@ -1,6 +1,6 @@
 -- The world of `bench` and its scripts, and what a run of it to its end is.
-use Rattle.std.proofs.Common.{◌≡◌, ◌==◌, ◌||◌, ℕ, zero, suc, ◌+◌, ◌-◌, ◌*◌, ◌%◌, ◌^◌, ◌<◌, ◌≤◌, Bool, true, false, cond, if◌then◌else◌, List, [], ◌∷◌, ◌++◌, map, ◌⊎◌, inl, inr, Option, None, Some, Result, Ok, count_by, find, refl, sym, ap, ◌∙◌, subst, arith}
-use Rattle.std.specs.List.{All, slice_get, list_any}
+use Rattle.std.proofs.Common.{◌≡◌, ◌==◌, ℕ, zero, suc, ◌+◌, ◌-◌, ◌*◌, ◌%◌, ◌^◌, ◌<◌, ◌≤◌, Bool, true, false, if◌then◌else◌, List, [], ◌∷◌, ◌++◌, map, ◌⊎◌, inl, inr, Some, Result, Ok, count_by, refl, sym, ap, ◌∙◌, subst, arith}
+use Rattle.std.specs.List.{All, slice_get}
 use Rattle.std.proofs.Math.Nat.{eq-or-lt_of_le}
 use Rattle.std.proofs.lemmas.Bool.{eqb-true, eq-eqb}
 use Rattle.std.proofs.lemmas.List.{map-append}
@@ -24,7 +24,7 @@ use Rattle.rank_script.specs.declared.scripts.RunOutcome.TheVariants as outcomes
 use Rattle.rank_script.specs.declared.scripts.Script.{Script}
 use Rattle.rank_script.specs.declared.scripts.ScriptLine.{ScriptLine}
 use Rattle.gaspi_run.specs.Command.{is_wrong_outcome, is_limit_outcome, is_any_wrong, is_any_limit, run_status, bench_limit, numbers_text, AreClosed, HasBenched}
-use Rattle.gaspi_run.specs.Endings.{HasLimitCause, HasEnded, HaveEnded}
+use Rattle.gaspi_run.specs.Endings.{HasLimitCause}
 use Rattle.gaspi_run.specs.Threads.{ToldTally, HasRunWorld}
 use Rattle.gaspi_run.specs.declared.turns.Finished.{Finished}
 use Rattle.gaspi_run.proofs.OneOfEach.{counts, found-is, found-all, none-there}
@@ -115,8 +115,8 @@ none-wrong finished is = go (is_any_wrong finished) (is_any_limit finished) is
     go false true at = absurd (omega arith)
     go true b at = absurd (omega arith)
 
-module _ (seed ranks rounds limit : ℕ) (journal : List Event) (tally : ToldTally) (finished : List Finished)
-    (ran : HasRunWorld (bench_shape ranks rounds) (bench_scripts seed ranks rounds ranks) limit journal tally finished) (well : run_status finished ≡ 0) where
+module _ (seed ranks rounds workers limit : ℕ) (journal : List Event) (tally : ToldTally) (finished : List Finished)
+    (ran : HasRunWorld (bench_shape ranks rounds) (bench_scripts seed ranks rounds ranks) workers limit journal tally finished) (well : run_status finished ≡ 0) where
   abbrev lines-of : ℕ → List ScriptLine
   lines-of rank = bench_lines seed ranks rounds rank rounds
 
@@ -183,17 +183,17 @@ module _ (calls : CallsLaw) (transfers : TransfersLaw) (notifications : Notifica
 
   pub has-benched : (seed ranks rounds : ℕ) (shape : World) (scripts : List Script) (journal : List Event) (tally : ToldTally) (finished : List Finished) (numbers : Numbers4) (status : ℕ) (text : List ℕ)
       → (1 ≤ ranks) × (ranks ≤ 16) → (1 ≤ rounds) × (rounds ≤ 5000) → shape ≡ bench_shape ranks rounds → scripts ≡ bench_scripts seed ranks rounds ranks
-      → HasRunWorld shape scripts bench_limit journal tally finished → AreNumbers shape journal numbers → text ≡ numbers_text numbers → status ≡ run_status finished
+      → HasRunWorld shape scripts 1 bench_limit journal tally finished → AreNumbers shape journal numbers → text ≡ numbers_text numbers → status ≡ run_status finished
       → HasBenched seed ranks rounds journal tally status text
   has-benched seed ranks rounds shape scripts journal tally finished numbers status text few short shape_is scripts_are ran counted text_is status_is =
-      let here = subst (λ (w : World). HasRunWorld w (bench_scripts seed ranks rounds ranks) bench_limit journal tally finished) shape_is (subst (λ (ss : List Script). HasRunWorld shape ss bench_limit journal tally finished) scripts_are ran) in
+      let here = subst (λ (w : World). HasRunWorld w (bench_scripts seed ranks rounds ranks) 1 bench_limit journal tally finished) shape_is (subst (λ (ss : List Script). HasRunWorld shape ss 1 bench_limit journal tally finished) scripts_are ran) in
       let numbered = subst (λ (w : World). AreNumbers w journal numbers) shape_is counted in
       record {
         finished = finished;
         ran = here;
         numbers = numbers;
         counted = numbered;
-        closed = λ well. closed-forms seed ranks rounds journal numbers (bench-ran seed ranks rounds bench_limit journal tally finished here (sym status_is ∙ well) few short) numbered;
+        closed = λ well. closed-forms seed ranks rounds journal numbers (bench-ran seed ranks rounds 1 bench_limit journal tally finished here (sym status_is ∙ well) few short) numbered;
         text_is = text_is;
         status_is = status_is;
       }

@@ -2,6 +2,7 @@
 use Rattle.std.proofs.Common.{◌≡◌, ℕ, zero, suc, ◌+◌, ◌<◌, ◌≤◌, Bool, true, false, cond, ◌||◌, List, [], ◌∷◌, ◌++◌, map, length, Option, None, Some, Result, Ok, count_by, find, refl, sym, ap, ◌∙◌, subst, arith}
 use Rattle.std.specs.List.{slice_get, list_any}
 use Rattle.std.specs.Option.{option_map}
+use Rattle.std.proofs.lemmas.List.{length-map}
 use Rattle.std.proofs.lemmas.List.Elements.{All-nil, All-cons}
 use Rattle.std.proofs.lemmas.Option.{slice_get-map, slice_get_within}
 use mathlib.Core.List.{IsPrefix}
@@ -38,11 +39,12 @@ use Rattle.commit_table.proofs.Lists.{prefix_trans}
 use Rattle.script_bodies.specs.Runs.{HasRun}
 use Rattle.script_bodies.specs.declared.bodies.ScriptBody.{ScriptBody}
 use Rattle.gaspi_run.proofs.CallsOfEvents.{own-events}
+use Rattle.transfer_worker.specs.Order.{Drains}
 use Rattle.transfer_worker.specs.Turns.{IsDrained}
 use Rattle.script_bodies.specs.Joins.{AreJoinsFollowed}
 use Rattle.gaspi_run.specs.Endings.{HasEnded, HaveEnded, HasSettled}
-use Rattle.gaspi_run.specs.Parts.{EachAt, HasRunTask, HasRunPart, IsDone, HaveRun, made_pass, finished_of, finished_with, finished_in, had_memory}
-use Rattle.gaspi_run.specs.Threads.{HadPass, IsTallied}
+use Rattle.gaspi_run.specs.Parts.{EachAt, HasRunTask, HasRunPart, HasRunWorker, IsDone, HaveRun, made_pass, finished_of, finished_with, finished_in, had_memory}
+use Rattle.gaspi_run.specs.Threads.{HadPass, HadWorker, IsTallied}
 use Rattle.gaspi_run.specs.declared.parts.Part.{Part}
 use Rattle.gaspi_run.specs.declared.parts.Part.TheVariants.{Caller, Worker}
 use Rattle.gaspi_run.specs.declared.turns.Finished.{Finished}
@@ -134,7 +136,7 @@ module _ (world : TableValue Start) (scripts : List Script) (limit : ℕ) (passe
         go (Caller body) is ran =
             let number = caller-number (number_of w.callers c) at.0 body at.1 is in
             (at.0, body, at.1, is, ran, same-number w body.script.now.caller c valid ran.caller.0 there number.1)
-        go (Worker turns) is ran = absurd (let less = below in let behind = ran.0 in omega arith)
+        go (Worker turns) is ran = absurd (let less = below in let behind = ran.place_is in omega arith)
 
     -- No transfer is left.
 
@@ -150,9 +152,48 @@ module _ (world : TableValue Start) (scripts : List Script) (limit : ℕ) (passe
             )
         go (Worker turns) is =
             let ran : HasRunPart world scripts limit (length w.callers) (Worker turns) t.pass.known = subst (λ (part : Part). HasRunPart world scripts limit (length w.callers) part t.pass.known) is (run.ran (length w.callers) t at).part in
-            ran.1
+            ran.none_left
+
+    -- The parts of workers stand behind them.
+
+    worker-at : (worker : ℕ) → length w.callers + worker < world.passes → (t : Task Part) × (slice_get run.tasks (length w.callers + worker) ≡ Some t) × HasRunWorker world scripts limit (length w.callers + worker) t.pass.known
+    worker-at worker less = go at.0.body refl
+      where
+        place : ℕ
+        place = length w.callers + worker
+
+        at : (t : Task Part) × (slice_get run.tasks place ≡ Some t)
+        at = there-within run.tasks place (let count = run.count in omega arith)
+
+        go : (part : Part) → at.0.body ≡ part → (t : Task Part) × (slice_get run.tasks place ≡ Some t) × HasRunWorker world scripts limit place t.pass.known
+        go (Caller body) is = (
+            let number = caller-number place at.0 body at.1 is in
+            let below = number-below w.callers body.script.now.caller number.0.caller.0 in
+            let behind = number.1 in
+            absurd (omega arith)
+            )
+        go (Worker turns) is = (at.0, at.1, subst (λ (part : Part). HasRunPart world scripts limit place part at.0.pass.known) is (run.ran place at.0 at.1).part)
 
     module _ (journal : List Event) (legal : is_legal w journal ≡ true) (seen : HaveSeen journal passes) where
+      -- each had its pass
+      had-worker : (known : List (Known Start Event)) → known ≡ map (λ (p : PassValue Start Event). p.known) passes → (worker : ℕ) → length w.callers + worker < world.passes → HadWorker world.start journal known worker
+      had-worker known known_are worker less =
+          let here = worker-at worker less in
+          let t = here.0 in
+          let ran = here.2 in
+          let place = length w.callers + worker in
+          let pass = pass-at place t here.1 in
+          let same : ran.worker ≡ worker = (let is = ran.place_is in omega arith) in
+          record {
+            pass = t.pass.known;
+            there = ap (λ (ps : List (Known Start Event)). slice_get ps place) known_are ∙ (slice_get-map (λ (p : PassValue Start Event). p.known) passes place ∙ ap (option_map (λ (p : PassValue Start Event). p.known)) pass);
+            mine = ran.mine;
+            saw = seen place t.pass pass;
+            settled = ran.none_left;
+            next = ran.next;
+            turned = subst (λ (k : ℕ). Drains w k (made_pass world place).known ran.next t.pass.known) same ran.turned;
+          }
+
       pub settled : ((s t : State) (events : List Event) → IsSettled s → after s events ≡ Ok t → IsSettled t) → HasSettled w journal
       settled stays =
           let at = there-within run.tasks (length w.callers) (let count = run.count in omega arith) in
@@ -385,13 +426,16 @@ module _ (world : TableValue Start) (scripts : List Script) (limit : ℕ) (passe
                   (subst (λ (ps : _). Waited w c (n.seen ++ saw.0) n.looks (looks_along limit (going_on script.lines) ps)) (sym calls) then)
 
           pub tallied : ((w : World) (c : CallerId) (history later : List Event) (looks ns : List ℕ) → Waited w c history looks ns → own_calls c.rank c.thread (history ++ later) ≡ own_calls c.rank c.thread history → Waited w c (history ++ later) looks ns)
-              → (tally : TallyValue Start Event) → tally.start ≡ Some world.start → tally.journal ≡ journal → tally.passes ≡ map (λ (p : PassValue Start Event). p.known) passes → IsTallied w scripts limit journal tally
-          tallied last tally start journal_is known_are = record {
+              → (tally : TallyValue Start Event) → tally.start ≡ Some world.start → tally.journal ≡ journal → tally.passes ≡ map (λ (p : PassValue Start Event). p.known) passes
+              → (workers : ℕ) → world.passes ≡ length w.callers + workers → IsTallied w scripts workers limit journal tally
+          tallied last tally start journal_is known_are workers all = record {
             start = world.start;
             began = start;
             world = refl;
             journal_is = journal_is;
             passes = λ place script at. had-pass last tally.passes known_are place script at;
+            count = ap length known_are ∙ (length-map passes (λ (p : PassValue Start Event). p.known) ∙ (ap length run.passes_are ∙ (length-map run.tasks (λ (t : Task Part). t.pass) ∙ (run.count ∙ all))));
+            workers_had = λ worker less. had-worker tally.passes known_are worker (omega arith);
           }
 
 -- The passes of a world as it was made.
@@ -409,13 +453,13 @@ pub known : (world : TableValue Start) (scripts : List Script) (limit workers : 
     → (tally.start ≡ Some world.start) × (tally.journal ≡ journal) → tally.passes ≡ map (λ (p : PassValue Start Event). p.known) passes → is_legal world.start.shape journal ≡ true → HaveSeen journal passes → HaveDone world.start.shape journal passes
     → ((s t : State) (events : List Event) → IsSettled s → after s events ≡ Ok t → IsSettled t)
     → ((w : World) (c : CallerId) (history later : List Event) (looks ns : List ℕ) → Waited w c history looks ns → own_calls c.rank c.thread (history ++ later) ≡ own_calls c.rank c.thread history → Waited w c (history ++ later) looks ns)
-    → IsTallied shape scripts limit journal tally × HaveEnded shape scripts journal finished × HasSettled shape journal
+    → IsTallied shape scripts workers limit journal tally × HaveEnded shape scripts journal finished × HasSettled shape journal
 known world scripts limit workers passes finished shape journal tally start all some valid are plain run began known_are legal seen done stays last =
     let callers : length world.start.shape.callers ≡ length shape.callers = ap (λ (w : World). length w.callers) start in
     let many : length world.start.shape.callers < world.passes = omega arith in
     let good = subst IsWorld (sym start) valid in
     let scripts_are = subst (λ (w : World). AreScriptsOf w scripts) (sym start) are in (
-      subst (λ (w : World). IsTallied w scripts limit journal tally) start (tallied world scripts limit passes finished run good many journal legal seen done plain scripts_are last tally began.0 began.1 known_are),
+      subst (λ (w : World). IsTallied w scripts workers limit journal tally) start (tallied world scripts limit passes finished run good many journal legal seen done plain scripts_are last tally began.0 began.1 known_are workers (all ∙ ap (λ (n : ℕ). n + workers) (sym callers))),
       subst (λ (w : World). HaveEnded w scripts journal finished) start (have-ended world scripts limit passes finished run good many journal legal seen done plain scripts_are),
       subst (λ (w : World). HasSettled w journal) start (settled world scripts limit passes finished run good many journal legal seen stays),
     )

@@ -1,5 +1,5 @@
 -- What parts need before they run, and what is known of them then.
-use Rattle.std.proofs.Common.{◌≡◌, ℕ, zero, suc, ◌<◌, ◌+◌, ◌≤◌, Bool, true, false, List, [], ◌∷◌, ◌++◌, length, take, get_or, append-nil, None, Some, find, refl, sym, ap, ◌∙◌, subst}
+use Rattle.std.proofs.Common.{◌≡◌, ℕ, zero, suc, ◌<◌, ◌+◌, ◌≤◌, Bool, true, false, List, [], ◌∷◌, ◌++◌, length, take, get_or, append-nil, None, Some, find, refl, sym, ap, ◌∙◌, subst, arith}
 use Rattle.std.specs.List.{All, slice_get, list_any}
 use Rattle.std.proofs.lemmas.Grind.{flat_map-append}
 use Rattle.std.proofs.lemmas.List.{take_more}
@@ -37,7 +37,7 @@ module _ (world : TableValue Start) (scripts : List Script) (limit : ℕ) where
     record { table = (refl, refl); free = λ i. refl; caller = is.2; fresh = refl },
     is.3,
   )
-  needs-made place (Worker turns) is some plain looks = ((refl, refl), λ i. refl, (place, refl, is))
+  needs-made place (Worker turns) is some plain looks = ((refl, refl), λ i. refl, (place, refl, omega arith))
 
   needs : (place : ℕ) (task : Task Part) → IsReady world scripts limit place task → 1 ≤ limit → ArePlain scripts → AreLooking scripts → NeedsOf task.body world task.pass
   needs place task ready some plain looks = subst (NeedsOf task.body world) (sym ready.0) (needs-made place task.body ready.1 some plain looks)
@@ -69,7 +69,9 @@ module _ (world : TableValue Start) (scripts : List Script) (limit : ℕ) where
   ran-made place (Caller body) (Caller next) q is did = (let has = ran-caller place body next q is did.0 did.2 in (did.2.table, has.1, has.0, did.2.free, has.2))
   ran-made place (Caller body) (Worker turns) q is did = absurd did
   ran-made place (Worker turns) (Caller next) q is did = absurd did
-  ran-made place (Worker turns) (Worker now) q is did = (did.table, did.goes_on.start, did.goes_on.party, did.free, (is, did.none_left world.start refl))
+  ran-made place (Worker turns) (Worker now) q is did =
+      let turned = did.turned world.start refl in
+      (did.table, did.goes_on.start, did.goes_on.party, did.free, record { worker = turns; place_is = is; none_left = did.none_left world.start refl; mine = did.goes_on.mine; next = turned.0; turned = turned.1 })
 
   ran : (place : ℕ) (task next : Task Part) → IsReady world scripts limit place task → DidOf task.body task.pass next.body next.pass → HasRunTask world scripts limit place next
   ran place task next ready did =

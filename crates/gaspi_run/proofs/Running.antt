@@ -26,7 +26,7 @@ use Rattle.script_bodies.specs.Joins.{AreJoinsFollowed}
 use Rattle.gaspi_run.specs.Endings.{present_need, is_own, own_events, HasLimitCause, HasEnded}
 use Rattle.gaspi_run.specs.declared.turns.Waiting.{Waiting}
 use Rattle.gaspi_run.specs.declared.turns.Turns.{Turns}
-use Rattle.transcripts.proofs.OwnCalls.{own_of, own-same, own-other}
+use Rattle.transcripts.proofs.OwnCalls.{own_of}
 use Rattle.gaspi_run.proofs.JoinsFollowed.{AreFollowedSoFar, ends_joined}
 
 -- What a caller's own events are.

@@ -1,39 +1,35 @@
 -- What the program does with its words and its input. (own choice)
-use Rattle.std.specs.Prelude.{◌≡◌, ◌⊎◌, ◌≤◌, ◌<◌, ℕ, ◌+◌, ◌-◌, ◌*◌, ◌%◌, ◌^◌, length, drop, Bool, true, false, List, [], ◌++◌, Option, Some, None, Result, Ok, Err, codes, if◌then◌else◌}
+use Rattle.std.specs.Prelude.{◌≡◌, ◌⊎◌, ◌≤◌, ◌<◌, ℕ, ◌+◌, ◌-◌, ◌*◌, ◌%◌, ◌^◌, length, Bool, true, false, List, [], ◌++◌, Option, Some, None, Result, Ok, Err, codes, if◌then◌else◌}
 use Rattle.std.specs.Option.{ForSome}
 use Rattle.std.specs.List.{list_any}
 use Rattle.std.specs.Fmt.{decimal}
 use Rattle.gaspi_types.specs.World.{World}
 use Rattle.gaspi_types.specs.declared.events.Event.{Event}
-use Rattle.text_lines.specs.Lines.{fed_lines}
 use Rattle.gaspi_io.specs.Faults.{HasCause}
 use Rattle.gaspi_io.specs.Sink.{with_more, AddsFront}
 use Rattle.gaspi_io.specs.Source.{without, TakesAtMost}
 use Rattle.gaspi_model.specs.Step.{is_legal}
-use Rattle.gaspi_model.specs.declared.states.Why.{Why}
-use Rattle.gaspi_model.specs.declared.states.Why.TheVariants as whys
-use Rattle.journal_texts.specs.JournalText.{journal_text, AreInRange, IsFaultyAt}
-use Rattle.call_journal.specs.Verdicts.{IsVerdict}
-use Rattle.call_journal.specs.declared.verdicts.Verdict.{Verdict}
-use Rattle.call_journal.specs.declared.verdicts.Verdict.TheVariants.{Legal, Illegal}
+use Rattle.journal_texts.specs.JournalText.{journal_text, AreInRange}
 use Rattle.command_line.specs.declared.words.Command.{Command}
-use Rattle.command_line.specs.declared.words.Command.TheVariants.{Run, Step, Check, Bench}
+use Rattle.command_line.specs.declared.words.Command.TheVariants.{Run, Step, Check, Why, Bench}
 use Rattle.bench_laws.specs.Laws.{draws_until}
 use Rattle.journal_numbers.specs.Numbers.{AreNumbers}
 use Rattle.journal_numbers.specs.declared.numbers.Numbers4.{Numbers4}
 use Rattle.rank_script.specs.Bench.{bench_shape}
 use Rattle.rank_script.specs.BenchScripts.{bench_scripts}
 use Rattle.rank_script.specs.Lines.{input_limit}
-use Rattle.rank_script.specs.WorldText.{Said, TextFault, world_text, journal_place, checked_world}
+use Rattle.rank_script.specs.WorldText.{Said, TextFault, world_text, checked_world}
 use Rattle.rank_script.specs.declared.scripts.Script.{Script}
 use Rattle.rank_script.specs.declared.scripts.RunOutcome.{RunOutcome}
 use Rattle.rank_script.specs.declared.scripts.RunOutcome.TheVariants as outcomes
 use Rattle.gaspi_run.specs.Endings.{HasSettled, HaveEnded}
+use Rattle.gaspi_run.specs.Judging.{IsChecked}
 use Rattle.gaspi_run.specs.Schedule.{IsScheduled}
 use Rattle.gaspi_run.specs.Threads.{ToldTally, HasRunWorld}
 use Rattle.transcripts.specs.Transcripts.{transcripts}
 use Rattle.gaspi_run.specs.declared.turns.Finished.{Finished}
 use Rattle.gaspi_run.specs.declared.commands.Answer.{Answer}
+use Rattle.gaspi_run.specs.declared.judging.Question.TheVariants as questions
 
 abbrev pub refused_text : List ℕ
 refused_text = codes "gaspirun: words refused\n"
@@ -72,14 +68,14 @@ abbrev pub run_text : Bool → World → List Script → List Event → List ℕ
 run_text true w scripts journal = transcripts w scripts journal
 run_text false w scripts journal = journal_text journal
 
--- What `run` does with its input: the world of the text ran on threads. The text that it writes is the journal, or with `--brief` what the
+-- What `run` does with its input: the world of the text ran on threads, with so many workers. The text that it writes is the journal, or with `--brief` what the
 -- callers were told; its status tells how they ended.
-pub record HasRunOnThreads (limit : ℕ) (brief : Bool) (input : List ℕ) (journal : List Event) (tally : ToldTally) (status : ℕ) (text : List ℕ) : Type 0 where
+pub record HasRunOnThreads (workers limit : ℕ) (brief : Bool) (input : List ℕ) (journal : List Event) (tally : ToldTally) (status : ℕ) (text : List ℕ) : Type 0 where
   pub world : World
   pub scripts : List Script
   pub finished : List Finished
   pub read : world_text input ≡ Ok (record { world = Some world; scripts = scripts })
-  pub ran : HasRunWorld world scripts limit journal tally finished
+  pub ran : HasRunWorld world scripts workers limit journal tally finished
   pub text_is : text ≡ run_text brief world scripts journal
   pub status_is : status ≡ run_status finished
 
@@ -105,7 +101,7 @@ pub record AreClosed (seed ranks rounds : ℕ) (n : Numbers4) : Type 0 where
 
 pub record HasBenched (seed ranks rounds : ℕ) (journal : List Event) (tally : ToldTally) (status : ℕ) (text : List ℕ) : Type 0 where
   pub finished : List Finished
-  pub ran : HasRunWorld (bench_shape ranks rounds) (bench_scripts seed ranks rounds ranks) bench_limit journal tally finished
+  pub ran : HasRunWorld (bench_shape ranks rounds) (bench_scripts seed ranks rounds ranks) 1 bench_limit journal tally finished
   pub numbers : Numbers4
   pub counted : AreNumbers (bench_shape ranks rounds) journal numbers
   pub closed : status ≡ 0 → AreClosed seed ranks rounds numbers
@@ -129,72 +125,12 @@ pub record IsStepped (seed limit : ℕ) (brief : Bool) (input : List ℕ) (journ
   pub status_is : status ≡ run_status finished
   pub text_is : text ≡ run_text brief world scripts journal
 
--- What `check` does with its input: a world text, and from the first line that begins with `journal` on a journal.
-
-abbrev pub why_word : Why → List ℕ
-why_word whys.Caller = codes "caller"
-why_word whys.Limit = codes "limit"
-why_word whys.Join = codes "join"
-why_word whys.Reply = codes "reply"
-why_word whys.Take = codes "take"
-why_word whys.Put = codes "put"
-
-abbrev pub no_journal_text : ℕ → List ℕ
-no_journal_text line = codes "not a journal " ++ decimal line ++ codes "\n"
-
-abbrev pub verdict_text : ℕ → Verdict → List ℕ
-verdict_text count Legal = codes "legal " ++ decimal count ++ codes "\n"
-verdict_text count (Illegal place why) = codes "illegal " ++ decimal place ++ codes " " ++ why_word why ++ codes "\n"
-
-abbrev pub verdict_status : Verdict → ℕ
-verdict_status Legal = 0
-verdict_status (Illegal place why) = 4
-
--- no journal, which shows at that line of the input
-pub record IsNoJournal (line : ℕ) (journal : List Event) (status : ℕ) (text : List ℕ) : Type 0 where
-  pub status_is : status ≡ 4
-  pub text_is : text ≡ no_journal_text line
-  pub empty : journal ≡ []
-
--- a verdict told
-pub record HasVerdict (world : World) (journal : List Event) (status : ℕ) (text : List ℕ) : Type 0 where
-  pub verdict : Verdict
-  pub judged : IsVerdict world journal verdict
-  pub status_is : status ≡ verdict_status verdict
-  pub text_is : text ≡ verdict_text (length journal) verdict
-
--- a text that is no journal from its line on, the first line of which has that number
-pub record IsUnread (text : List ℕ) (number : ℕ) (journal : List Event) (status : ℕ) (told : List ℕ) : Type 0 where
-  pub line : ℕ
-  pub faulty : IsFaultyAt text line
-  pub none : IsNoJournal (number - 1 + line) journal status told
-
--- a journal with its verdict
-pub record IsJudged (world : World) (text : List ℕ) (journal : List Event) (status : ℕ) (told : List ℕ) : Type 0 where
-  pub journal_is : text ≡ journal_text journal
-  pub ranges : AreInRange journal
-  pub verdict : HasVerdict world journal status told
-
--- what is told of the text of a journal, the first line of which has that number
-abbrev pub IsRead : World → List ℕ → ℕ → List Event → ℕ → List ℕ → Type 0
-IsRead world text number journal status told = IsUnread text number journal status told ⊎ IsJudged world text journal status told
-
--- What is told of an input with a world: where no line begins with `journal`, the line after the last is named.
-abbrev pub IsCheckedIn : World → List ℕ → Option (ℕ × ℕ) → List Event → ℕ → List ℕ → Type 0
-IsCheckedIn world input None journal status text = IsNoJournal (length (fed_lines input) + 1) journal status text
-IsCheckedIn world input (Some place) journal status text = IsRead world (drop place.0 input) place.1 journal status text
-
-pub record IsChecked (input : List ℕ) (journal : List Event) (status : ℕ) (text : List ℕ) : Type 0 where
-  pub world : World
-  pub scripts : List Script
-  pub read : checked_world input ≡ Ok (record { world = Some world; scripts = scripts })
-  pub result : IsCheckedIn world input (journal_place input) journal status text
-
 -- a call that blocks has one look or more, there are one to four workers, and `bench` has one to sixteen ranks and at most 5,000 rounds
 abbrev pub IsWithin : Command → Type 0
 IsWithin (Run workers limit brief) = (1 ≤ limit) × ((1 ≤ workers) × (workers ≤ 4))
 IsWithin (Step seed limit brief) = 1 ≤ limit
 IsWithin Check = Unit {0}
+IsWithin (Why place) = Unit {0}
 IsWithin (Bench seed ranks rounds) = ((1 ≤ ranks) × (ranks ≤ 16)) × ((1 ≤ rounds) × (rounds ≤ 5000))
 
 -- a command that needs no threads
@@ -202,20 +138,23 @@ abbrev pub is_plain : Command → Bool
 is_plain (Run workers limit brief) = false
 is_plain (Step seed limit brief) = true
 is_plain Check = true
+is_plain (Why place) = true
 is_plain (Bench seed ranks rounds) = false
 
 -- What a command tells of an input without a fault, and what it takes the world from.
 
 abbrev pub IsTold : Command → List ℕ → List Event → ToldTally → ℕ → List ℕ → Type 0
-IsTold (Run workers limit brief) input journal tally status text = HasRunOnThreads limit brief input journal tally status text
+IsTold (Run workers limit brief) input journal tally status text = HasRunOnThreads workers limit brief input journal tally status text
 IsTold (Step seed limit brief) input journal tally status text = IsStepped seed limit brief input journal status text × (tally ≡ None)
-IsTold Check input journal tally status text = IsChecked input journal status text × (tally ≡ None)
+IsTold Check input journal tally status text = IsChecked questions.Verdict input journal status text × (tally ≡ None)
+IsTold (Why place) input journal tally status text = IsChecked (questions.Writes place) input journal status text × (tally ≡ None)
 IsTold (Bench seed ranks rounds) input journal tally status text = HasBenched seed ranks rounds journal tally status text
 
 abbrev pub world_read : Command → List ℕ → Result Said TextFault
 world_read (Run workers limit brief) input = world_text input
 world_read (Step seed limit brief) input = world_text input
 world_read Check input = checked_world input
+world_read (Why place) input = checked_world input
 world_read (Bench seed ranks rounds) input = Ok (record { world = Some (bench_shape ranks rounds); scripts = bench_scripts seed ranks rounds ranks })
 
 -- An input stands here as what its source had left before and after, and an output as what its sink held, where they
@@ -249,7 +188,7 @@ NothingFailed faults faults' sink_faults sink_faults' = (faults' ≡ faults) × 
 abbrev pub HasNoWorld : Answer → Type 0
 HasNoWorld answer = (answer.journal ≡ []) × (answer.tally ≡ None)
 
--- the input was told: status 0, 3 or 8 of a run on threads or on one, 0 or 4 of a check
+-- the input was told: status 0, 3 or 8 of a run on threads or on one, 0 or 4 of a journal that was read
 pub record HasTold (command : Command) (before after held held' : Option (List ℕ)) (faults faults' sink_faults sink_faults' : ℕ) (answer : Answer) : Type 0 where
   pub text : List ℕ
   pub still : NothingFailed faults faults' sink_faults sink_faults'
@@ -338,6 +277,8 @@ Answers (Step seed limit brief) before after faults faults' held held' sink_faul
     AnswersInput (Step seed limit brief) before after faults faults' held held' sink_faults sink_faults' answer
 Answers Check before after faults faults' held held' sink_faults sink_faults' answer =
     AnswersInput Check before after faults faults' held held' sink_faults sink_faults' answer
+Answers (Why place) before after faults faults' held held' sink_faults sink_faults' answer =
+    AnswersInput (Why place) before after faults faults' held held' sink_faults sink_faults' answer
 Answers (Bench seed ranks rounds) before after faults faults' held held' sink_faults sink_faults' answer =
     (after ≡ before) × (faults' ≡ faults) × AnswersBench seed ranks rounds held held' sink_faults sink_faults' answer
 

@@ -1,5 +1,6 @@
 pub mod Generator
 pub mod Schedule
+pub mod Judging
 pub mod Command
 pub mod Endings
 pub mod Threads

@@ -1,5 +1,5 @@
 -- What the threads of a world need of their passes, and what they make of them. (own choice)
-use Rattle.std.specs.Prelude.{◌≡◌, ℕ, ◌<◌, ◌≤◌, Bool, true, false, List, [], ◌∷◌, map, length, slice_get, find, Option, None, Some}
+use Rattle.std.specs.Prelude.{◌≡◌, ℕ, ◌+◌, ◌<◌, Bool, true, false, List, [], ◌∷◌, map, length, slice_get, find, Option, None, Some}
 use Rattle.std.specs.List.{All, flat_map}
 use Rattle.gaspi_types.specs.declared.shapes.CallerId.{CallerId}
 use Rattle.gaspi_types.specs.declared.events.Event.{Event}
@@ -17,6 +17,7 @@ use Rattle.rank_script.specs.declared.scripts.Script.{Script}
 use Rattle.script_bodies.specs.Bodies.{IsRunnable, IsFresh, HasRunScript}
 use Rattle.script_bodies.specs.Runs.{HasRun}
 use Rattle.script_bodies.specs.declared.bodies.ScriptBody.{ScriptBody}
+use Rattle.transfer_worker.specs.Order.{Drains}
 use Rattle.transfer_worker.specs.Turns.{GoesOn, IsDrained}
 use Rattle.gaspi_run.specs.declared.turns.Finished.{Finished}
 use Rattle.gaspi_run.specs.declared.parts.Part.{Part}
@@ -27,25 +28,26 @@ abbrev pub NeedsOf : Part → TableValue Start → PassValue Start Event → Typ
 NeedsOf (Caller body) world pass = IsRunnable body.script.now body.limit × IsFresh body.script.now world pass × (body.cursor ≡ going_on body.script.now.lines)
 NeedsOf (Worker turns) world pass = IsOf world pass × HoldsNone pass.known × IsWorkers world.start.shape pass.known
 
--- A worker has made transfers, and none was left.
-pub record HasWorked (p q : PassValue Start Event) : Type 0 where
+-- A worker has made turns, the first of which had this number, and no transfer was left.
+pub record HasWorked (turns : ℕ) (p q : PassValue Start Event) : Type 0 where
   pub table : q.table ≡ p.table
   pub free : HoldsNone q.known
   pub goes_on : GoesOn p.known q.known
   pub none_left : (start : Start) → p.known.start ≡ Some start → IsDrained start.shape q.known.seen
+  pub turned : (start : Start) → p.known.start ≡ Some start → (next : ℕ) × Drains start.shape turns p.known next q.known
 
 -- what a part makes of itself and of its pass: a caller's has run its script, a worker's has made transfers
 abbrev pub RanScript : ScriptBody → PassValue Start Event → Part → PassValue Start Event → Type 0
 RanScript body p (Caller next) q = (next.script ≡ body.script) × (next.limit ≡ body.limit) × HasRunScript body.script.now body.limit next.outcome p q
 RanScript body p (Worker turns) q = ⊥
 
-abbrev pub MadeTransfers : PassValue Start Event → Part → PassValue Start Event → Type 0
-MadeTransfers p (Caller next) q = ⊥
-MadeTransfers p (Worker turns) q = HasWorked p q
+abbrev pub MadeTransfers : ℕ → PassValue Start Event → Part → PassValue Start Event → Type 0
+MadeTransfers turns p (Caller next) q = ⊥
+MadeTransfers turns p (Worker now) q = HasWorked turns p q
 
 abbrev pub DidOf : Part → PassValue Start Event → Part → PassValue Start Event → Type 0
 DidOf (Caller body) p next q = RanScript body p next q
-DidOf (Worker turns) p next q = MadeTransfers p next q
+DidOf (Worker turns) p next q = MadeTransfers turns p next q
 
 -- a fact of each item of a list and its place
 abbrev pub EachAt : {A : Type 0} → (ℕ → A → Type 0) → List A → Type 0
@@ -64,11 +66,12 @@ abbrev pub AreCallersThere : TableValue Start → Type 0
 AreCallersThere world = (place : ℕ) → place < length world.start.shape.callers → (c : CallerId) × IsPassOf world.start.shape c (made_pass world place).known
 
 module _ (world : TableValue Start) (scripts : List Script) (limit : ℕ) where
-  -- a caller's part has the script of the caller with the number of its pass, before its first line; the workers' parts stand behind those
+  -- A caller's part has the script of the caller with the number of its pass, before its first line. The workers' parts stand behind those,
+  -- and each begins with the turn of its own number.
   abbrev pub IsPartOf : ℕ → Part → Type 0
   IsPartOf place (Caller body) =
       (body.limit ≡ limit) × (find (is_script_of body.script.now.caller) scripts ≡ Some body.script.now) × IsPassOf world.start.shape body.script.now.caller (made_pass world place).known × (body.cursor ≡ going_on body.script.now.lines)
-  IsPartOf place (Worker turns) = length world.start.shape.callers ≤ place
+  IsPartOf place (Worker turns) = place ≡ length world.start.shape.callers + turns
 
   -- a part and its pass, before it runs
   abbrev pub IsReady : ℕ → Task Part → Type 0
@@ -82,10 +85,18 @@ module _ (world : TableValue Start) (scripts : List Script) (limit : ℕ) where
     pub is_told : body.outcome ≡ Some told
     pub run : HasRun world.start.shape body.script.now.caller body.script.now.lines limit told v n
 
-  -- the same of each part: a worker left no transfer
+  -- What is known of a worker's part: it made turns from that of its own number on, and left no transfer.
+  pub record HasRunWorker (place : ℕ) (n : Known Start Event) : Type 0 where
+    pub worker : ℕ
+    pub place_is : place ≡ length world.start.shape.callers + worker
+    pub none_left : IsDrained world.start.shape n.seen
+    pub mine : n.mine ≡ []
+    pub next : ℕ
+    pub turned : Drains world.start.shape worker (made_pass world place).known next n
+
   abbrev pub HasRunPart : ℕ → Part → Known Start Event → Type 0
   HasRunPart place (Caller body) n = HasRunCaller body (made_pass world place).known n
-  HasRunPart place (Worker turns) n = (length world.start.shape.callers ≤ place) × IsDrained world.start.shape n.seen
+  HasRunPart place (Worker turns) n = HasRunWorker place n
 
   -- A part has run. Its pass is still one of its world, has its number and holds no shard.
   pub record HasRunTask (place : ℕ) (task : Task Part) : Type 0 where

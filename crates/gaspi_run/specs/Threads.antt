@@ -1,5 +1,5 @@
 -- What is known of a world whose scripts ran on threads, and was closed. (own choice)
-use Rattle.std.specs.Prelude.{◌≡◌, ◌<◌, ℕ, true, false, List, [], ◌∷◌, ◌++◌, map, length, Option, Some, slice_get}
+use Rattle.std.specs.Prelude.{◌≡◌, ◌<◌, ◌+◌, ℕ, true, false, List, [], ◌∷◌, ◌++◌, map, length, Option, Some, slice_get}
 use Rattle.std.specs.List.{list_any, flat_map}
 use mathlib.Core.List.{IsPrefix}
 use Rattle.gaspi_types.specs.World.{World}
@@ -9,7 +9,10 @@ use Rattle.gaspi_types.specs.declared.events.Outcome.TheVariants.{Applied}
 use Rattle.gaspi_model.specs.Order.{IsWriteStanding, IsNotificationStanding, is_purge_of}
 use Rattle.gaspi_model.specs.Step.{is_legal, own_calls}
 use Rattle.commit_table.specs.Calls.{TallyValue}
+use Rattle.commit_table.specs.Views.{new_pass}
 use Rattle.commit_table.specs.declared.views.Known.{Known}
+use Rattle.notification_laws.specs.Contributions.{ContributesOnce}
+use Rattle.notification_laws.specs.Notifications.{HandsOutOnce}
 use Rattle.rank_script.specs.Runs.{going_on}
 use Rattle.rank_script.specs.declared.scripts.Script.{Script}
 use Rattle.gaspi_model.specs.CallerEvents.{events_of}
@@ -17,6 +20,8 @@ use Rattle.gaspi_world.specs.Callers.{IsPassOf}
 use Rattle.gaspi_world.specs.Waits.{Waited}
 use Rattle.gaspi_world.specs.declared.starts.Start.{Start}
 use Rattle.script_bodies.specs.Looks.{looks_along, AreWithin, AreByCall}
+use Rattle.transfer_worker.specs.Order.{Drains}
+use Rattle.transfer_worker.specs.Turns.{IsDrained}
 use Rattle.journal_texts.specs.JournalText.{AreInRange}
 use Rattle.gaspi_run.specs.Endings.{HasSettled, HaveEnded}
 use Rattle.gaspi_run.specs.declared.turns.Finished.{Finished}
@@ -39,13 +44,27 @@ pub record HadPass (w : World) (limit : ℕ) (journal : List Event) (passes : Li
   pub by_call : AreByCall script.caller journal looks
   pub within : AreWithin looks (looks_along limit (going_on script.lines) (own_calls script.caller.rank script.caller.thread journal))
 
--- A closed world began as this one and has this journal, and the callers of these scripts had its passes.
-pub record IsTallied (w : World) (scripts : List Script) (limit : ℕ) (journal : List Event) (tally : TallyValue Start Event) : Type 0 where
+-- A worker had a pass of the world, behind those of the callers, and made no calls by it. It made turns, the first of which had the number of
+-- the worker, until one through all ranks found that every caller has ended and all that was posted has arrived, broken queues aside.
+-- What it had seen is a prefix of the journal. (GASPI: one-sided communication)
+pub record HadWorker (start : Start) (journal : List Event) (passes : List (Known Start Event)) (worker : ℕ) : Type 0 where
+  pub pass : Known Start Event
+  pub there : slice_get passes (length start.shape.callers + worker) ≡ Some pass
+  pub mine : pass.mine ≡ []
+  pub saw : IsPrefix pass.seen journal
+  pub settled : IsDrained start.shape pass.seen
+  pub next : ℕ
+  pub turned : Drains start.shape worker (new_pass start (Some (length start.shape.callers + worker)) []) next pass
+
+-- A closed world began as this one and has this journal. The callers of these scripts had its passes, and so many workers, and nobody else.
+pub record IsTallied (w : World) (scripts : List Script) (workers limit : ℕ) (journal : List Event) (tally : TallyValue Start Event) : Type 0 where
   pub start : Start
   pub began : tally.start ≡ Some start
   pub world : start.shape ≡ w
   pub journal_is : tally.journal ≡ journal
   pub passes : (place : ℕ) (script : Script) → slice_get scripts place ≡ Some script → HadPass w limit journal tally.passes script
+  pub count : length tally.passes ≡ length w.callers + workers
+  pub workers_had : (worker : ℕ) → worker < workers → HadWorker start journal tally.passes worker
 
 -- Each notification came after all earlier writes of its lane: of each write that stood in the lane with a smaller number, and was not
 -- purged since, the put stands before that of the notification. (GASPI: notification order)
@@ -60,18 +79,20 @@ ComesAfterWrites w journal =
 abbrev pub ToldTally : Type 0
 ToldTally = Option (TallyValue Start Event)
 
--- The callers of a world ran their scripts by its passes, and it was then closed. Its journal is one legal history of the machine from
+-- The callers of a world ran their scripts by its passes, so many workers made its transfers, and it was then closed. Its journal is one legal history of the machine from
 -- the stated start. What is told of the closed world says that each call which a caller completed stands there once, with the reply that
 -- the caller got; that what the caller had seen begins the journal; and that no timeout came before its looks were spent. That each call
 -- came after what its caller had seen is said where calls are made (`Rank::attempt`). Each caller's calls are a run of its script; every
 -- caller has ended, and all that was posted has arrived, broken queues aside. Every notification came after all earlier writes of its
--- lane. The numbers of its events are those of their types, so its text is that of no other. How many threads there were is not said.
-pub record HasRunWorld (w : World) (scripts : List Script) (limit : ℕ) (journal : List Event) (tally : ToldTally) (finished : List Finished) : Type 0 where
+-- lane. No notification value was handed out twice, and nobody gave to a group twice. The numbers of its events are those of their types, so its text is that of no other. How many threads there were is not said.
+pub record HasRunWorld (w : World) (scripts : List Script) (workers limit : ℕ) (journal : List Event) (tally : ToldTally) (finished : List Finished) : Type 0 where
   pub legal : is_legal w journal ≡ true
   pub told : TallyValue Start Event
   pub tally_is : tally ≡ Some told
-  pub tallied : IsTallied w scripts limit journal told
+  pub tallied : IsTallied w scripts workers limit journal told
   pub ended : HaveEnded w scripts journal finished
   pub settled : HasSettled w journal
   pub notified : ComesAfterWrites w journal
+  pub handed : HandsOutOnce w journal
+  pub contributed : ContributesOnce w journal
   pub ranges : AreInRange journal

@@ -26,11 +26,11 @@ use std::thread::Threads;
 ///
 /// | Status | Where |
 /// |---|---|
-/// | 0 | every run came past its last line; of `check`: the journal is legal |
+/// | 0 | every run came past its last line; of `check`: the journal is legal; of `why`: and its notification was put there |
 /// | 1 | the words are refused |
 /// | 2 | the world text has a fault |
 /// | 3 | a caller has failed or is stuck |
-/// | 4 | `check`: there is no journal, or it is not legal |
+/// | 4 | `check`, `why`: there is no journal, or it is not legal; `why`: no notification was put at that place |
 /// | 5 | a read failed |
 /// | 6 | a write failed |
 /// | 7 | want of memory |
@@ -199,7 +199,9 @@ fn answer_command<R: Threads + Wait + Sync, S: Source, K: Sink>(
             ranks,
             rounds,
         } => run_bench(rt, alloc, seed, ranks, rounds, sink),
-        Command::Step { .. } | Command::Check => run_command(alloc, command, source, sink),
+        Command::Step { .. } | Command::Check | Command::Why { .. } => {
+            run_command(alloc, command, source, sink)
+        }
     }
 }
 

@@ -2,6 +2,7 @@
 #![tactic(auto)]
 
 mod commands;
+mod judging;
 mod moves;
 mod parts;
 mod scheduling;

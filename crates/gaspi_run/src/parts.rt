@@ -1,8 +1,9 @@
 //! What the threads of a world do: each runs the script of a caller, or makes transfers.
 
-ghost use Rattle.std.specs.Prelude.{◌≡◌};
+ghost use Rattle.std.specs.Prelude.{◌≡◌, ℕ};
 ghost use Rattle.commit_table.specs.Calls.{IsOf, HoldsNone};
 ghost use Rattle.gaspi_world.specs.Callers.{IsWorkers};
+ghost use Rattle.transfer_worker.specs.Order.{Drains};
 ghost use Rattle.transfer_worker.specs.Turns.{GoesOn, IsDrained};
 
 use gaspi_world::{Body, Pass, World};
@@ -29,6 +30,7 @@ fn drain<R: Wait>(rt: &R, world: &World, pass: &mut Pass, turns: u64)
     ensures free { HoldsNone pass.new.known }
     ensures goes_on { GoesOn pass.old.known pass.new.known }
     ensures drained { IsDrained world.now.start.shape pass.new.known.seen }
+    ensures turned { (next : ℕ) × Drains world.now.start.shape turns pass.old.known next pass.new.known }
 {
     Worker { world, pass, turns }.drain(rt);
 }

@@ -1,32 +1,30 @@
 //! What the commands tell of their inputs.
 
-ghost use Rattle.std.specs.Prelude.{◌≡◌, ◌<◌, ◌≤◌, ◌+◌, ◌^◌, ℕ, length, [], IfOk, IsErrOf, Err, None, true, false};
+ghost use Rattle.std.specs.Prelude.{◌≡◌, ◌≤◌, ℕ, IfOk, IsErrOf, Err, None, true};
 ghost use Rattle.journal_texts.specs.JournalText.{HaveOwnValues};
-ghost use Rattle.rank_script.specs.WorldText.{world_text, checked_world};
+ghost use Rattle.rank_script.specs.WorldText.{world_text};
 ghost use Rattle.rank_script.specs.declared.scripts.ScriptFault.TheVariants as script_faults;
-ghost use Rattle.text_lines.specs.Lines.{fed_lines};
 ghost use Rattle.command_line.specs.declared.words.Command.TheVariants as commands;
 ghost use Rattle.gaspi_model.specs.Step.{is_legal};
 ghost use Rattle.journal_numbers.specs.Numbers.{AreNumbers};
-ghost use Rattle.gaspi_run.specs.Command.{is_any_wrong, is_any_limit, run_status, run_text, numbers_text, IsWithin, is_plain, HasRunOnThreads, HasBenched, IsStepped, IsChecked, IsTold, IsRead, IsNoJournal, HasVerdict, world_read, why_word, verdict_text, verdict_status};
+ghost use Rattle.gaspi_run.specs.Command.{is_any_wrong, is_any_limit, run_status, run_text, numbers_text, IsWithin, is_plain, HasRunOnThreads, HasBenched, IsStepped, IsTold, world_read};
 
+use crate::judging::{Question, tell_judged};
 use crate::scheduling::schedule;
 use crate::threads::{RanOnThreads, run_on_threads};
 use crate::turns::Finished;
 use bench_laws::{bench_calls, bench_notifications, bench_transfers, bench_words};
-use call_journal::{Verdict, check};
 use command_line::Command;
-use gaspi_model::{StepFault, Why};
+use gaspi_model::StepFault;
 use gaspi_texts::write_number;
-use gaspi_types::{Bytes, NoMemory, Rows, Shape};
+use gaspi_types::{Bytes, NoMemory, Shape};
 use gaspi_world::Tally;
 use journal_numbers::{Numbers4, bench_numbers};
-use journal_texts::{Journal, JournalFault, read, write};
-use rank_script::{RunOutcome, ScriptFault, Scripts, bench_world, read_input, read_world};
+use journal_texts::{Journal, write};
+use rank_script::{RunOutcome, ScriptFault, Scripts, bench_world, read_world};
 use std::alloc::Global;
 use std::sync::Wait;
 use std::thread::Threads;
-use text_lines::first_line;
 use transcripts::write_transcripts;
 
 /// What a command tells of its input: the history, what is known of the closed world where threads ran it, the status, and the
@@ -104,7 +102,7 @@ pub fn tell_run<R: Threads + Wait + Sync>(
 ) -> Result<Told, ScriptFault>
     requires limit { 1 ≤ limit }
     requires workers { (1 ≤ workers) × (workers ≤ 4) }
-    ensures told { IfOk result (λ told. HasRunOnThreads limit brief input.now told.journal told.tally told.status told.text) }
+    ensures told { IfOk result (λ told. HasRunOnThreads workers limit brief input.now told.journal told.tally told.status told.text) }
     ensures fault { (number line : ℕ) → IsErrOf result (script_faults.At number line)
         → world_text input.now ≡ Err (record { number = number; line = line }) }
 {
@@ -212,129 +210,6 @@ fn tell_step(
     })
 }
 
-/// The word of why an event is no step.
-fn why_word(why: Why) -> &'static [u8]
-    ensures { result.now ≡ why_word why }
-{
-    match why {
-        Why::Caller => b"caller",
-        Why::Limit => b"limit",
-        Why::Join => b"join",
-        Why::Reply => b"reply",
-        Why::Take => b"take",
-        Why::Put => b"put",
-    }
-}
-
-/// The text of a verdict on so many events.
-fn verdict_text(alloc: Global, count: u64, verdict: Verdict) -> Result<Bytes, NoMemory>
-    ensures { IfOk result (λ text. text ≡ verdict_text count verdict) }
-{
-    let mut text = Bytes::new(alloc);
-    match verdict {
-        Verdict::Legal => {
-            text.append(b"legal ")?;
-            write_number(&mut text, count)?;
-        }
-        Verdict::Illegal { place, why } => {
-            text.append(b"illegal ")?;
-            write_number(&mut text, place)?;
-            text.append(b" ")?;
-            text.append(why_word(why))?;
-        }
-    }
-    text.append(b"\n")?;
-    Ok(text)
-}
-
-/// The status of a verdict.
-fn verdict_status(verdict: Verdict) -> u8
-    ensures { result ≡ verdict_status verdict }
-{
-    match verdict {
-        Verdict::Legal => 0,
-        Verdict::Illegal { .. } => 4,
-    }
-}
-
-/// Tells that an input has no journal, and at which of its lines.
-fn tell_no_journal(alloc: Global, line: u64) -> Result<Told, NoMemory>
-    ensures none { IfOk result (λ told. IsNoJournal line told.journal told.status told.text) }
-    ensures plain { IfOk result (λ told. told.tally ≡ None) }
-{
-    let mut text = Bytes::new(alloc);
-    text.append(b"not a journal ")?;
-    write_number(&mut text, line)?;
-    text.append(b"\n")?;
-    Ok(Told {
-        journal: Rows::new(alloc),
-        tally: None,
-        status: 4,
-        text,
-    })
-}
-
-/// Tells the verdict on a journal.
-fn tell_verdict(alloc: Global, shape: &Shape, journal: Journal) -> Result<Told, NoMemory>
-    ensures verdict { IfOk result (λ told. HasVerdict shape.now told.journal told.status told.text) }
-    ensures journal { IfOk result (λ told. told.journal ≡ journal) }
-    ensures plain { IfOk result (λ told. told.tally ≡ None) }
-{
-    let verdict = check(alloc, shape, &journal)?;
-    let text = verdict_text(alloc, journal.len() as u64, verdict)?;
-    Ok(Told {
-        journal,
-        tally: None,
-        status: verdict_status(verdict),
-        text,
-    })
-}
-
-/// How many lines a text has. The last may lack its line feed.
-fn line_count(text: &[u8]) -> u64
-    ensures count { result ≡ length (fed_lines text.now) }
-    ensures bound { result ≤ length text.now }
-{
-    let mut count: u64 = 0;
-    let mut rest = text;
-    while !rest.is_empty() {
-        let (_, later) = first_line(rest);
-        count += 1;
-        rest = later;
-    }
-    count
-}
-
-/// Reads the journal of an input, which begins at a line of that number, and tells the verdict on it.
-fn tell_journal(alloc: Global, shape: &Shape, text: &[u8], number: u64) -> Result<Told, NoMemory>
-    requires { (1 ≤ number) × (number + length text.now < 2 ^ 63) }
-    ensures read { IfOk result (λ told. IsRead shape.now text.now number told.journal told.status told.text) }
-    ensures plain { IfOk result (λ told. told.tally ≡ None) }
-{
-    match read(alloc, text) {
-        Ok(journal) => tell_verdict(alloc, shape, journal),
-        Err(JournalFault::At { line }) => tell_no_journal(alloc, number - 1 + line),
-        Err(JournalFault::NoMemory) => Err(NoMemory),
-    }
-}
-
-/// Checks the journal of an input against the world text before it.
-fn tell_check(alloc: Global, input: &[u8]) -> Result<Told, ScriptFault>
-    ensures told { IfOk result (λ told. IsChecked input.now told.journal told.status told.text) }
-    ensures plain { IfOk result (λ told. told.tally ≡ None) }
-    ensures fault { (number line : ℕ) → IsErrOf result (script_faults.At number line)
-        → checked_world input.now ≡ Err (record { number = number; line = line }) }
-{
-    let (shape, _scripts, place) = read_input(alloc, input)?;
-    match place {
-        None => Ok(tell_no_journal(alloc, line_count(input) + 1)?),
-        Some((place, number)) => {
-            let journal = &input[place as usize..];
-            Ok(tell_journal(alloc, &shape, journal, number)?)
-        }
-    }
-}
-
 /// What a command that needs no threads tells of an input, or the first fault of the world text in it.
 pub fn tell(alloc: Global, command: Command, input: &[u8]) -> Result<Told, ScriptFault>
     requires within { IsWithin command }
@@ -346,6 +221,7 @@ pub fn tell(alloc: Global, command: Command, input: &[u8]) -> Result<Told, Scrip
     match command {
         Command::Run { .. } | Command::Bench { .. } => unreachable!(),
         Command::Step { seed, limit, brief } => tell_step(alloc, seed, limit, brief, input),
-        Command::Check => tell_check(alloc, input),
+        Command::Check => tell_judged(alloc, input, Question::Verdict),
+        Command::Why { place } => tell_judged(alloc, input, Question::Writes { place }),
     }
 }

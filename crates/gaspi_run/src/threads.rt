@@ -4,6 +4,8 @@ ghost use Rattle.std.specs.Prelude.{◌≡◌, ◌≤◌, IfOk, true, Some, map}
 ghost use Rattle.journal_texts.specs.JournalText.{HaveOwnValues};
 ghost use Rattle.commit_table.specs.Calls.{AreWhole};
 ghost use Rattle.gaspi_model.specs.Step.{is_legal};
+ghost use Rattle.notification_laws.specs.Contributions.{ContributesOnce};
+ghost use Rattle.notification_laws.specs.Notifications.{HandsOutOnce};
 ghost use Rattle.gaspi_world.specs.Closing.{HaveSeen, HaveDone};
 ghost use Rattle.rank_script.specs.WorldText.{AreScriptsOf};
 ghost use Rattle.gaspi_run.specs.Threads.{HasRunWorld};
@@ -35,6 +37,8 @@ fn closed(alloc: Global, world: World, passes: Passes) -> Result<(Journal, Tally
     ensures legal { IfOk result (λ r. is_legal world.start.shape r.0 ≡ true) }
     ensures seen { IfOk result (λ r. HaveSeen r.0 passes.items) }
     ensures done { IfOk result (λ r. HaveDone world.start.shape r.0 passes.items) }
+    ensures handed { IfOk result (λ r. HandsOutOnce world.start.shape r.0) }
+    ensures contributed { IfOk result (λ r. ContributesOnce world.start.shape r.0) }
 {
     match world.close(alloc, passes) {
         Ok(closed) => Ok(closed),
@@ -55,7 +59,7 @@ pub fn run_on_threads<R: Threads + Wait + Sync>(
     requires limit { 1 ≤ limit }
     requires workers { (1 ≤ workers) × (workers ≤ 4) }
     requires scripts { AreScriptsOf shape.now scripts.now }
-    ensures ran { IfOk result (λ ran. HasRunWorld shape.now scripts.now limit ran.journal (Some ran.tally) ran.outcomes) }
+    ensures ran { IfOk result (λ ran. HasRunWorld shape.now scripts.now workers limit ran.journal (Some ran.tally) ran.outcomes) }
     ensures values { IfOk result (λ ran. HaveOwnValues ran.journal) }
 {
     settling();

@@ -6,6 +6,8 @@ ghost use Rattle.gaspi_types.specs.World as shapes;
 ghost use Rattle.gaspi_types.specs.World.{IsWorld};
 ghost use Rattle.gaspi_types.specs.declared.events.Event.{Event};
 ghost use Rattle.gaspi_model.specs.Step.{is_legal};
+ghost use Rattle.notification_laws.specs.Contributions.{ContributesOnce};
+ghost use Rattle.notification_laws.specs.Notifications.{HandsOutOnce};
 ghost use Rattle.gaspi_world.specs.Closing.{HaveSeen, HaveDone, journals_of};
 ghost use Rattle.gaspi_world.specs.WorldMachine.{world_machine};
 
@@ -14,6 +16,7 @@ use crate::starts::Start;
 use crate::worlds::{Passes, World};
 use commit_table::Ended;
 use journal_texts::{Journal, MergeRoom};
+use notification_laws::{contribution_counts, notification_values};
 use std::alloc::Global;
 use std::boxed::Box;
 
@@ -58,7 +61,11 @@ fn close_with(world: World, passes: Passes, room: MergeRoom) -> (Journal, Tally)
     ensures legal { is_legal world.start.shape result.0 ≡ true }
     ensures seen { HaveSeen result.0 passes.items }
     ensures done { HaveDone world.start.shape result.0 passes.items }
+    ensures handed { HandsOutOnce world.start.shape result.0 }
+    ensures contributed { ContributesOnce world.start.shape result.0 }
 {
+    contribution_counts();
+    notification_values();
     world.shape().limits();
     let Ended { shards, tally } = world.into_table().close(passes);
     (merged(shards, room), tally)
@@ -74,6 +81,8 @@ impl World {
         ensures legal { IfOk result (λ r. is_legal self.start.shape r.0 ≡ true) }
         ensures seen { IfOk result (λ r. HaveSeen r.0 passes.items) }
         ensures done { IfOk result (λ r. HaveDone self.start.shape r.0 passes.items) }
+        ensures handed { IfOk result (λ r. HandsOutOnce self.start.shape r.0) }
+        ensures contributed { IfOk result (λ r. ContributesOnce self.start.shape r.0) }
         ensures unclosed { IfErr result (λ u. (u.world ≡ self) × (u.passes.items ≡ passes.items)) }
     {
         let limits = self.shape().limits();

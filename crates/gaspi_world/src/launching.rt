@@ -36,9 +36,9 @@ pub struct Task<B> {
     pub pass: Pass,
 }
 
-/// Runs every body once, each on a thread of its own. Where no thread can be had, the bodies run one after another in the
-/// order of the list, so callers stand before workers there.
-pub fn launch<R: Threads + Wait + Sync, B: Body + Send>(
+/// Runs every body once, each on a thread of its own. Where no thread can be had, those at the back of the list run before those in
+/// front of them.
+fn launch_from_the_back<R: Threads + Wait + Sync, B: Body + Send>(
     rt: &R,
     alloc: Global,
     world: &World,
@@ -60,4 +60,21 @@ pub fn launch<R: Threads + Wait + Sync, B: Body + Send>(
             ensures { B.did task.entry.now.body task.entry.now.pass task.exit.now.body task.exit.now.pass }
         { task.body.run(rt, alloc, world, &mut task.pass) },
     );
+}
+
+/// Runs every body once, each on a thread of its own. Where no thread can be had, the bodies run one after another in the
+/// order of the list, so callers stand before workers there.
+pub fn launch<R: Threads + Wait + Sync, B: Body + Send>(
+    rt: &R,
+    alloc: Global,
+    world: &World,
+    tasks: &mut [Task<B>],
+)
+    requires { All (λ t. B.needs t.body world.now t.pass) tasks.old }
+    ensures count { length tasks.new ≡ length tasks.old }
+    ensures did { (i : ℕ) (d : Task B) → i < length tasks.old → B.did (slice_index_or tasks.old i d).body (slice_index_or tasks.old i d).pass (slice_index_or tasks.new i d).body (slice_index_or tasks.new i d).pass }
+{
+    tasks.reverse();
+    launch_from_the_back(rt, alloc, world, tasks);
+    tasks.reverse();
 }

@@ -2,7 +2,7 @@
 use Rattle.std.proofs.Common.{ℕ, List, [], Option, None, Some, refl, inr, arith}
 use Rattle.gaspi_io.specs.Source.{TakesAtMost}
 use Rattle.command_line.specs.declared.words.Command.{Command}
-use Rattle.command_line.specs.declared.words.Command.TheVariants.{Run, Step, Check, Bench}
+use Rattle.command_line.specs.declared.words.Command.TheVariants.{Run, Step, Check, Why, Bench}
 use Rattle.gaspi_run.specs.Command.{Refuses, Answers, LacksMemory}
 use Rattle.gaspi_run.specs.declared.commands.Answer.{Answer}
 
@@ -30,4 +30,5 @@ pub starved-answers : (command : Command) (left held : Option (List ℕ)) (fault
 starved-answers (Run workers limit brief) left held faults sink_faults = inr (inr (inr (inr (starved-input left held faults sink_faults))))
 starved-answers (Step seed limit brief) left held faults sink_faults = inr (inr (inr (inr (starved-input left held faults sink_faults))))
 starved-answers Check left held faults sink_faults = inr (inr (inr (inr (starved-input left held faults sink_faults))))
+starved-answers (Why place) left held faults sink_faults = inr (inr (inr (inr (starved-input left held faults sink_faults))))
 starved-answers (Bench seed ranks rounds) left held faults sink_faults = (refl, refl, inr (inr (record { kept = refl; still = refl; status = refl; empty = (refl, refl) })))

@@ -1,2 +1,3 @@
+pub mod InOrder
 pub mod StillRanks
 pub mod Tries

@@ -37,6 +37,7 @@ use Rattle.gaspi_model.proofs.Same.{same_reply-same}
 use Rattle.gaspi_model.proofs.Settled.EmptyLanes.{lanes-empty}
 use Rattle.gaspi_model.proofs.Sound.Steps.{limits-stay}
 use Rattle.gaspi_model.proofs.Sound.Told.{IsTold, told, told-get}
+use Rattle.transfer_worker.specs.StillRanks.{HasStopped}
 
 -- What stands in lists.
 
@@ -129,11 +130,6 @@ to-rank limits all origin posts t at is = flat-in (rank_transfers limits) (enume
 pub record AreSame (s t : State) (rank : ℕ) : Type 0 where
   pub limits : t.limits ≡ s.limits
   pub posts : (after : Posts) → slice_get t.posts rank ≡ Some after → (before : Posts) × (slice_get s.posts rank ≡ Some before) × (after.queues ≡ before.queues) × (after.threads ≡ before.threads)
-
--- No transfer of a rank may come next, and its threads have ended.
-pub record HasStopped (s : State) (rank : ℕ) : Type 0 where
-  pub none : (k : ℕ) (t : Transfer) → slice_get (transfers s.limits s.posts) k ≡ Some t → t.origin ≢ rank
-  pub ended : (thread : ℕ) → is_active s rank thread ≡ false
 
 stopped-same : (s t : State) (rank : ℕ) → AreSame s t rank → HasStopped s rank → HasStopped t rank
 stopped-same s t rank same stopped = record { none = none; ended = λ thread. ended thread (slice_get t.posts rank) refl }

@@ -22,10 +22,13 @@ use Rattle.gaspi_world.specs.WorldMachine.{world_machine}
 use Rattle.gaspi_model.specs.Parties.{party_of}
 use Rattle.gaspi_world.specs.declared.moving.Moving.{Moving}
 use Rattle.gaspi_world.specs.declared.moving.Moving.TheVariants as moves
+use Rattle.transfer_worker.specs.Order.{HaveTried, MakesTurn}
+use Rattle.transfer_worker.specs.StillRanks.{HasStopped}
 use Rattle.transfer_worker.specs.Turns.{with_try, GoesOn, IsDrained, IsMoved, IsMissed, IsStill, IsActive, IsEnded, AreTried, Turned}
 use Rattle.transfer_worker.specs.declared.turns.Turn.{Turn}
 use Rattle.transfer_worker.specs.declared.turns.Turn.TheVariants.{Moved, Busy, Idle, Drained}
-use Rattle.transfer_worker.proofs.StillRanks.{HasStopped, stays-stopped, all-stopped}
+use Rattle.transfer_worker.proofs.InOrder.{tried-next, turn-ends}
+use Rattle.transfer_worker.proofs.StillRanks.{stays-stopped, all-stopped}
 
 -- Beginnings of lists.
 
@@ -301,14 +304,15 @@ module _ {S : Type 0} (w : World) where
     pub goes_on : GoesOn old.known new.known
     pub legal : 0 < tries → is_legal w new.known.seen ≡ true
     pub tried : SoFar (Was first ranks tries) tries old.known so_far new.known
+    pub order : HaveTried w first tries old.known so_far new.known
 
   pub round-begins : (first ranks : ℕ) (old : PassValue S Event) → HoldsNone old.known → IsRound first ranks 0 old Drained old
-  round-begins first ranks old free = record { table = refl; free = free; goes_on = goes-same old.known; legal = λ less. absurd (omega arith); tried = none-tried first ranks old.known }
+  round-begins first ranks old free = record { table = refl; free = free; goes_on = goes-same old.known; legal = λ less. absurd (omega arith); tried = none-tried first ranks old.known; order = (refl, refl) }
 
   pub round-goes : ((history : List Event) → (world_machine w).Legal history ↔ (is_legal w history ≡ true))
-      → (first ranks tries origin : ℕ) (old mid new : PassValue S Event) (so_far : Turn) (moving : Moving) → origin ≡ (first + tries) % ranks → origin < w.limits.ranks → IsRound first ranks tries old so_far mid
+      → (first ranks tries origin : ℕ) (old mid new : PassValue S Event) (so_far : Turn) (moving : Moving) → ranks ≡ w.limits.ranks → origin ≡ (first + tries) % ranks → origin < w.limits.ranks → IsRound first ranks tries old so_far mid
       → new.table ≡ mid.table → HoldsNone new.known → Moves w origin mid.known moving new.known → moving ≢ moves.Moved → IsRound first ranks (tries + 1) old (with_try so_far moving) new
-  round-goes law first ranks tries origin old mid new so_far moving place rank round table free told stays =
+  round-goes law first ranks tries origin old mid new so_far moving all place rank round table free told stays =
       let on = moves-on origin mid.known new.known moving told in
       record {
         table = table ∙ round.table;
@@ -316,9 +320,20 @@ module _ {S : Type 0} (w : World) where
         goes_on = goes-then old.known mid.known new.known round.goes_on on.0;
         legal = λ less. (law new.known.seen).0 on.1;
         tried = try-more first ranks tries origin place old.known mid.known new.known so_far moving rank round.tried round.goes_on told stays;
+        order = tried-next w first ranks tries origin old.known mid.known new.known so_far moving all place round.order told stays;
       }
 
   pub round-ends : (first ranks tries : ℕ) (old new : PassValue S Event) (so_far : Turn) → ranks ≡ w.limits.ranks → tries ≡ ranks → IsWorld w → first < w.limits.ranks → IsRound first ranks tries old so_far new → Turned w old.known so_far new.known
   round-ends first ranks tries old new so_far is all world at round =
       let whole = subst (λ (n : ℕ). IsRound first n n old so_far new) is (subst (λ (n : ℕ). IsRound first ranks n old so_far new) all round) in
       all-turned first old.known new.known so_far world at (whole.legal (omega arith)) whole.tried
+
+  pub round-in-order : (first ranks tries : ℕ) (old new : PassValue S Event) (so_far : Turn) → ranks ≡ w.limits.ranks → tries ≡ ranks → IsRound first ranks tries old so_far new → MakesTurn w first old.known so_far new.known
+  round-in-order first ranks tries old new so_far is all round =
+      turn-ends w first old.known new.known so_far (subst (λ (n : ℕ). HaveTried w first n old.known so_far new.known) (all ∙ is) round.order) (never-moved so_far round.tried)
+    where
+      never-moved : (turn : Turn) → SoFar (Was first ranks tries) tries old.known turn new.known → turn ≢ Moved
+      never-moved Moved tried same = tried
+      never-moved Busy tried same = absurd (let never : ⊥ = cc in never)
+      never-moved Idle tried same = absurd (let never : ⊥ = cc in never)
+      never-moved Drained tried same = absurd (let never : ⊥ = cc in never)

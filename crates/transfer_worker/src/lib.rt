@@ -6,10 +6,12 @@
 //! waits in broken queues.
 #![tactic(auto)]
 
+mod laws;
 mod quiet;
 mod rounds;
 mod turns;
 mod workers;
 
+pub use laws::still_ranks;
 pub use turns::Turn;
 pub use workers::Worker;

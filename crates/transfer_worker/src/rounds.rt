@@ -4,6 +4,7 @@ ghost use Rattle.std.specs.Prelude.{◌≡◌, ◌<◌, true};
 ghost use Rattle.commit_table.specs.Calls.{IsOf, HoldsNone};
 ghost use Rattle.gaspi_model.specs.Step.{is_legal};
 ghost use Rattle.gaspi_world.specs.Callers.{IsWorkers};
+ghost use Rattle.transfer_worker.specs.Order.{MakesTurn, TriesOther, TriesOthers, with_other};
 ghost use Rattle.transfer_worker.specs.Turns.{GoesOn, Turned};
 
 use crate::quiet::QuietRanks;
@@ -22,6 +23,7 @@ pub fn try_all(world: &World, pass: &mut Pass, first: u32) -> Turn
     ensures goes_on { GoesOn pass.old.known pass.new.known }
     ensures legal { is_legal world.now.start.shape pass.new.known.seen ≡ true }
     ensures turned { Turned world.now.start.shape pass.old.known result pass.new.known }
+    ensures order { MakesTurn world.now.start.shape first pass.old.known result pass.new.known }
 {
     world_histories();
     let ranks = world.shape().limits().ranks;
@@ -44,8 +46,22 @@ pub enum Others {
     Moved,
     /// None was, and at a try another thread held a shard that the transfer needed.
     Busy,
-    /// All ranks are quiet, as far as is known.
+    /// None was, and at no try another thread held such a shard.
     Quiet,
+    /// No rank was tried: all are quiet, as far as is known.
+    Passed,
+}
+
+/// What ranks that did not move come to with one more.
+fn with_other(so_far: Others, other: Others) -> Others
+    ensures { result ≡ with_other so_far other }
+{
+    match (so_far, other) {
+        (_, Others::Moved) => Others::Moved,
+        (_, Others::Busy) => Others::Busy,
+        (Others::Passed, Others::Quiet) => Others::Quiet,
+        (so_far, _) => so_far,
+    }
 }
 
 /// Tries a rank, where it is not known to be quiet.
@@ -57,10 +73,11 @@ fn try_other(world: &World, pass: &mut Pass, origin: RankId, quiet: &mut QuietRa
     ensures table { pass.new.table ≡ pass.old.table }
     ensures free { HoldsNone pass.new.known }
     ensures goes_on { GoesOn pass.old.known pass.new.known }
+    ensures tried { TriesOther world.now.start.shape origin pass.old.known result pass.new.known }
 {
     let count = world.posts().count(origin.number());
     if quiet.is_quiet(origin.number(), count) {
-        return Others::Quiet;
+        return Others::Passed;
     }
     match world.transfer_lane(pass, origin) {
         Moving::Moved => Others::Moved,
@@ -81,15 +98,16 @@ pub fn try_others(world: &World, pass: &mut Pass, first: u32, quiet: &mut QuietR
     ensures table { pass.new.table ≡ pass.old.table }
     ensures free { HoldsNone pass.new.known }
     ensures goes_on { GoesOn pass.old.known pass.new.known }
+    ensures order { TriesOthers world.now.start.shape first pass.old.known result pass.new.known }
 {
     let ranks = world.shape().limits().ranks;
-    let mut so_far = Others::Quiet;
+    let mut so_far = Others::Passed;
     for next in 0..ranks {
-        match try_other(world, pass, RankId::of((first + next) % ranks), quiet) {
-            Others::Moved => return Others::Moved,
-            Others::Busy => so_far = Others::Busy,
-            Others::Quiet => {}
+        let other = try_other(world, pass, RankId::of((first + next) % ranks), quiet);
+        if other == Others::Moved {
+            return Others::Moved;
         }
+        so_far = with_other(so_far, other);
     }
     so_far
 }

@@ -1,9 +1,10 @@
 //! Workers.
 
-ghost use Rattle.std.specs.Prelude.{◌≡◌, ◌+◌, ◌%◌, ◌^◌, true};
+ghost use Rattle.std.specs.Prelude.{◌≡◌, ◌<◌, ◌+◌, ◌%◌, ◌^◌, true};
 ghost use Rattle.commit_table.specs.Calls.{IsOf, HoldsNone};
 ghost use Rattle.gaspi_model.specs.Step.{is_legal};
 ghost use Rattle.gaspi_world.specs.Callers.{IsWorkers};
+ghost use Rattle.transfer_worker.specs.Order.{Drains, GoesPast, MakesTurn, Rests, first_rank};
 ghost use Rattle.transfer_worker.specs.Turns.{GoesOn, Turned, IsDrained};
 
 use crate::quiet::QuietRanks;
@@ -23,6 +24,23 @@ pub struct Worker<'a> {
 }
 
 impl<'a> Worker<'a> {
+    /// The rank at which the next turn begins.
+    fn first(&self) -> u32
+        ensures first { result ≡ first_rank self.now.world.now.start.shape self.now.turns }
+        ensures rank { result < self.now.world.now.start.shape.limits.ranks }
+    {
+        let ranks = u64::from(self.world.shape().limits().ranks);
+        (self.turns % ranks) as u32
+    }
+
+    /// Counts a turn.
+    fn count(&mut self)
+        ensures same { (self.new.world ≡ self.old.world) × (self.new.pass ≡ self.old.pass) }
+        ensures turns { self.new.turns ≡ (self.old.turns + 1) % 2 ^ 64 }
+    {
+        self.turns = self.turns.wrapping_add(1);
+    }
+
     /// Tries each rank once, from another one on in each turn, and stops at the first that moved. It waits for nothing, and takes no memory.
     /// (GASPI: one-sided communication)
     pub fn turn(&mut self) -> Turn
@@ -36,11 +54,30 @@ impl<'a> Worker<'a> {
         ensures goes_on { GoesOn self.old.pass.now.known self.new.pass.now.known }
         ensures legal { is_legal self.old.world.now.start.shape self.new.pass.now.known.seen ≡ true }
         ensures turned { Turned self.old.world.now.start.shape self.old.pass.now.known result self.new.pass.now.known }
+        ensures order { MakesTurn self.old.world.now.start.shape (first_rank self.old.world.now.start.shape self.old.turns) self.old.pass.now.known result self.new.pass.now.known }
     {
-        let ranks = u64::from(self.world.shape().limits().ranks);
-        let first = (self.turns % ranks) as u32;
-        self.turns = self.turns.wrapping_add(1);
+        let first = self.first();
+        self.count();
         try_all(self.world, self.pass, first)
+    }
+
+    /// Makes a turn past those ranks that are known to be quiet. Where no rank was tried, it is not counted.
+    fn go_past(&mut self, quiet: &mut QuietRanks<'_>) -> Others
+        requires pass { IsOf self.old.world.now self.old.pass.now }
+        requires free { HoldsNone self.old.pass.now.known }
+        requires worker { IsWorkers self.old.world.now.start.shape self.old.pass.now.known }
+        ensures same { (self.new.world.now ≡ self.old.world.now) × (self.new.pass.ghost_name ≡ self.old.pass.ghost_name) }
+        ensures table { self.new.pass.now.table ≡ self.old.pass.now.table }
+        ensures free { HoldsNone self.new.pass.now.known }
+        ensures goes_on { GoesOn self.old.pass.now.known self.new.pass.now.known }
+        ensures past { GoesPast self.old.world.now.start.shape self.old.turns self.old.pass.now.known result self.new.turns self.new.pass.now.known }
+    {
+        let first = self.first();
+        let others = try_others(self.world, self.pass, first, quiet);
+        if others != Others::Passed {
+            self.count();
+        }
+        others
     }
 
     /// Pauses where all ranks are quiet, and makes a turn where none has posted meanwhile: whether nothing is left to do.
@@ -53,6 +90,7 @@ impl<'a> Worker<'a> {
         ensures free { HoldsNone self.new.pass.now.known }
         ensures goes_on { GoesOn self.old.pass.now.known self.new.pass.now.known }
         ensures drained { result ≡ true → (is_legal self.old.world.now.start.shape self.new.pass.now.known.seen ≡ true) × IsDrained self.old.world.now.start.shape self.new.pass.now.known.seen }
+        ensures rests { Rests self.old.world.now.start.shape self.old.turns self.old.pass.now.known result self.new.turns self.new.pass.now.known }
     {
         if pauses.pause_watching(rt, quiet) {
             return false;
@@ -63,9 +101,9 @@ impl<'a> Worker<'a> {
         }
     }
 
-    /// Makes transfers until all callers have ended and all that was posted has arrived, but for what waits in broken queues. Between
-    /// two turns it tries those ranks alone that have posted since a try found nothing, and a turn is made where none has for a while.
-    /// It takes no memory. (GASPI: one-sided communication)
+    /// Makes turns until all callers have ended and all that was posted has arrived, but for what waits in broken queues. A turn goes
+    /// through those ranks alone that have posted since a try found nothing, and may make several transfers of a lane; where none has
+    /// posted for a while, it goes through all. It takes no memory. (GASPI: one-sided communication)
     pub fn drain<R: Wait>(&mut self, rt: &R)
         requires pass { IsOf self.old.world.now self.old.pass.now }
         requires free { HoldsNone self.old.pass.now.known }
@@ -76,18 +114,15 @@ impl<'a> Worker<'a> {
         ensures goes_on { GoesOn self.old.pass.now.known self.new.pass.now.known }
         ensures legal { is_legal self.old.world.now.start.shape self.new.pass.now.known.seen ≡ true }
         ensures drained { IsDrained self.old.world.now.start.shape self.new.pass.now.known.seen }
+        ensures turns { Drains self.old.world.now.start.shape self.old.turns self.old.pass.now.known self.new.turns self.new.pass.now.known }
     {
-        let ranks = u64::from(self.world.shape().limits().ranks);
         let mut pauses = Pauses::new();
         let mut quiet = QuietRanks::none(self.world);
-        let mut tries = 0u64;
         for _ in rt.forever() {
-            let first = (tries % ranks) as u32;
-            tries = tries.wrapping_add(1);
-            match try_others(self.world, self.pass, first, &mut quiet) {
+            match self.go_past(&mut quiet) {
                 Others::Moved => pauses.reset(),
                 Others::Busy => pauses.pause(rt),
-                Others::Quiet => {
+                Others::Quiet | Others::Passed => {
                     if self.rest(rt, &mut pauses, &quiet) {
                         return;
                     }

@@ -107,6 +107,8 @@ fn stop_of(alloc: Global, length: usize, most: u64) -> Result<Option<ReadStop>, 
 fn more_than_may_come_is_long(rt: HostRuntime) -> Result<(), Fail> {
     let alloc = rt.alloc();
     assert!(rt; stop_of(alloc, 1, 0)? == Some(ReadStop::Long));
+    assert!(rt; stop_of(alloc, 3, 3)? == None);
+    assert!(rt; stop_of(alloc, 4, 3)? == Some(ReadStop::Long));
     assert!(rt; stop_of(alloc, 4096, 4096)? == None);
     assert!(rt; stop_of(alloc, 4097, 4096)? == Some(ReadStop::Long));
     Ok(())

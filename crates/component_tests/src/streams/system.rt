@@ -91,6 +91,83 @@ fn interrupted_calls_are_made_64_times(rt: HostRuntime) {
     assert!(rt; writes(64, 1) == failed);
 }
 
+/// A stream of the text, byte by byte, that fails once, when it is asked for the second one.
+#[derive(Drop)]
+struct Torn {
+    passed: usize,
+    failed: bool,
+}
+
+impl Torn {
+    /// The byte that passes.
+    fn pass(&mut self) -> io::Result<u8> {
+        let next = TEXT.get(self.passed);
+        if self.passed == 1 && !self.failed {
+            self.failed = true;
+            return Err(io::Error::from(ErrorKind::BrokenPipe));
+        }
+        self.passed = self.passed.saturating_add(1);
+        next.copied().ok_or(io::Error::from(ErrorKind::BrokenPipe))
+    }
+}
+
+impl Read for Torn {
+    fn read(&mut self, buf: &mut [u8]) -> io::Result<usize> {
+        let byte = self.pass()?;
+        if buf.is_empty() {
+            return Ok(0);
+        }
+        buf[0] = byte;
+        Ok(1)
+    }
+}
+
+/// Takes the byte that passes, and no other one.
+impl Write for Torn {
+    fn write(&mut self, piece: &[u8]) -> io::Result<usize> {
+        let byte = self.pass()?;
+        Ok(usize::from(piece.first() == Some(&byte)))
+    }
+
+    fn flush(&mut self) -> io::Result<()> {
+        Ok(())
+    }
+}
+
+const TORN: Torn = Torn {
+    passed: 0,
+    failed: false,
+};
+
+/// Reads a byte.
+fn byte_of(source: &mut StdSource<Torn>) -> Result<u8, Failed> {
+    let mut buf = [0; 1];
+    source.read(&mut buf)?;
+    Ok(buf[0])
+}
+
+/// What three reads of it give.
+fn torn_reads() -> [Result<u8, Failed>; 3] {
+    let mut source = StdSource::new(TORN);
+    let first = byte_of(&mut source);
+    let second = byte_of(&mut source);
+    [first, second, byte_of(&mut source)]
+}
+
+/// What three writes to it give, the last two of what is left after the first.
+fn torn_writes() -> [Result<usize, Failed>; 3] {
+    let mut sink = StdSink::new(TORN);
+    let first = sink.write(TEXT);
+    let second = sink.write(b"aspi");
+    [first, second, sink.write(b"aspi")]
+}
+
+#[test]
+fn a_stream_goes_on_after_a_fault(rt: HostRuntime) {
+    assert!(rt; torn_reads() == [Ok(b'g'), Err(Failed), Ok(b'a')]);
+    assert!(rt; torn_writes() == [Ok(1), Err(Failed), Ok(1)]);
+}
+
 /// A writer that takes nothing when it is first asked, and a byte each time after.
 #[derive(Drop)]
 struct Slow {

@@ -1,10 +1,16 @@
-use Rattle.std.proofs.Common.{sym}
-use Rattle.call_journal.proofs.Replays.{reached-more}
+use Rattle.std.proofs.Common.{subst}
+use Rattle.std.proofs.lemmas.Result.{IfOk-weaker}
+use Rattle.call_journal.specs.Verdicts.{IsVerdict}
 use Rattle.call_journal.proofs.verdicts.check.Goals as goal
 
-pub loop-place-preserved : goal.loop-place-preserved
-loop-place-preserved c =
-    let is = c.event-item.is in
-    let stepped = c.in-Ok.ensures.step in
-    let less = c.loop-place-test.true in
-    reached-more c.args.shape.now c.args.journal.now c.loop-place.place c.event-item.result c.loop-place.machine c.step.new.self (rw (sym c.as_slice-event-items.ensures) less) (rw (sym c.as_slice-event-items.ensures) is) c.loop-place.invariant stepped
+pub returns-clause-handed : goal.returns-clause-handed
+returns-clause-handed c =
+    let w = c.args.shape.now in
+    let journal = c.args.journal.now in
+    IfOk-weaker c.replay.result _ _ (λ verdict judged same. c.notification_values.ensures w journal c.limits.ensures.world (subst (IsVerdict w journal) same judged)) c.replay.ensures
+
+pub returns-clause-contributed : goal.returns-clause-contributed
+returns-clause-contributed c =
+    let w = c.args.shape.now in
+    let journal = c.args.journal.now in
+    IfOk-weaker c.replay.result _ _ (λ verdict judged same. c.contribution_counts.ensures w journal c.limits.ensures.world (subst (IsVerdict w journal) same judged)) c.replay.ensures

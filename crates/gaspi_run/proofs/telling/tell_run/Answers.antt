@@ -1,6 +1,5 @@
 -- What a run on threads tells.
-use Rattle.std.proofs.Common.{refl, ap, ◌∙◌}
-use Rattle.gaspi_model.specs.Step.{is_legal}
+use Rattle.std.proofs.Common.{ap, ◌∙◌}
 use Rattle.gaspi_run.specs.Command.{run_status}
 use Rattle.gaspi_run.proofs.telling.tell_run.Goals as goal
 

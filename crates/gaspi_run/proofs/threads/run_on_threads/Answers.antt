@@ -4,6 +4,8 @@ use Rattle.gaspi_types.specs.declared.events.Event.{Event}
 use Rattle.commit_table.specs.Views.{new_pass}
 use Rattle.gaspi_model.specs.Step.{is_legal}
 use Rattle.gaspi_world.specs.Callers.{IsPassOf}
+use Rattle.notification_laws.specs.Contributions.{ContributesOnce}
+use Rattle.notification_laws.specs.Notifications.{HandsOutOnce}
 use Rattle.gaspi_run.proofs.RanWorlds.{known, legal-has-own, made-each, whole}
 use Rattle.gaspi_run.proofs.threads.run_on_threads.Goals as goal
 
@@ -40,5 +42,7 @@ returns-clause-ran g c =
       settled = all.2;
       notified = λ earlier later rest origin queue target m n is standing note less none.
           c.notification_order.ensures.order c.args.shape.now earlier later rest origin queue target m n (ap (is_legal c.args.shape.now) is ∙ legal) standing note less none;
+      handed = subst (λ (w : World). HandsOutOnce w c.in_ok-journal.journal) c.in_ok-world.ensures.start c.in_ok-journal.ensures.handed;
+      contributed = subst (λ (w : World). ContributesOnce w c.in_ok-journal.journal) c.in_ok-world.ensures.start c.in_ok-journal.ensures.contributed;
       ranges = c.journal_is_in_range.ensures.ranges;
     }

@@ -3,6 +3,8 @@ use Rattle.gaspi_types.specs.declared.events.Event.{Event}
 use Rattle.gaspi_types.specs.World.{IsWorld}
 use Rattle.gaspi_model.specs.Step.{is_legal}
 use Rattle.commit_table.specs.Calls.{TableValue, AreWhole, AreShards, Closed}
+use Rattle.notification_laws.specs.Contributions.{ContributesOnce}
+use Rattle.notification_laws.specs.Notifications.{HandsOutOnce}
 use Rattle.gaspi_world.specs.Closing.{HaveSeen, HaveDone}
 use Rattle.gaspi_world.specs.WorldMachine.{world_machine}
 use Rattle.gaspi_world.specs.declared.starts.Start.{Start}
@@ -58,3 +60,21 @@ returns-clause-done c =
     let world = subst IsWorld c.shape.ensures c.limits.ensures.world in
     let passes = c.args.passes.items in
     subst (λ (h : List Event). HaveDone shape h passes) (sym (c.merged.ensures shape journal world are closed.legal)) (done-all shape journal passes c.close-shards.result.tally.passes closed c.close-shards.ensures.passes world)
+
+pub returns-clause-handed : goal.returns-clause-handed
+returns-clause-handed c =
+    let shape = c.args.world.start.shape in
+    let journal = c.close-shards.result.tally.journal in
+    let closed = subst (λ (t : TableValue Start). Closed (world_machine t.start.shape) journal c.close-shards.result.tally.passes) c.into_table.ensures c.close-shards.ensures.journal in
+    let are = subst (λ (t : TableValue Start). AreShards (world_machine t.start.shape) c.close-shards.result.shards.items journal) c.into_table.ensures c.close-shards.ensures.shards in
+    let world = subst IsWorld c.shape.ensures c.limits.ensures.world in
+    subst (λ (h : List Event). HandsOutOnce shape h) (sym (c.merged.ensures shape journal world are closed.legal)) (c.notification_values.ensures shape journal world closed.legal)
+
+pub returns-clause-contributed : goal.returns-clause-contributed
+returns-clause-contributed c =
+    let shape = c.args.world.start.shape in
+    let journal = c.close-shards.result.tally.journal in
+    let closed = subst (λ (t : TableValue Start). Closed (world_machine t.start.shape) journal c.close-shards.result.tally.passes) c.into_table.ensures c.close-shards.ensures.journal in
+    let are = subst (λ (t : TableValue Start). AreShards (world_machine t.start.shape) c.close-shards.result.shards.items journal) c.into_table.ensures c.close-shards.ensures.shards in
+    let world = subst IsWorld c.shape.ensures c.limits.ensures.world in
+    subst (λ (h : List Event). ContributesOnce shape h) (sym (c.merged.ensures shape journal world are closed.legal)) (c.contribution_counts.ensures shape journal world closed.legal)

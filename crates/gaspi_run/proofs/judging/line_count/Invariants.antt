@@ -1,6 +1,6 @@
 use Rattle.std.proofs.Common.{◌≡◌, ◌+◌, ◌≤◌, length}
 use Rattle.text_lines.specs.Lines.{fed_lines}
-use Rattle.gaspi_run.proofs.telling.line_count.Given as goal
+use Rattle.gaspi_run.proofs.judging.line_count.Given as goal
 
 -- the lines so far, and those behind
 abbrev pub invariant-loop-rest : goal.invariant-loop-rest

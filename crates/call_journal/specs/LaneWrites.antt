@@ -1,0 +1,105 @@
+-- The writes of a lane, as the events of a journal tell them. (own choice)
+use Rattle.std.specs.Prelude.{ℕ, zero, suc, ◌+◌, ◌-◌, ◌==◌, ◌&&◌, Bool, true, false, List, [], ◌∷◌, ◌++◌, map, nat_lt, Option, None, Some, if◌then◌else◌}
+use Rattle.gaspi_types.specs.CallRows.{row_of, entries_of}
+use Rattle.gaspi_types.specs.declared.call_rows.Posting.{Posting}
+use Rattle.gaspi_types.specs.declared.calls.Call.{Call}
+use Rattle.gaspi_types.specs.declared.calls.Call.TheVariants.{Write, Notify, WriteNotify, WriteList, WriteListNotify}
+use Rattle.gaspi_types.specs.declared.events.Event.{Event}
+use Rattle.gaspi_types.specs.declared.events.Event.TheVariants.{Called, Put}
+use Rattle.gaspi_types.specs.declared.events.Outcome.TheVariants.{Applied}
+use Rattle.gaspi_types.specs.declared.replies.Reply.TheVariants as replies
+use Rattle.gaspi_model.specs.Order.{is_purge_of}
+use Rattle.std.specs.List.{flat_map, slice_get}
+use Rattle.call_journal.specs.declared.answers.ArrivedWrite.{ArrivedWrite}
+use Rattle.call_journal.specs.declared.lane_writes.EntryPut.{EntryPut}
+use Rattle.call_journal.specs.declared.lane_writes.Post.{Post}
+use Rattle.call_journal.specs.declared.lane_writes.LaneWrite.{LaneWrite}
+
+-- how many writes a call posts that is done: its first entries
+abbrev pub writes_in : Call → ℕ
+writes_in (Write call) = entries_of (Write call)
+writes_in (WriteList call) = entries_of (WriteList call)
+writes_in (WriteNotify call) = entries_of (WriteNotify call) - 1
+writes_in (WriteListNotify call) = entries_of (WriteListNotify call) - 1
+writes_in call = 0
+
+-- whether its last entry is a notification
+abbrev pub is_noted : Call → Bool
+is_noted (Notify call) = true
+is_noted (WriteNotify call) = true
+is_noted (WriteListNotify call) = true
+is_noted call = false
+
+-- what a caller of a rank posted by an event
+abbrev pub post_in : Call → Option Posting → Option Post
+post_in call None = None
+post_in call (Some to) = Some (record { posting = to; writes = writes_in call; noted = is_noted call })
+
+abbrev pub post_of : ℕ → Event → Option Post
+post_of origin (Called c call replies.Done) = if c.rank == origin then post_in call (row_of call).posting else None
+post_of origin event = None
+
+-- how many entries it posted
+abbrev pub entries_in : Option Post → ℕ
+entries_in None = 0
+entries_in (Some post) = post.posting.entries
+
+-- whether it posted to the lane of an entry
+abbrev pub goes_to : EntryPut → Post → Bool
+goes_to at post = (post.posting.rank == at.target) && (post.posting.queue == at.queue)
+
+-- the number of the entry of that lane that an event has put
+abbrev pub put_in : EntryPut → Event → Option ℕ
+put_in at (Put origin queue target number Applied) = if (origin == at.origin) && ((queue == at.queue) && (target == at.target)) then Some number else None
+put_in at event = None
+
+-- the entry that an event has put, and the one at a place of a journal
+abbrev pub put_of : Event → Option EntryPut
+put_of (Put origin queue target number Applied) = Some (record { origin = origin; queue = queue; target = target; number = number })
+put_of event = None
+
+abbrev pub put_at : List Event → ℕ → Option EntryPut
+put_at journal place = of_event (slice_get journal place)
+  where
+    of_event : Option Event → Option EntryPut
+    of_event None = None
+    of_event (Some event) = put_of event
+
+-- the writes of a lane after a put
+abbrev pub put_here : ℕ → ℕ → LaneWrite → LaneWrite
+put_here number place x = if x.number == number then record x { put = Some place } else x
+
+abbrev pub with_put : Option ℕ → ℕ → List LaneWrite → List LaneWrite
+with_put None place writes = writes
+with_put (Some number) place writes = map (put_here number place) writes
+
+-- so many writes of a post at a place, numbered on from a number
+abbrev pub new_writes : ℕ → ℕ → ℕ → List LaneWrite
+new_writes place number zero = []
+new_writes place number (suc count) = record { post = place; number = number; put = None } ∷ new_writes place (number + 1) count
+
+-- the writes that an event posts to the lane, where its origin's next entry has that number
+abbrev pub writes_to : EntryPut → Option Post → ℕ
+writes_to at None = 0
+writes_to at (Some post) = if goes_to at post then post.writes else 0
+
+-- whether it posts the entry itself, as a notification
+abbrev pub is_note : EntryPut → ℕ → Option Post → Bool
+is_note at next None = false
+is_note at next (Some post) = goes_to at post && (post.noted && (next + post.posting.entries == at.number + 1))
+
+-- the writes of the lane after an event: none of those before it after a purge
+abbrev pub writes_after : EntryPut → ℕ → Event → ℕ → List LaneWrite → List LaneWrite
+writes_after at place event next writes =
+    (if is_purge_of at.origin at.queue event then [] else with_put (put_in at event) place writes) ++ new_writes place next (writes_to at (post_of at.origin event))
+
+-- of the writes with a smaller number those that are put, with the places of their puts
+abbrev pub arrived_with : LaneWrite → Option ℕ → List ArrivedWrite
+arrived_with x None = []
+arrived_with x (Some put) = record { post = x.post; number = x.number; put = put } ∷ []
+
+abbrev pub arrived_one : ℕ → LaneWrite → List ArrivedWrite
+arrived_one number x = if nat_lt x.number number then arrived_with x x.put else []
+
+abbrev pub arrived : ℕ → List LaneWrite → List ArrivedWrite
+arrived number writes = flat_map (arrived_one number) writes

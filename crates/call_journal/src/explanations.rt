@@ -1,0 +1,50 @@
+//! Which writes a notification stands for.
+
+ghost use Rattle.std.specs.Prelude.{◌≡◌, ◌*◌, ◌≤◌, true, length, IfOk};
+ghost use Rattle.call_journal.specs.Explanations.{IsWhyAnswer};
+ghost use Rattle.gaspi_model.specs.Step.{is_legal};
+ghost use Rattle.gaspi_types.specs.World.{World, IsWorld};
+
+use crate::answers::WhyAnswer;
+use crate::lane_writes::{arrived, lane_writes, put_at};
+use crate::verdicts::{Verdict, check};
+use gaspi_model::history_lengths;
+use gaspi_types::{NoMemory, Shape};
+use journal_texts::Journal;
+use std::alloc::Global;
+
+/// The answer for a place of a journal that is legal.
+fn explained(alloc: Global, journal: &Journal, place: u64) -> Result<WhyAnswer, NoMemory>
+    requires { length journal.now ≤ 16 * 65536 }
+    ensures { IfOk result (λ answer. (w : World) → IsWorld w → is_legal w journal.now ≡ true → IsWhyAnswer w journal.now place answer) }
+{
+    let Some(at) = put_at(journal, place) else {
+        return Ok(WhyAnswer::NoNotification);
+    };
+    let found = lane_writes(alloc, journal, place as usize, &at)?;
+    if !found.noted {
+        return Ok(WhyAnswer::NoNotification);
+    }
+    let writes = arrived(alloc, &found.writes, at.number)?;
+    Ok(WhyAnswer::Writes(writes))
+}
+
+/// Which writes the notification stands for that is put at a place of a journal: those of its lane that were posted before it, and after
+/// the last purge of their queue. The whole journal is judged first, as by `check`. A place behind its end is that of no notification,
+/// and so is that of a take, of a put that failed, and of the put of a write, of a read or of the notification of a read. (GASPI:
+/// notification order, queue_purge)
+pub fn why(
+    alloc: Global,
+    shape: &Shape,
+    journal: &Journal,
+    place: u64,
+) -> Result<WhyAnswer, NoMemory>
+    ensures { IfOk result (λ answer. IsWhyAnswer shape.now journal.now place answer) }
+{
+    history_lengths();
+    shape.limits();
+    match check(alloc, shape, journal)? {
+        Verdict::Legal => explained(alloc, journal, place),
+        Verdict::Illegal { place, why } => Ok(WhyAnswer::Illegal { place, why }),
+    }
+}

@@ -1,0 +1,286 @@
+//! The writes of a lane, as the events of a journal tell them.
+
+ghost use Rattle.std.specs.Prelude.{◌≡◌, ℕ, ◌+◌, ◌*◌, ◌^◌, ◌<◌, ◌≤◌, ◌||◌, ◌++◌, [], true, length, if◌then◌else◌, IfOk, OnOk, Some};
+ghost use Rattle.gaspi_model.specs.Order.{is_purge_of};
+ghost use Rattle.gaspi_model.specs.Step.{is_legal};
+ghost use Rattle.gaspi_types.specs.CallRows.{entries_of};
+ghost use Rattle.gaspi_types.specs.World.{World, IsWorld};
+ghost use Rattle.call_journal.specs.LaneWrites.{writes_in, is_noted, post_of, goes_to, entries_in, writes_to, is_note, put_in, put_of, put_at, with_put, new_writes, writes_after, arrived, arrived_one};
+ghost use Rattle.call_journal.specs.Tracked.{IsTracked, Rise};
+
+use crate::answers::ArrivedWrite;
+use gaspi_types::{Call, Event, NoMemory, Outcome, Posting, QueueId, RankId, Reply, Rows};
+use journal_texts::Journal;
+use std::alloc::Global;
+
+/// The put of an entry: its lane and its number.
+#[derive(Clone, Copy, Debug, PartialEq, Eq)]
+pub struct EntryPut {
+    pub origin: RankId,
+    pub queue: QueueId,
+    pub target: RankId,
+    pub number: u32,
+}
+
+/// What a call posted that is done: how many entries, to which lane, how many of them are writes, which come first, and whether a
+/// notification is the last.
+#[derive(Clone, Copy, Debug, PartialEq, Eq)]
+pub struct Post {
+    pub posting: Posting,
+    pub writes: u32,
+    pub noted: bool,
+}
+
+/// A write: the place of the call that posted it, its number, and the place of its put, where it is put.
+#[derive(Clone, Copy, Debug, PartialEq, Eq)]
+pub struct LaneWrite {
+    pub post: u64,
+    pub number: u32,
+    pub put: Option<u64>,
+}
+
+/// How many writes a call posts that is done.
+fn writes_in(call: &Call) -> u32
+    ensures value { result ≡ writes_in call.now }
+    ensures few { result ≤ entries_of call.now }
+{
+    let entries = call.row().entries();
+    match call {
+        Call::Write(_) | Call::WriteList(_) => entries,
+        Call::WriteNotify(_) | Call::WriteListNotify(_) => entries.saturating_sub(1),
+        _ => 0,
+    }
+}
+
+/// Whether a call posts a notification.
+fn is_noted(call: &Call) -> bool
+    ensures { result ≡ is_noted call.now }
+{
+    matches!(
+        call,
+        Call::Notify(_) | Call::WriteNotify(_) | Call::WriteListNotify(_)
+    )
+}
+
+/// What a caller of a rank posted by an event, where it did.
+fn post_of(event: &Event, origin: RankId) -> Option<Post>
+    ensures { result ≡ post_of origin event.now }
+{
+    match event {
+        Event::Called(caller, call, Reply::Done) if caller.rank.number() == origin.number() => {
+            let posting = call.row().posting?;
+            Some(Post {
+                posting,
+                writes: writes_in(call),
+                noted: is_noted(call),
+            })
+        }
+        _ => None,
+    }
+}
+
+/// Whether a post goes to the lane of an entry.
+fn goes_to(at: &EntryPut, post: &Post) -> bool
+    ensures { result ≡ goes_to at.now post.now }
+{
+    post.posting.rank == u64::from(at.target.number())
+        && post.posting.queue == u64::from(at.queue.number())
+}
+
+/// How many entries were posted.
+fn entries_in(post: Option<Post>) -> u32
+    ensures { result ≡ entries_in post }
+{
+    match post {
+        Some(post) => post.posting.entries,
+        None => 0,
+    }
+}
+
+/// How many writes were posted to the lane of an entry.
+fn writes_to(at: &EntryPut, post: Option<Post>) -> u32
+    ensures { result ≡ writes_to at.now post }
+{
+    match post {
+        Some(post) if goes_to(at, &post) => post.writes,
+        _ => 0,
+    }
+}
+
+/// Whether an entry itself was posted, as the notification of a post, where the first of the post had that number.
+fn is_note(at: &EntryPut, next: u32, post: Option<Post>) -> bool
+    ensures { result ≡ is_note at.now next post }
+{
+    match post {
+        Some(post) if goes_to(at, &post) && post.noted => {
+            let number = at.number;
+            u64::from(next) + u64::from(post.posting.entries) == u64::from(number) + 1
+        }
+        _ => false,
+    }
+}
+
+/// The entry that an event has put, where it has put one.
+fn put_of(event: &Event) -> Option<EntryPut>
+    ensures { result ≡ put_of event.now }
+{
+    match event {
+        Event::Put(origin, queue, target, number, Outcome::Applied) => Some(EntryPut {
+            origin: *origin,
+            queue: *queue,
+            target: *target,
+            number: *number,
+        }),
+        _ => None,
+    }
+}
+
+/// The entry that the event at a place of a journal has put, where it has put one.
+pub fn put_at(journal: &Journal, place: u64) -> Option<EntryPut>
+    ensures { result ≡ put_at journal.now place }
+{
+    match journal.get(place as usize) {
+        Some(event) => put_of(event),
+        None => None,
+    }
+}
+
+/// The number of the entry of that lane that an event has put, where it has put one.
+fn put_in(at: &EntryPut, event: &Event) -> Option<u32>
+    ensures { result ≡ put_in at.now event.now }
+{
+    match event {
+        Event::Put(origin, queue, target, number, Outcome::Applied)
+            if origin.number() == at.origin.number()
+                && queue.number() == at.queue.number()
+                && target.number() == at.target.number() => { Some(*number) }
+        _ => None,
+    }
+}
+
+/// Whether an event is a purge of the queue of that lane that was done.
+fn is_purge(at: &EntryPut, event: &Event) -> bool
+    ensures { result ≡ is_purge_of at.now.origin at.now.queue event.now }
+{
+    match event {
+        Event::Called(caller, Call::Purge(call), Reply::Done) => {
+            caller.rank.number() == at.origin.number() && call.queue == u64::from(at.queue.number())
+        }
+        _ => false,
+    }
+}
+
+/// Tells of the write with a number that it is put at a place.
+fn mark(writes: &mut Vec<LaneWrite>, number: u32, place: u64)
+    requires { (next : ℕ) × Rise 0 writes.old.items next }
+    ensures { writes.new.items ≡ with_put (Some number) place writes.old.items }
+{
+    if let Ok(found) = writes.binary_search_by_key(&number, |write| write.number) {
+        writes[found].put = Some(place);
+    }
+}
+
+/// Leaves of the writes of a lane what an event at a place leaves: none after a purge of the queue, and else all, with the place where
+/// it has put one of them.
+fn keep(writes: &mut Vec<LaneWrite>, at: &EntryPut, place: u64, event: &Event)
+    requires { (next : ℕ) × Rise 0 writes.old.items next }
+    ensures { writes.new.items ≡ (if is_purge_of at.now.origin at.now.queue event.now then [] else with_put (put_in at.now event.now) place writes.old.items) }
+{
+    if is_purge(at, event) {
+        writes.clear();
+        return;
+    }
+    if let Some(number) = put_in(at, event) {
+        mark(writes, number, place);
+    }
+}
+
+/// Adds so many writes of a post, numbered on from a number.
+fn add(writes: &mut Vec<LaneWrite>, place: u64, first: u32, count: u32) -> Result<(), NoMemory>
+    requires { first + count < 2 ^ 32 }
+    ensures { OnOk result (writes.new.items ≡ writes.old.items ++ new_writes place first count) }
+{
+    for number in first..first + count {
+        writes.push(LaneWrite {
+            post: place,
+            number,
+            put: None,
+        })?;
+    }
+    Ok(())
+}
+
+/// What the events of a journal up to a place tell of the lane of an entry.
+#[derive(Debug, Drop)]
+pub struct LaneWrites {
+    /// The number of the next entry of its origin.
+    pub next: u32,
+    /// Whether the entry itself was posted as a notification.
+    pub noted: bool,
+    /// The writes that were posted since the last purge of its queue, by rising number.
+    pub writes: Vec<LaneWrite>,
+}
+
+impl LaneWrites {
+    /// Takes the event at a place in.
+    fn pass(&mut self, at: &EntryPut, place: u64, event: &Event) -> Result<(), NoMemory>
+        requires few { self.old.next ≤ 2 ^ 30 }
+        requires rise { Rise 0 self.old.writes.items self.old.next }
+        ensures next { OnOk result (self.new.next ≡ self.old.next + entries_in (post_of at.now.origin event.now)) }
+        ensures noted { OnOk result (self.new.noted ≡ (self.old.noted || is_note at.now self.old.next (post_of at.now.origin event.now))) }
+        ensures writes { OnOk result (self.new.writes.items ≡ writes_after at.now place event.now self.old.next self.old.writes.items) }
+    {
+        let post = post_of(event, at.origin);
+        keep(&mut self.writes, at, place, event);
+        add(&mut self.writes, place, self.next, writes_to(at, post))?;
+        self.noted |= is_note(at, self.next, post);
+        self.next += entries_in(post);
+        Ok(())
+    }
+}
+
+/// What the events before a place of a journal tell of the lane of an entry.
+pub fn lane_writes(
+    alloc: Global,
+    journal: &Journal,
+    place: usize,
+    at: &EntryPut,
+) -> Result<LaneWrites, NoMemory>
+    requires there { place ≤ length journal.now }
+    requires short { length journal.now ≤ 16 * 65536 }
+    ensures rise { IfOk result (λ found. Rise 0 found.writes.items found.next) }
+    ensures tracked { IfOk result (λ found. (w : World) → IsWorld w → is_legal w journal.now ≡ true → IsTracked w journal.now place at.now found.next found.noted found.writes.items) }
+{
+    let mut found = LaneWrites {
+        next: 0,
+        noted: false,
+        writes: Vec::new(alloc),
+    };
+    let earlier = &journal.as_slice()[..place];
+    for (before, event) in earlier.iter().enumerate() {
+        found.pass(at, before as u64, event)?;
+    }
+    Ok(found)
+}
+
+/// The writes with a smaller number that are put.
+pub fn arrived(
+    alloc: Global,
+    writes: &[LaneWrite],
+    number: u32,
+) -> Result<Rows<ArrivedWrite>, NoMemory>
+    ensures { IfOk result (λ list. list ≡ arrived number writes.now) }
+{
+    let mut list = Rows::new(alloc);
+    for write in writes {
+        match write.put {
+            Some(put) if write.number < number => list.push(ArrivedWrite {
+                post: write.post,
+                number: write.number,
+                put,
+            })?,
+            _ => {}
+        }
+    }
+    Ok(list)
+}

@@ -1,0 +1,265 @@
+//! What is told of a journal that was read: whether it is legal, or which writes a notification of it stands for.
+
+ghost use Rattle.std.specs.Prelude.{◌≡◌, ◌<◌, ◌≤◌, ◌+◌, ◌++◌, ◌^◌, ℕ, length, IfOk, OnOk, IsErrOf, Err, None};
+ghost use Rattle.std.specs.List.{flat_map};
+ghost use Rattle.rank_script.specs.WorldText.{checked_world};
+ghost use Rattle.rank_script.specs.declared.scripts.ScriptFault.TheVariants as script_faults;
+ghost use Rattle.text_lines.specs.Lines.{fed_lines};
+ghost use Rattle.gaspi_run.specs.Judging.{HasReply, HasVerdict, HasWrites, IsChecked, IsNoJournal, IsRead, illegal_text, verdict_status, verdict_text, why_status, why_text, why_word, write_line, writes_text, no_notification_text};
+
+use crate::telling::Told;
+use call_journal::{ArrivedWrite, Verdict, WhyAnswer, check, why};
+use gaspi_model::Why;
+use gaspi_texts::write_number;
+use gaspi_types::{Bytes, NoMemory, Rows, Shape};
+use journal_texts::{Journal, JournalFault, read};
+use rank_script::{ScriptFault, read_input};
+use std::alloc::Global;
+use text_lines::first_line;
+
+/// What is asked of a journal.
+#[derive(Clone, Copy, Debug, PartialEq, Eq)]
+pub enum Question {
+    /// Whether it is legal.
+    Verdict,
+    /// Which writes the notification stands for that was put at that place, from 0.
+    Writes { place: u64 },
+}
+
+/// The word of why an event is no step.
+fn why_word(why: Why) -> &'static [u8]
+    ensures { result.now ≡ why_word why }
+{
+    match why {
+        Why::Caller => b"caller",
+        Why::Limit => b"limit",
+        Why::Join => b"join",
+        Why::Reply => b"reply",
+        Why::Take => b"take",
+        Why::Put => b"put",
+    }
+}
+
+/// The text that names the first event that is no step.
+fn illegal_text(alloc: Global, place: u64, why: Why) -> Result<Bytes, NoMemory>
+    ensures { IfOk result (λ text. text ≡ illegal_text place why) }
+{
+    let mut text = Bytes::new(alloc);
+    text.append(b"illegal ")?;
+    write_number(&mut text, place)?;
+    text.append(b" ")?;
+    text.append(why_word(why))?;
+    text.append(b"\n")?;
+    Ok(text)
+}
+
+/// The text of a verdict on so many events.
+fn verdict_text(alloc: Global, count: u64, verdict: Verdict) -> Result<Bytes, NoMemory>
+    ensures { IfOk result (λ text. text ≡ verdict_text count verdict) }
+{
+    match verdict {
+        Verdict::Legal => {
+            let mut text = Bytes::new(alloc);
+            text.append(b"legal ")?;
+            write_number(&mut text, count)?;
+            text.append(b"\n")?;
+            Ok(text)
+        }
+        Verdict::Illegal { place, why } => illegal_text(alloc, place, why),
+    }
+}
+
+/// The status of a verdict.
+fn verdict_status(verdict: Verdict) -> u8
+    ensures { result ≡ verdict_status verdict }
+{
+    match verdict {
+        Verdict::Legal => 0,
+        Verdict::Illegal { .. } => 4,
+    }
+}
+
+/// Tells that an input has no journal, and at which of its lines.
+fn tell_no_journal(alloc: Global, line: u64) -> Result<Told, NoMemory>
+    ensures none { IfOk result (λ told. IsNoJournal line told.journal told.status told.text) }
+    ensures plain { IfOk result (λ told. told.tally ≡ None) }
+{
+    let mut text = Bytes::new(alloc);
+    text.append(b"not a journal ")?;
+    write_number(&mut text, line)?;
+    text.append(b"\n")?;
+    Ok(Told {
+        journal: Rows::new(alloc),
+        tally: None,
+        status: 4,
+        text,
+    })
+}
+
+/// Tells the verdict on a journal.
+fn tell_verdict(alloc: Global, shape: &Shape, journal: Journal) -> Result<Told, NoMemory>
+    ensures verdict { IfOk result (λ told. HasVerdict shape.now told.journal told.status told.text) }
+    ensures journal { IfOk result (λ told. told.journal ≡ journal) }
+    ensures plain { IfOk result (λ told. told.tally ≡ None) }
+{
+    let verdict = check(alloc, shape, &journal)?;
+    let text = verdict_text(alloc, journal.len() as u64, verdict)?;
+    Ok(Told {
+        journal,
+        tally: None,
+        status: verdict_status(verdict),
+        text,
+    })
+}
+
+/// Appends the line of a write: the places of the call that posted it and of its put, and its number between them.
+fn append_write(text: &mut Bytes, write: &ArrivedWrite) -> Result<(), NoMemory>
+    ensures { OnOk result (text.new ≡ text.old ++ write_line write.now) }
+{
+    write_number(text, write.post)?;
+    text.append(b" ")?;
+    write_number(text, u64::from(write.number))?;
+    text.append(b" ")?;
+    write_number(text, write.put)?;
+    text.append(b"\n")
+}
+
+/// Appends the lines of writes.
+fn append_writes(text: &mut Bytes, writes: &[ArrivedWrite]) -> Result<(), NoMemory>
+    ensures { OnOk result (text.new ≡ text.old ++ flat_map write_line writes.now) }
+{
+    for write in writes {
+        append_write(text, write)?;
+    }
+    Ok(())
+}
+
+/// The text of the writes that the notification put at a place stands for.
+fn writes_text(alloc: Global, place: u64, writes: &[ArrivedWrite]) -> Result<Bytes, NoMemory>
+    ensures { IfOk result (λ text. text ≡ writes_text place writes.now) }
+{
+    let mut text = Bytes::new(alloc);
+    text.append(b"why ")?;
+    write_number(&mut text, place)?;
+    text.append(b" writes ")?;
+    write_number(&mut text, writes.len() as u64)?;
+    text.append(b"\n")?;
+    append_writes(&mut text, writes)?;
+    Ok(text)
+}
+
+/// The text that tells that no notification was put at a place.
+fn no_notification_text(alloc: Global, place: u64) -> Result<Bytes, NoMemory>
+    ensures { IfOk result (λ text. text ≡ no_notification_text place) }
+{
+    let mut text = Bytes::new(alloc);
+    text.append(b"no notification ")?;
+    write_number(&mut text, place)?;
+    text.append(b"\n")?;
+    Ok(text)
+}
+
+/// The text of what is known of the notification that was put at a place.
+fn why_text(alloc: Global, place: u64, answer: &WhyAnswer) -> Result<Bytes, NoMemory>
+    ensures { IfOk result (λ text. text ≡ why_text place answer.now) }
+{
+    match answer {
+        WhyAnswer::Writes(writes) => writes_text(alloc, place, writes.as_slice()),
+        WhyAnswer::NoNotification => no_notification_text(alloc, place),
+        WhyAnswer::Illegal { place, why } => illegal_text(alloc, *place, *why),
+    }
+}
+
+/// The status of what is known of a notification.
+fn why_status(answer: &WhyAnswer) -> u8
+    ensures { result ≡ why_status answer.now }
+{
+    match answer {
+        WhyAnswer::Writes(_) => 0,
+        WhyAnswer::NoNotification | WhyAnswer::Illegal { .. } => 4,
+    }
+}
+
+/// Tells which writes the notification stands for that was put at a place of a journal.
+fn tell_writes(alloc: Global, shape: &Shape, journal: Journal, place: u64) -> Result<Told, NoMemory>
+    ensures writes { IfOk result (λ told. HasWrites place shape.now told.journal told.status told.text) }
+    ensures journal { IfOk result (λ told. told.journal ≡ journal) }
+    ensures plain { IfOk result (λ told. told.tally ≡ None) }
+{
+    let answer = why(alloc, shape, &journal, place)?;
+    let text = why_text(alloc, place, &answer)?;
+    Ok(Told {
+        journal,
+        tally: None,
+        status: why_status(&answer),
+        text,
+    })
+}
+
+/// Tells of a journal what is asked.
+fn tell_reply(
+    alloc: Global,
+    shape: &Shape,
+    journal: Journal,
+    question: Question,
+) -> Result<Told, NoMemory>
+    ensures reply { IfOk result (λ told. HasReply question shape.now told.journal told.status told.text) }
+    ensures journal { IfOk result (λ told. told.journal ≡ journal) }
+    ensures plain { IfOk result (λ told. told.tally ≡ None) }
+{
+    match question {
+        Question::Verdict => tell_verdict(alloc, shape, journal),
+        Question::Writes { place } => tell_writes(alloc, shape, journal, place),
+    }
+}
+
+/// How many lines a text has. The last may lack its line feed.
+fn line_count(text: &[u8]) -> u64
+    ensures count { result ≡ length (fed_lines text.now) }
+    ensures bound { result ≤ length text.now }
+{
+    let mut count: u64 = 0;
+    let mut rest = text;
+    while !rest.is_empty() {
+        let (_, later) = first_line(rest);
+        count += 1;
+        rest = later;
+    }
+    count
+}
+
+/// Reads the journal of an input, which begins at a line of that number, and tells of it what is asked.
+fn tell_journal(
+    alloc: Global,
+    shape: &Shape,
+    text: &[u8],
+    number: u64,
+    question: Question,
+) -> Result<Told, NoMemory>
+    requires { (1 ≤ number) × (number + length text.now < 2 ^ 63) }
+    ensures read { IfOk result (λ told. IsRead question shape.now text.now number told.journal told.status told.text) }
+    ensures plain { IfOk result (λ told. told.tally ≡ None) }
+{
+    match read(alloc, text) {
+        Ok(journal) => tell_reply(alloc, shape, journal, question),
+        Err(JournalFault::At { line }) => tell_no_journal(alloc, number - 1 + line),
+        Err(JournalFault::NoMemory) => Err(NoMemory),
+    }
+}
+
+/// Replays the journal of an input in the world of the text before it, and tells of it what is asked.
+pub fn tell_judged(alloc: Global, input: &[u8], question: Question) -> Result<Told, ScriptFault>
+    ensures told { IfOk result (λ told. IsChecked question input.now told.journal told.status told.text) }
+    ensures plain { IfOk result (λ told. told.tally ≡ None) }
+    ensures fault { (number line : ℕ) → IsErrOf result (script_faults.At number line)
+        → checked_world input.now ≡ Err (record { number = number; line = line }) }
+{
+    let (shape, _scripts, place) = read_input(alloc, input)?;
+    match place {
+        None => Ok(tell_no_journal(alloc, line_count(input) + 1)?),
+        Some((place, number)) => {
+            let journal = &input[place as usize..];
+            Ok(tell_journal(alloc, &shape, journal, number, question)?)
+        }
+    }
+}

@@ -1,0 +1,36 @@
+use Rattle.std.proofs.Common.{◌≡◌, ◌≢◌, ap, ◌∙◌, subst, sym, rules, arith}
+use denote.Enum.Bare.{same_true}
+use Rattle.gaspi_types.specs.World.{World}
+use Rattle.transfer_worker.specs.Order.{TriesOther}
+use Rattle.transfer_worker.specs.contracts.rounds.Others.{the_type}
+use Rattle.transfer_worker.specs.declared.rounds.Others.{Others}
+use Rattle.transfer_worker.specs.declared.rounds.Others.TheVariants.{Moved}
+use Rattle.transfer_worker.proofs.InOrder.{others-stop, others-end, tried-other-next}
+use Rattle.transfer_worker.proofs.Tries.{goes-then}
+use Rattle.transfer_worker.proofs.rounds.try_others.Goals as goal
+
+pub returns-then-eq-clause-order : goal.returns-then-eq-clause-order
+returns-then-eq-clause-order c =
+    let w = c.args.world.now.start.shape in
+    let ranks : c.limits-ranks.result.ranks ≡ w.limits.ranks = ap (λ l. l.ranks) c.limits-ranks.ensures.value ∙ ap (λ (s : World). s.limits.ranks) c.shape.ensures in
+    let moved : c.try_other-other.result ≡ Moved = same_true the_type (search rules) _ _ (sym c.eq.ensures ∙ c.if-eq.true) in
+    let tried = subst (λ (o : Others). TriesOther w c.of.result c.loop-next.pass.known o c.try_other-other.new.pass.known) moved c.try_other-other.ensures.tried in
+    others-stop w c.args.first c.limits-ranks.result.ranks c.loop-next.next c.of.result c.args.pass.now.known c.loop-next.pass.known c.try_other-other.new.pass.known c.loop-next.so_far ranks c.of.ensures c.loop-next-test.true c.loop-next.invariant.3 tried
+
+pub loop-next-preserved : goal.loop-next-preserved
+loop-next-preserved c =
+    let w = c.args.world.now.start.shape in
+    let ranks : c.limits-ranks.result.ranks ≡ w.limits.ranks = ap (λ l. l.ranks) c.limits-ranks.ensures.value ∙ ap (λ (s : World). s.limits.ranks) c.shape.ensures in
+    let stays : c.try_other-other.result ≢ Moved = λ e. absurd (let no = rw e at (sym c.eq.ensures ∙ c.if-eq.false) in let never : ⊥ = cc in never) in (
+      c.try_other-other.ensures.table ∙ c.loop-next.invariant.0,
+      c.try_other-other.ensures.free,
+      goes-then c.args.pass.now.known c.loop-next.pass.known c.try_other-other.new.pass.known c.loop-next.invariant.2 c.try_other-other.ensures.goes_on,
+      rw c.with_other-so_far.ensures
+          (tried-other-next w c.args.first c.limits-ranks.result.ranks c.loop-next.next c.of.result c.args.pass.now.known c.loop-next.pass.known c.try_other-other.new.pass.known c.loop-next.so_far c.try_other-other.result ranks c.of.ensures c.loop-next.invariant.3 c.try_other-other.ensures.tried stays),
+    )
+
+pub returns-clause-order : goal.returns-clause-order
+returns-clause-order c =
+    let w = c.args.world.now.start.shape in
+    let ranks : c.limits-ranks.result.ranks ≡ w.limits.ranks = ap (λ l. l.ranks) c.limits-ranks.ensures.value ∙ ap (λ (s : World). s.limits.ranks) c.shape.ensures in
+    others-end w c.args.first c.limits-ranks.result.ranks c.loop-next.next c.args.pass.now.known c.loop-next.pass.known c.loop-next.so_far ranks (let end = c.loop-next-test.false in let most = c.loop-next.auto.next-end in omega arith) c.loop-next.invariant.3

@@ -1,0 +1,72 @@
+use Rattle.std.proofs.Common.{true, false, refl, ap, ◌∙◌, subst}
+use Rattle.gaspi_types.specs.World.{World}
+use Rattle.transfer_worker.specs.Order.{GoesPast, Rests}
+use Rattle.transfer_worker.proofs.InOrder.{turning-begins, turning-past, turning-rests, turning-ends}
+use Rattle.transfer_worker.proofs.Tries.{goes-then, goes-same}
+use Rattle.transfer_worker.proofs.workers.Worker.drain.Goals as goal
+
+pub loop-init : goal.loop-init
+loop-init g c = ((tt, tt), refl, refl, refl, c.requires.free, goes-same c.args.self.now.pass.now.known, turning-begins c.args.self.now.world.now.start.shape c.args.self.now.turns c.args.self.now.pass.now.known)
+
+pub loop-preserved-in-Moved : goal.loop-preserved-in-Moved
+loop-preserved-in-Moved g c =
+    let had = c.loop.invariant in
+    let w = c.args.self.now.world.now.start.shape in
+    let lent = ap (λ t. t.start.shape) had.1 in
+    let so_far =
+    turning-past w c.args.self.now.turns c.loop.self.turns c.go_past.new.self.turns c.args.self.now.pass.now.known c.loop.self.pass.now.known c.go_past.new.self.pass.now.known c.go_past.result had.6
+    (subst (λ (x : World). GoesPast x c.loop.self.turns c.loop.self.pass.now.known c.go_past.result c.go_past.new.self.turns c.go_past.new.self.pass.now.known) lent c.go_past.ensures.past) in (
+      (tt, tt),
+      c.go_past.ensures.same.0 ∙ had.1,
+      c.go_past.ensures.same.1 ∙ had.2,
+      c.go_past.ensures.table ∙ had.3,
+      c.go_past.ensures.free,
+      goes-then _ _ _ had.5 c.go_past.ensures.goes_on,
+      so_far,
+    )
+
+pub loop-preserved-in-Busy : goal.loop-preserved-in-Busy
+loop-preserved-in-Busy g c =
+    let had = c.loop.invariant in
+    let w = c.args.self.now.world.now.start.shape in
+    let lent = ap (λ t. t.start.shape) had.1 in
+    let so_far =
+    turning-past w c.args.self.now.turns c.loop.self.turns c.go_past.new.self.turns c.args.self.now.pass.now.known c.loop.self.pass.now.known c.go_past.new.self.pass.now.known c.go_past.result had.6
+    (subst (λ (x : World). GoesPast x c.loop.self.turns c.loop.self.pass.now.known c.go_past.result c.go_past.new.self.turns c.go_past.new.self.pass.now.known) lent c.go_past.ensures.past) in (
+      (tt, tt),
+      c.go_past.ensures.same.0 ∙ had.1,
+      c.go_past.ensures.same.1 ∙ had.2,
+      c.go_past.ensures.table ∙ had.3,
+      c.go_past.ensures.free,
+      goes-then _ _ _ had.5 c.go_past.ensures.goes_on,
+      so_far,
+    )
+
+pub returns-then-rest-clause-turns : goal.returns-then-rest-clause-turns
+returns-then-rest-clause-turns g c =
+    let had = c.loop.invariant in
+    let w = c.args.self.now.world.now.start.shape in
+    let lent = ap (λ t. t.start.shape) had.1 in
+    let so_far =
+    turning-past w c.args.self.now.turns c.loop.self.turns c.go_past.new.self.turns c.args.self.now.pass.now.known c.loop.self.pass.now.known c.go_past.new.self.pass.now.known c.go_past.result had.6
+    (subst (λ (x : World). GoesPast x c.loop.self.turns c.loop.self.pass.now.known c.go_past.result c.go_past.new.self.turns c.go_past.new.self.pass.now.known) lent c.go_past.ensures.past) in
+    let rested = subst (λ (x : World). Rests x c.go_past.new.self.turns c.go_past.new.self.pass.now.known true c.rest.new.self.turns c.rest.new.self.pass.now.known) (ap (λ t. t.start.shape) (c.go_past.ensures.same.0 ∙ had.1)) c.if-rest.ensures.rests in
+    turning-ends w c.args.self.now.turns c.go_past.new.self.turns c.rest.new.self.turns c.args.self.now.pass.now.known c.go_past.new.self.pass.now.known c.rest.new.self.pass.now.known so_far rested
+
+pub loop-preserved : goal.loop-preserved
+loop-preserved g c =
+    let had = c.loop.invariant in
+    let w = c.args.self.now.world.now.start.shape in
+    let lent = ap (λ t. t.start.shape) had.1 in
+    let so_far =
+    turning-past w c.args.self.now.turns c.loop.self.turns c.go_past.new.self.turns c.args.self.now.pass.now.known c.loop.self.pass.now.known c.go_past.new.self.pass.now.known c.go_past.result had.6
+    (subst (λ (x : World). GoesPast x c.loop.self.turns c.loop.self.pass.now.known c.go_past.result c.go_past.new.self.turns c.go_past.new.self.pass.now.known) lent c.go_past.ensures.past) in
+    let rested = subst (λ (x : World). Rests x c.go_past.new.self.turns c.go_past.new.self.pass.now.known false c.rest.new.self.turns c.rest.new.self.pass.now.known) (ap (λ t. t.start.shape) (c.go_past.ensures.same.0 ∙ had.1)) c.if-rest.ensures.rests in (
+      (tt, tt),
+      c.rest.ensures.same.0 ∙ (c.go_past.ensures.same.0 ∙ had.1),
+      c.rest.ensures.same.1 ∙ (c.go_past.ensures.same.1 ∙ had.2),
+      c.rest.ensures.table ∙ (c.go_past.ensures.table ∙ had.3),
+      c.rest.ensures.free,
+      goes-then _ _ _ had.5 (goes-then _ _ _ c.go_past.ensures.goes_on c.rest.ensures.goes_on),
+      turning-rests w c.args.self.now.turns c.go_past.new.self.turns c.rest.new.self.turns c.args.self.now.pass.now.known c.go_past.new.self.pass.now.known c.rest.new.self.pass.now.known so_far rested,
+    )

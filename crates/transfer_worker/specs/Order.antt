@@ -1,0 +1,111 @@
+-- The tries of a turn in their order, and the turns of a worker one after another. (GASPI: one-sided communication)
+use Rattle.std.specs.Prelude.{◌≡◌, ◌≢◌, ◌<◌, ◌⊎◌, ℕ, zero, suc, ◌+◌, ◌%◌, ◌^◌, Bool, true, false}
+use Rattle.gaspi_types.specs.World.{World}
+use Rattle.gaspi_types.specs.declared.events.Event.{Event}
+use Rattle.commit_table.specs.declared.views.Known.{Known}
+use Rattle.gaspi_world.specs.Moves.{Moves, MovesOn}
+use Rattle.gaspi_world.specs.declared.moving.Moving.{Moving}
+use Rattle.gaspi_world.specs.declared.moving.Moving.TheVariants as moves
+use Rattle.transfer_worker.specs.Turns.{with_try}
+use Rattle.transfer_worker.specs.declared.rounds.Others.{Others}
+use Rattle.transfer_worker.specs.declared.rounds.Others.TheVariants as others
+use Rattle.transfer_worker.specs.declared.turns.Turn.{Turn}
+use Rattle.transfer_worker.specs.declared.turns.Turn.TheVariants.{Moved, Busy, Idle, Drained}
+
+-- what ranks that did not move come to with one more: a miss, else a try, else none was tried
+abbrev pub with_other : Others → Others → Others
+with_other so_far others.Moved = others.Moved
+with_other so_far others.Busy = others.Busy
+with_other others.Passed others.Quiet = others.Quiet
+with_other so_far others.Quiet = so_far
+with_other so_far others.Passed = so_far
+
+module _ (w : World) where
+  -- the rank of a try after so many others: the ranks come in their order from a first one on, and rank 0 after the last
+  abbrev pub tried_rank : ℕ → ℕ → ℕ
+  tried_rank first tries = (first + tries) % w.limits.ranks
+
+  -- the rank at which a turn begins: of the number of turns before it, which wraps, modulo how many ranks there are
+  abbrev pub first_rank : ℕ → ℕ
+  first_rank turns = turns % 2 ^ 64 % w.limits.ranks
+
+  -- So many ranks were tried one after another from a first one on, and none moved: what they come to.
+  abbrev pub HaveTried : {S : Type 0} → ℕ → ℕ → Known S Event → Turn → Known S Event → Type 0
+  HaveTried first zero v so_far n = (n ≡ v) × (so_far ≡ Drained)
+  HaveTried {S} first (suc tries) v so_far n =
+      (m : Known S Event) × (before : Turn) × (moving : Moving) × HaveTried first tries v before m
+      × Moves w (tried_rank first tries) m moving n × (moving ≢ moves.Moved) × (so_far ≡ with_try before moving)
+
+  -- after tries that did not move, one did
+  pub record StopsAt {S : Type 0} (first : ℕ) (v n : Known S Event) : Type 0 where
+    pub tries : ℕ
+    pub few : tries < w.limits.ranks
+    pub between : Known S Event
+    pub so_far : Turn
+    pub tried : HaveTried first tries v so_far between
+    pub moved : Moves w (tried_rank first tries) between moves.Moved n
+
+  -- A turn from a first rank on: it stops at the first rank that moved, else it tries all.
+  abbrev pub MakesTurn : {S : Type 0} → ℕ → Known S Event → Turn → Known S Event → Type 0
+  MakesTurn first v Moved n = StopsAt first v n
+  MakesTurn first v Busy n = HaveTried first w.limits.ranks v Busy n
+  MakesTurn first v Idle n = HaveTried first w.limits.ranks v Idle n
+  MakesTurn first v Drained n = HaveTried first w.limits.ranks v Drained n
+
+  -- The try of a rank that may make several transfers of a lane; a rank that is passed over is not tried.
+  abbrev pub TriesOther : {S : Type 0} → ℕ → Known S Event → Others → Known S Event → Type 0
+  TriesOther origin v others.Moved n = MovesOn w origin v moves.Moved n
+  TriesOther origin v others.Busy n = MovesOn w origin v moves.Busy n
+  TriesOther origin v others.Quiet n = MovesOn w origin v moves.Empty n ⊎ MovesOn w origin v moves.Ended n
+  TriesOther origin v others.Passed n = n ≡ v
+
+  -- So many ranks were tried or passed over one after another from a first one on, and none moved: what they come to.
+  abbrev pub HaveTriedOthers : {S : Type 0} → ℕ → ℕ → Known S Event → Others → Known S Event → Type 0
+  HaveTriedOthers first zero v so_far n = (n ≡ v) × (so_far ≡ others.Passed)
+  HaveTriedOthers {S} first (suc tries) v so_far n =
+      (m : Known S Event) × (before : Others) × (other : Others) × HaveTriedOthers first tries v before m
+      × TriesOther (tried_rank first tries) m other n × (other ≢ others.Moved) × (so_far ≡ with_other before other)
+
+  pub record StopsAtOther {S : Type 0} (first : ℕ) (v n : Known S Event) : Type 0 where
+    pub tries : ℕ
+    pub few : tries < w.limits.ranks
+    pub between : Known S Event
+    pub so_far : Others
+    pub tried : HaveTriedOthers first tries v so_far between
+    pub moved : TriesOther (tried_rank first tries) between others.Moved n
+
+  -- A turn past some ranks, from a first rank on: it stops at the first that moved, else it goes through all; or none is tried.
+  abbrev pub TriesOthers : {S : Type 0} → ℕ → Known S Event → Others → Known S Event → Type 0
+  TriesOthers first v others.Moved n = StopsAtOther first v n
+  TriesOthers first v others.Busy n = HaveTriedOthers first w.limits.ranks v others.Busy n
+  TriesOthers first v others.Quiet n = HaveTriedOthers first w.limits.ranks v others.Quiet n
+  TriesOthers first v others.Passed n = n ≡ v
+
+  -- The same of a worker whose next turn has that number, and what the next one has then: where no rank was tried, it was no turn.
+  abbrev pub GoesPast : {S : Type 0} → ℕ → Known S Event → Others → ℕ → Known S Event → Type 0
+  GoesPast turns v others.Moved next n = TriesOthers (first_rank turns) v others.Moved n × (next ≡ (turns + 1) % 2 ^ 64)
+  GoesPast turns v others.Busy next n = TriesOthers (first_rank turns) v others.Busy n × (next ≡ (turns + 1) % 2 ^ 64)
+  GoesPast turns v others.Quiet next n = TriesOthers (first_rank turns) v others.Quiet n × (next ≡ (turns + 1) % 2 ^ 64)
+  GoesPast turns v others.Passed next n = (n ≡ v) × (next ≡ turns)
+
+  -- one turn of either kind, in which a rank was tried, and which did not find that nothing is left to do
+  abbrev pub MakesOneTurn : {S : Type 0} → ℕ → Known S Event → Known S Event → Type 0
+  MakesOneTurn first v n = ((kind : Others) × TriesOthers first v kind n × (kind ≢ others.Passed)) ⊎ ((turn : Turn) × MakesTurn first v turn n × (turn ≢ Drained))
+
+  -- so many turns one after another, each beginning at the rank of its number
+  abbrev pub HaveTurned : {S : Type 0} → ℕ → ℕ → Known S Event → Known S Event → Type 0
+  HaveTurned turns zero v n = n ≡ v
+  HaveTurned {S} turns (suc count) v n = (m : Known S Event) × HaveTurned turns count v m × MakesOneTurn (first_rank (turns + count)) m n
+
+  -- Turns until one finds that nothing is left to do: the first has this number, and the next one would have that.
+  pub record Drains {S : Type 0} (turns : ℕ) (v : Known S Event) (next : ℕ) (n : Known S Event) : Type 0 where
+    pub count : ℕ
+    pub between : Known S Event
+    pub turned : HaveTurned turns count v between
+    pub last : MakesTurn (first_rank (turns + count)) between Drained n
+    pub next_is : next ≡ (turns + count + 1) % 2 ^ 64
+
+  -- a pause, in which no turn is made, or a turn: whether it found that nothing is left to do
+  abbrev pub Rests : {S : Type 0} → ℕ → Known S Event → Bool → ℕ → Known S Event → Type 0
+  Rests turns v false next n = ((n ≡ v) × (next ≡ turns)) ⊎ ((turn : Turn) × MakesTurn (first_rank turns) v turn n × (turn ≢ Drained) × (next ≡ (turns + 1) % 2 ^ 64))
+  Rests turns v true next n = MakesTurn (first_rank turns) v Drained n × (next ≡ (turns + 1) % 2 ^ 64)

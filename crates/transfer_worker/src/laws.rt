@@ -1,0 +1,16 @@
+//! Laws of ranks that are done: the contract of a function that does nothing.
+
+ghost use Rattle.std.specs.Prelude.{◌≡◌, ◌<◌, ℕ, List, Ok};
+ghost use Rattle.gaspi_types.specs.declared.events.Event.{Event};
+ghost use Rattle.gaspi_model.specs.Settled.{IsSettled};
+ghost use Rattle.gaspi_model.specs.Sound.{IsSound};
+ghost use Rattle.gaspi_model.specs.Step.{after};
+ghost use Rattle.gaspi_model.specs.declared.states.State.{State};
+ghost use Rattle.transfer_worker.specs.StillRanks.{HasStopped};
+
+/// A rank whose threads have ended and of which no transfer may come next stays so, whatever comes. Where every rank is so, nothing is
+/// left to do. So a worker may look at one rank after another.
+pub fn still_ranks()
+    ensures stays { (s t : State) (events : List Event) (rank : ℕ) → after s events ≡ Ok t → HasStopped s rank → HasStopped t rank }
+    ensures settled { (s : State) → IsSound s → ((rank : ℕ) → rank < s.limits.ranks → HasStopped s rank) → IsSettled s }
+{}
