@@ -10,7 +10,7 @@ use Rattle.gaspi_world.specs.Moves.{MissedLooking}
 
 module _ {S X E : Type 0} (m : Machine X E) (May : List E → ℕ → Type 0) where
   all-moves : (v : Known S E) (i j number : ℕ) (g h : List E) (turns : List Turn) → Met (took v i g) j turns → Looked m (missed (took v i g) j turns) number h (looked (missed (took v i g) j turns) h)
-      → May h j → MissedLooking m v May (gave_back (looked (missed (took v i g) j turns) h) i)
+      → May h j → MissedLooking m v i May (gave_back (looked (missed (took v i g) j turns) h) i)
   all-moves v i j number g h turns met l may = record {
     shard = j;
     may = may;
@@ -19,7 +19,8 @@ module _ {S X E : Type 0} (m : Machine X E) (May : List E → ℕ → Type 0) wh
     before = met.before;
     first = met.first;
     met = met.goes_on;
-    added = λ p its. ((i, lock_op.Took) ∷ [], (i, lock_op.GaveBack) ∷ [], met.own p its, refl);
+    tried = met.own;
+    turns = refl;
     other = met.other;
     holds = met.holds;
     apart = met.apart;
@@ -33,11 +34,11 @@ module _ {S X E : Type 0} (m : Machine X E) (May : List E → ℕ → Type 0) wh
     start = refl;
   }
 
-  pub missed-looking : (v t u x z : Known S E) (i j number : ℕ) (g h : List E) (turns : List Turn) → t ≡ took v i g → u ≡ missed t j turns → Met t j turns → Looked m u number h x → z ≡ gave_back x i → May h j → MissedLooking m v May z
+  pub missed-looking : (v t u x z : Known S E) (i j number : ℕ) (g h : List E) (turns : List Turn) → t ≡ took v i g → u ≡ missed t j turns → Met t j turns → Looked m u number h x → z ≡ gave_back x i → May h j → MissedLooking m v i May z
   missed-looking v t u x z i j number g h turns took_is missed_is met l last may =
       let first : u ≡ missed (took v i g) j turns = missed_is ∙ ap (λ (y : Known S E). missed y j turns) took_is in
       let whole : x ≡ looked (missed (took v i g) j turns) h = l.is ∙ ap (λ (y : Known S E). looked y h) first in
       let there : Looked m (missed (took v i g) j turns) number h (looked (missed (took v i g) j turns) h) =
       subst (λ (y : Known S E). Looked m (missed (took v i g) j turns) number h y) whole (subst (λ (y : Known S E). Looked m y number h x) first l) in
-      subst (λ (y : Known S E). MissedLooking m v May y) (sym (last ∙ ap (λ (y : Known S E). gave_back y i) whole))
+      subst (λ (y : Known S E). MissedLooking m v i May y) (sym (last ∙ ap (λ (y : Known S E). gave_back y i) whole))
       (all-moves v i j number g h turns (subst (λ (y : Known S E). Met y j turns) took_is met) there may)

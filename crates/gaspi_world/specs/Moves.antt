@@ -16,7 +16,6 @@ use Rattle.commit_table.specs.Attempts.{Recorded, Missed, LookedOnly}
 use Rattle.commit_table.specs.Calls.{HoldsNone}
 use Rattle.commit_table.specs.Turns.{holder_in, turns_by, GoOn}
 use Rattle.commit_table.specs.declared.views.Known.{Known}
-use Rattle.commit_table.specs.declared.views.LockOp.{LockOp}
 use Rattle.commit_table.specs.declared.views.LockOp.TheVariants as lock_op
 use Rattle.commit_table.specs.declared.views.Turn.{Turn}
 use Rattle.rank_node.specs.Fronts.{IsFront, front_entry, transfer_footprint}
@@ -39,8 +38,9 @@ is_transfer_of origin (Take o queue target number outcome) = o == origin
 is_transfer_of origin (Put o queue target number outcome) = o == origin
 
 module _ {S X E : Type 0} (m : Machine X E) where
-  -- nothing was committed, one look was made, and a shard was missed that such a try may miss after what it saw
-  pub record MissedLooking (v : Known S E) (May : List E → ℕ → Type 0) (n : Known S E) : Type 0 where
+  -- nothing was committed, one look was made, and a shard was missed that such a try may miss after what it saw. While it was missed, the
+  -- pass held the origin's shard
+  pub record MissedLooking (v : Known S E) (origin : ℕ) (May : List E → ℕ → Type 0) (n : Known S E) : Type 0 where
     pub shard : ℕ
     pub may : May n.seen shard
     pub missed : n.missed ≡ v.missed ++ shard ∷ []
@@ -49,7 +49,9 @@ module _ {S X E : Type 0} (m : Machine X E) where
     pub before : List Turn
     pub first : (p : ℕ) → v.party ≡ Some p → n.met ≡ record { shard = shard; party = p; op = lock_op.Missed } ∷ before
     pub met : GoOn v.met before
-    pub added : (p : ℕ) → v.party ≡ Some p → (earlier : List (ℕ × LockOp)) × (later : List (ℕ × LockOp)) × (turns_by p before ≡ earlier ++ v.turns) × (n.turns ≡ later ++ ((shard, lock_op.Missed) ∷ (earlier ++ v.turns)))
+    -- the pass's own turns before the miss, and all of them: it took the origin's shard, missed the other one, and gave the first back
+    pub tried : (p : ℕ) → v.party ≡ Some p → turns_by p before ≡ (origin, lock_op.Took) ∷ v.turns
+    pub turns : n.turns ≡ (origin, lock_op.GaveBack) ∷ (shard, lock_op.Missed) ∷ (origin, lock_op.Took) ∷ v.turns
     pub other : ℕ
     pub holds : holder_in before shard ≡ Some other
     pub apart : ¬ (v.party ≡ Some other)
@@ -85,9 +87,9 @@ module _ (w : World) where
     pub among : list_any (eqb shard) (numbers_of (by_ranks w).number state (transfer_event state transfer)) ≡ true
 
   -- Busy: the origin's shard was missed, and no look was made; or, after one look, a transfer of the origin may come next, and one of its
-  -- shards was missed.
+  -- shards was missed while the origin's was held.
   abbrev pub IsBusyMove : {S : Type 0} → ℕ → Known S Event → Known S Event → Type 0
-  IsBusyMove origin v n = Missed (world_machine w) v (λ i. i ≡ origin) n ⊎ MissedLooking (world_machine w) v (MayTransfer origin) n
+  IsBusyMove origin v n = Missed (world_machine w) v (λ i. i ≡ origin) n ⊎ MissedLooking (world_machine w) v origin (MayTransfer origin) n
 
   -- one transfer of the origin was committed; a shard was missed; or, after one look, nothing was committed, since no transfer of the
   -- origin may come next, and a thread of that rank has not ended, or all have
