@@ -1,6 +1,6 @@
 //! The parts of a world with their passes: made, run, and told apart.
 
-ghost use Rattle.std.specs.Prelude.{◌≡◌, ◌+◌, ◌<◌, ◌≤◌, IfOk, OnOk, map, length, option_to_list};
+ghost use Rattle.std.specs.Prelude.{◌≡◌, ◌+◌, ◌<◌, ◌≤◌, IfOk, OnOk, OnErr, map, length, option_to_list};
 ghost use Rattle.std.specs.List.{All};
 ghost use Rattle.gaspi_types.specs.declared.shapes.CallerId.{CallerId};
 ghost use Rattle.gaspi_world.specs.Callers.{IsPassOf};
@@ -143,10 +143,11 @@ fn run_tasks<R: Threads + Wait + Sync>(
     run_slice(rt, alloc, world, tasks.as_mut_slice());
 }
 
-/// How the caller of a part ended, where it is a caller's.
+/// How the caller of a part ended, where it is a caller's. Only a caller that found no memory, or that has not run, is an error.
 fn finished_of(part: &Part<'_>) -> Result<Option<Finished>, NoMemory>
     ensures finished { IfOk result (λ finished. option_to_list finished ≡ finished_of part.now) }
     ensures told { OnOk result (IsDone part.now) }
+    ensures starved { OnErr result (¬ IsDone part.now) }
 {
     match part {
         Part::Caller(body) => match body.outcome {

@@ -7,7 +7,7 @@ use Rattle.commit_table.specs.declared.views.Known.{Known}
 use Rattle.gaspi_world.specs.Moves.{Moves}
 use Rattle.gaspi_world.specs.declared.moving.Moving.{Moving}
 use Rattle.gaspi_world.specs.declared.moving.Moving.TheVariants as moves
-use Rattle.transfer_worker.specs.Order.{with_other, tried_rank, first_rank, HaveTried, StopsAt, MakesTurn, TriesOther, HaveTriedOthers, StopsAtOther, TriesOthers, GoesPast, MakesOneTurn, HaveTurned, Rests, Drains}
+use Rattle.transfer_worker.specs.Order.{with_other, tried_rank, first_rank, HaveTried, StopsAt, MakesTurn, TriesOther, HaveTriedOthers, StopsAtOther, TriesOthers, next_turn, MakesOneTurn, HaveTurned, Rests, Drains}
 use Rattle.transfer_worker.specs.Turns.{with_try}
 use Rattle.transfer_worker.specs.declared.rounds.Others.{Others}
 use Rattle.transfer_worker.specs.declared.rounds.Others.TheVariants as others
@@ -80,72 +80,69 @@ module _ {S : Type 0} (w : World) where
       record { tries = tries; few = subst (λ (k : ℕ). tries < k) all few; between = m; so_far = so_far; tried = tried; moved = subst (λ (o : ℕ). Moves w o m moves.Moved n) here moved }
 
   -- the same of the ranks that are not passed over
-  pub tried-other-next : (first ranks tries origin : ℕ) (v m n : Known S Event) (so_far other : Others) → ranks ≡ w.limits.ranks → origin ≡ (first + tries) % ranks
-      → HaveTriedOthers w first tries v so_far m → TriesOther w origin m other n → other ≢ others.Moved → HaveTriedOthers w first (tries + 1) v (with_other so_far other) n
-  tried-other-next first ranks tries origin v m n so_far other all place tried told stays =
+  pub tried-other-next : (begun : Known S Event) (first ranks tries origin : ℕ) (v m n : Known S Event) (so_far other : Others) → ranks ≡ w.limits.ranks → origin ≡ (first + tries) % ranks
+      → HaveTriedOthers w begun first tries v so_far m → TriesOther w begun origin m other n → other ≢ others.Moved → HaveTriedOthers w begun first (tries + 1) v (with_other so_far other) n
+  tried-other-next begun first ranks tries origin v m n so_far other all place tried told stays =
       let more : suc tries ≡ tries + 1 = omega arith in
       let here : origin ≡ tried_rank w first tries = place ∙ ap (λ (k : ℕ). (first + tries) % k) all in
-      subst (λ (k : ℕ). HaveTriedOthers w first k v (with_other so_far other) n) more
-      (m, so_far, other, tried, subst (λ (o : ℕ). TriesOther w o m other n) here told, stays, refl)
+      subst (λ (k : ℕ). HaveTriedOthers w begun first k v (with_other so_far other) n) more
+      (m, so_far, other, tried, subst (λ (o : ℕ). TriesOther w begun o m other n) here told, stays, refl)
 
-  pub others-stop : (first ranks tries origin : ℕ) (v m n : Known S Event) (so_far : Others) → ranks ≡ w.limits.ranks → origin ≡ (first + tries) % ranks → tries < ranks
-      → HaveTriedOthers w first tries v so_far m → TriesOther w origin m others.Moved n → StopsAtOther w first v n
-  others-stop first ranks tries origin v m n so_far all place few tried moved =
+  pub others-stop : (begun : Known S Event) (first ranks tries origin : ℕ) (v m n : Known S Event) (so_far : Others) → ranks ≡ w.limits.ranks → origin ≡ (first + tries) % ranks → tries < ranks
+      → HaveTriedOthers w begun first tries v so_far m → TriesOther w begun origin m others.Moved n → StopsAtOther w begun first v n
+  others-stop begun first ranks tries origin v m n so_far all place few tried moved =
       let here : origin ≡ tried_rank w first tries = place ∙ ap (λ (k : ℕ). (first + tries) % k) all in
-      record { tries = tries; few = subst (λ (k : ℕ). tries < k) all few; between = m; so_far = so_far; tried = tried; moved = subst (λ (o : ℕ). TriesOther w o m others.Moved n) here moved }
+      record { tries = tries; few = subst (λ (k : ℕ). tries < k) all few; between = m; so_far = so_far; tried = tried; moved = subst (λ (o : ℕ). TriesOther w begun o m others.Moved n) here moved }
 
-  none-moved : (tries first : ℕ) (v n : Known S Event) (so_far : Others) → HaveTriedOthers w first tries v so_far n → so_far ≢ others.Moved
-  none-moved zero first v n so_far tried = λ moved. (let never_is : ◌≡◌ {A = Others} others.Passed others.Moved = sym tried.1 ∙ moved in let never : ⊥ = cc in never)
-  none-moved (suc tries) first v n so_far tried = with-stays tried.1 tried.2 so_far tried.6 (none-moved tries first v tried.0 tried.1 tried.3) tried.5
+  none-moved : (tries first : ℕ) (begun v n : Known S Event) (so_far : Others) → HaveTriedOthers w begun first tries v so_far n → so_far ≢ others.Moved
+  none-moved zero first begun v n so_far tried = λ moved. (let never_is : ◌≡◌ {A = Others} others.Passed others.Moved = sym tried.1 ∙ moved in let never : ⊥ = cc in never)
+  none-moved (suc tries) first begun v n so_far tried = with-stays tried.1 tried.2 so_far tried.6 (none-moved tries first begun v tried.0 tried.1 tried.3) tried.5
 
-  all-passed : (tries first : ℕ) (v n : Known S Event) (so_far : Others) → HaveTriedOthers w first tries v so_far n → so_far ≡ others.Passed → n ≡ v
-  all-passed zero first v n so_far tried passed = tried.0
-  all-passed (suc tries) first v n so_far tried passed =
+  all-passed : (tries first : ℕ) (begun v n : Known S Event) (so_far : Others) → HaveTriedOthers w begun first tries v so_far n → so_far ≡ others.Passed → n ≡ v
+  all-passed zero first begun v n so_far tried passed = tried.0
+  all-passed (suc tries) first begun v n so_far tried passed =
       let both = both-passed tried.1 tried.2 (sym tried.6 ∙ passed) in
-      let last : n ≡ tried.0 = subst (λ (o : Others). TriesOther w (tried_rank w first tries) tried.0 o n) both.1 tried.4 in
-      last ∙ all-passed tries first v tried.0 tried.1 tried.3 both.0
+      let last = subst (λ (o : Others). TriesOther w begun (tried_rank w first tries) tried.0 o n) both.1 tried.4 in
+      last.0 ∙ all-passed tries first begun v tried.0 tried.1 tried.3 both.0
 
-  pub others-end : (first ranks tries : ℕ) (v n : Known S Event) (so_far : Others) → ranks ≡ w.limits.ranks → tries ≡ ranks → HaveTriedOthers w first tries v so_far n → TriesOthers w first v so_far n
-  others-end first ranks tries v n so_far all through tried = by-end so_far refl (subst (λ (k : ℕ). HaveTriedOthers w first k v so_far n) (through ∙ all) tried)
+  pub others-end : (begun : Known S Event) (first ranks tries : ℕ) (v n : Known S Event) (so_far : Others) → ranks ≡ w.limits.ranks → tries ≡ ranks → HaveTriedOthers w begun first tries v so_far n
+      → TriesOthers w begun first v so_far n
+  others-end begun first ranks tries v n so_far all through tried = by-end so_far (subst (λ (k : ℕ). HaveTriedOthers w begun first k v so_far n) (through ∙ all) tried)
     where
-      by-end : (end : Others) → so_far ≡ end → HaveTriedOthers w first w.limits.ranks v so_far n → TriesOthers w first v so_far n
-      by-end others.Moved is whole = absurd (none-moved w.limits.ranks first v n so_far whole is)
-      by-end others.Busy is whole = rw is (rw is at whole)
-      by-end others.Quiet is whole = rw is (rw is at whole)
-      by-end others.Passed is whole = rw is (all-passed w.limits.ranks first v n so_far whole is)
-
-  pub goes-past : (turns next : ℕ) (v n : Known S Event) (kind : Others) → TriesOthers w (first_rank w turns) v kind n → kind ≢ others.Passed → next ≡ (turns + 1) % 2 ^ 64 → GoesPast w turns v kind next n
-  goes-past turns next v n others.Moved tried some more = (tried, more)
-  goes-past turns next v n others.Busy tried some more = (tried, more)
-  goes-past turns next v n others.Quiet tried some more = (tried, more)
-  goes-past turns next v n others.Passed tried some more = absurd (some refl)
+      by-end : (end : Others) → HaveTriedOthers w begun first w.limits.ranks v end n → TriesOthers w begun first v end n
+      by-end others.Moved whole = absurd (none-moved w.limits.ranks first begun v n others.Moved whole refl)
+      by-end others.Busy whole = whole
+      by-end others.Quiet whole = whole
+      by-end others.Passed whole = whole
 
   -- What a worker has done so far: so many turns, the first of which had this number, and the next one has that.
   abbrev pub IsTurning : ℕ → Known S Event → ℕ → Known S Event → Type 0
-  IsTurning turns v now n = (count : ℕ) × HaveTurned w turns count v n × (now % 2 ^ 64 ≡ (turns + count) % 2 ^ 64)
+  IsTurning turns v now n = (count : ℕ) × HaveTurned w v turns count v n × (now % 2 ^ 64 ≡ (turns + count) % 2 ^ 64)
 
   pub turning-begins : (turns : ℕ) (v : Known S Event) → IsTurning turns v turns v
   turning-begins turns v = (0, refl, (let none : turns + 0 ≡ turns = omega arith in ap (λ (k : ℕ). k % 2 ^ 64) (sym none)))
 
-  one-more : (turns count : ℕ) (v m n : Known S Event) → HaveTurned w turns count v m → MakesOneTurn w (first_rank w (turns + count)) m n → HaveTurned w turns (count + 1) v n
+  one-more : (turns count : ℕ) (v m n : Known S Event) → HaveTurned w v turns count v m → MakesOneTurn w v (first_rank w (turns + count)) m n → HaveTurned w v turns (count + 1) v n
   one-more turns count v m n before one =
       let more : suc count ≡ count + 1 = omega arith in
-      subst (λ (k : ℕ). HaveTurned w turns k v n) more (m, before, one)
+      subst (λ (k : ℕ). HaveTurned w v turns k v n) more (m, before, one)
 
   -- one turn more
-  pub turning-goes : (turns now next : ℕ) (v m n : Known S Event) → IsTurning turns v now m → next ≡ (now + 1) % 2 ^ 64 → MakesOneTurn w (first_rank w now) m n → IsTurning turns v next n
+  pub turning-goes : (turns now next : ℕ) (v m n : Known S Event) → IsTurning turns v now m → next ≡ (now + 1) % 2 ^ 64 → MakesOneTurn w v (first_rank w now) m n → IsTurning turns v next n
   turning-goes turns now next v m n (count, before, is) more one = (
     count + 1,
-    one-more turns count v m n before (subst (λ (first : ℕ). MakesOneTurn w first m n) (first-after w (turns + count) now is) one),
+    one-more turns count v m n before (subst (λ (first : ℕ). MakesOneTurn w v first m n) (first-after w (turns + count) now is) one),
     (let number = next-number turns count now next is more in ap (λ (k : ℕ). k % 2 ^ 64) number ∙ wrapped-twice (turns + (count + 1))),
   )
 
   -- a turn past some ranks, or past all
-  pub turning-past : (turns now next : ℕ) (v m n : Known S Event) (kind : Others) → IsTurning turns v now m → GoesPast w now m kind next n → IsTurning turns v next n
-  turning-past turns now next v m n others.Moved so_far (tried, more) = turning-goes turns now next v m n so_far more (inl (others.Moved, tried, λ same. (let never : ⊥ = cc in never)))
-  turning-past turns now next v m n others.Busy so_far (tried, more) = turning-goes turns now next v m n so_far more (inl (others.Busy, tried, λ same. (let never : ⊥ = cc in never)))
-  turning-past turns now next v m n others.Quiet so_far (tried, more) = turning-goes turns now next v m n so_far more (inl (others.Quiet, tried, λ same. (let never : ⊥ = cc in never)))
-  turning-past turns now next v m n others.Passed so_far (same, still) = subst (λ (k : ℕ). IsTurning turns v k n) (sym still) (subst (λ (x : Known S Event). IsTurning turns v now x) (sym same) so_far)
+  pub turning-past : (turns now next : ℕ) (v m n : Known S Event) (kind : Others) → IsTurning turns v now m → TriesOthers w v (first_rank w now) m kind n → next ≡ next_turn kind now → IsTurning turns v next n
+  turning-past turns now next v m n others.Moved so_far tried more = turning-goes turns now next v m n so_far more (inl (others.Moved, tried, λ same. (let never : ⊥ = cc in never)))
+  turning-past turns now next v m n others.Busy so_far tried more = turning-goes turns now next v m n so_far more (inl (others.Busy, tried, λ same. (let never : ⊥ = cc in never)))
+  turning-past turns now next v m n others.Quiet so_far tried more = turning-goes turns now next v m n so_far more (inl (others.Quiet, tried, λ same. (let never : ⊥ = cc in never)))
+  turning-past turns now next v m n others.Passed so_far tried still =
+      let same = all-passed w.limits.ranks (first_rank w now) v m n others.Passed tried refl in
+      subst (λ (k : ℕ). IsTurning turns v k n) (sym still) (subst (λ (x : Known S Event). IsTurning turns v now x) (sym same) so_far)
 
   -- a pause or a turn that did not end it
   pub turning-rests : (turns now next : ℕ) (v m n : Known S Event) → IsTurning turns v now m → Rests w now m false next n → IsTurning turns v next n

@@ -23,6 +23,7 @@ use Rattle.gaspi_model.specs.Parties.{party_of}
 use Rattle.gaspi_world.specs.declared.moving.Moving.{Moving}
 use Rattle.gaspi_world.specs.declared.moving.Moving.TheVariants as moves
 use Rattle.transfer_worker.specs.Order.{HaveTried, MakesTurn}
+use Rattle.transfer_worker.specs.QuietRanks.{IsKnown, KnowsStill}
 use Rattle.transfer_worker.specs.StillRanks.{HasStopped}
 use Rattle.transfer_worker.specs.Turns.{with_try, GoesOn, IsDrained, IsMoved, IsMissed, IsStill, IsActive, IsEnded, AreTried, Turned}
 use Rattle.transfer_worker.specs.declared.turns.Turn.{Turn}
@@ -200,6 +201,30 @@ module _ {S : Type 0} (w : World) where
 
   abbrev still-now : (v m n : Known S Event) (rank : ℕ) → GoesOn v m → IsPrefix m.seen n.seen → HasNoTransfer w n.seen rank → IsStill w v n rank
   still-now v m n rank on look none = record { history = n.seen; since = prefix-then v.seen m.seen n.seen on.seen look; until = same-prefix n.seen n.seen refl; none = none }
+
+  -- what is known of quiet ranks is known still, and so with the rank of a look
+  pub knows-then : (begun m n : Known S Event) (counts : List (Option ℕ)) → KnowsStill w begun counts m → IsPrefix m.seen n.seen → KnowsStill w begun counts n
+  knows-then begun m n counts knows on = record {
+    since = prefix-then begun.seen m.seen n.seen knows.since on;
+    still = λ rank known. still-then begun m n rank on (knows.still rank known);
+  }
+
+  pub knows-more : (begun m n : Known S Event) (before after : List (Option ℕ)) (origin : ℕ) → KnowsStill w begun before m → IsPrefix m.seen n.seen → HasNoTransfer w n.seen origin
+      → ((other : ℕ) → IsKnown after other → (other ≡ origin) ⊎ IsKnown before other) → KnowsStill w begun after n
+  knows-more begun m n before after origin knows on none only = record {
+    since = since;
+    still = λ rank known. by-rank rank (only rank known);
+  }
+    where
+      since : IsPrefix begun.seen n.seen
+      since = prefix-then begun.seen m.seen n.seen knows.since on
+
+      by-rank : (rank : ℕ) → (rank ≡ origin) ⊎ IsKnown before rank → IsStill w begun n rank
+      by-rank rank (inl is) = subst (IsStill w begun n) (sym is) (record { history = n.seen; since = since; until = same-prefix n.seen n.seen refl; none = none })
+      by-rank rank (inr known) = still-then begun m n rank on (knows.still rank known)
+
+  pub knows-none : (v : Known S Event) (counts : List (Option ℕ)) → ((rank : ℕ) → ¬ IsKnown counts rank) → KnowsStill w v counts v
+  knows-none v counts none = record { since = same-prefix v.seen v.seen refl; still = λ rank known. absurd (none rank known) }
 
   busy-commits : (origin : ℕ) (m n : Known S Event) → IsBusyMove w origin m n → n.commits ≡ m.commits
   busy-commits origin m n (inl told) = told.commits

@@ -1,3 +1,4 @@
 pub mod Order
+pub mod QuietRanks
 pub mod StillRanks
 pub mod Turns

@@ -1,5 +1,8 @@
 //! Which ranks have nothing to transfer, as far as a worker knows.
 
+ghost use Rattle.std.specs.Prelude.{◌≡◌, ◌⊎◌, ℕ, true};
+ghost use Rattle.transfer_worker.specs.QuietRanks.{IsKnown};
+
 use gaspi_world::World;
 use pauses::Watched;
 
@@ -7,7 +10,7 @@ use pauses::Watched;
 const RANKS: usize = 16;
 
 /// For each rank how often its calls had posted, as it was told before the last try that found no transfer which may come next. Until
-/// they post again a try would find none. It saves tries, and no clause speaks of it.
+/// they post again a try would find none. The contracts tell which counts are known, and so that there was such a try.
 #[derive(Drop)]
 pub struct QuietRanks<'a> {
     world: &'a World,
@@ -17,7 +20,9 @@ pub struct QuietRanks<'a> {
 
 impl<'a> QuietRanks<'a> {
     /// No rank is known to be quiet.
-    pub fn none(world: &'a World) -> QuietRanks<'a> {
+    pub fn none(world: &'a World) -> QuietRanks<'a>
+        ensures { (rank : ℕ) → ¬ IsKnown result.counts rank }
+    {
         QuietRanks {
             world,
             ranks: world.shape().limits().ranks,
@@ -26,7 +31,9 @@ impl<'a> QuietRanks<'a> {
     }
 
     /// Whether a rank is quiet that has posted so often.
-    pub fn is_quiet(&self, rank: u32, count: u64) -> bool {
+    pub fn is_quiet(&self, rank: u32, count: u64) -> bool
+        ensures { result ≡ true → IsKnown self.now.counts rank }
+    {
         match self.counts.get(rank as usize) {
             Some(Some(known)) => *known == count,
             _ => false,
@@ -34,9 +41,12 @@ impl<'a> QuietRanks<'a> {
     }
 
     /// A rank is quiet that has posted so often.
-    pub fn add(&mut self, rank: u32, count: u64) {
-        if let Some(known) = self.counts.get_mut(rank as usize) {
-            *known = Some(count);
+    pub fn add(&mut self, rank: u32, count: u64)
+        ensures { (other : ℕ) → IsKnown self.new.counts other → (other ≡ rank) ⊎ IsKnown self.old.counts other }
+    {
+        let place = rank as usize;
+        if place < RANKS {
+            self.counts[place] = Some(count);
         }
     }
 }

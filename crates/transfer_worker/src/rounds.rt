@@ -5,6 +5,7 @@ ghost use Rattle.commit_table.specs.Calls.{IsOf, HoldsNone};
 ghost use Rattle.gaspi_model.specs.Step.{is_legal};
 ghost use Rattle.gaspi_world.specs.Callers.{IsWorkers};
 ghost use Rattle.transfer_worker.specs.Order.{MakesTurn, TriesOther, TriesOthers, with_other};
+ghost use Rattle.transfer_worker.specs.QuietRanks.{TellsStill};
 ghost use Rattle.transfer_worker.specs.Turns.{GoesOn, Turned};
 
 use crate::quiet::QuietRanks;
@@ -73,7 +74,7 @@ fn try_other(world: &World, pass: &mut Pass, origin: RankId, quiet: &mut QuietRa
     ensures table { pass.new.table ≡ pass.old.table }
     ensures free { HoldsNone pass.new.known }
     ensures goes_on { GoesOn pass.old.known pass.new.known }
-    ensures tried { TriesOther world.now.start.shape origin pass.old.known result pass.new.known }
+    ensures tried { TellsStill world.now.start.shape (λ begun. TriesOther world.now.start.shape begun origin pass.old.known result pass.new.known) quiet.old.counts pass.old.known quiet.new.counts pass.new.known }
 {
     let count = world.posts().count(origin.number());
     if quiet.is_quiet(origin.number(), count) {
@@ -98,7 +99,7 @@ pub fn try_others(world: &World, pass: &mut Pass, first: u32, quiet: &mut QuietR
     ensures table { pass.new.table ≡ pass.old.table }
     ensures free { HoldsNone pass.new.known }
     ensures goes_on { GoesOn pass.old.known pass.new.known }
-    ensures order { TriesOthers world.now.start.shape first pass.old.known result pass.new.known }
+    ensures order { TellsStill world.now.start.shape (λ begun. TriesOthers world.now.start.shape begun first pass.old.known result pass.new.known) quiet.old.counts pass.old.known quiet.new.counts pass.new.known }
 {
     let ranks = world.shape().limits().ranks;
     let mut so_far = Others::Passed;

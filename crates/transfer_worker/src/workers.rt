@@ -4,7 +4,7 @@ ghost use Rattle.std.specs.Prelude.{◌≡◌, ◌<◌, ◌+◌, ◌%◌, ◌^�
 ghost use Rattle.commit_table.specs.Calls.{IsOf, HoldsNone};
 ghost use Rattle.gaspi_model.specs.Step.{is_legal};
 ghost use Rattle.gaspi_world.specs.Callers.{IsWorkers};
-ghost use Rattle.transfer_worker.specs.Order.{Drains, GoesPast, MakesTurn, Rests, first_rank};
+ghost use Rattle.transfer_worker.specs.Order.{Drains, GoesPast, MakesTurn, Rests, first_rank, next_turn};
 ghost use Rattle.transfer_worker.specs.Turns.{GoesOn, Turned, IsDrained};
 
 use crate::quiet::QuietRanks;
@@ -21,6 +21,16 @@ pub struct Worker<'a> {
     pub pass: &'a mut Pass,
     /// How many turns it made, modulo 2^64. The next one begins at the rank of that number, modulo how many ranks there are.
     pub turns: u64,
+}
+
+/// The number of the turn after one with that number: where no rank was tried, it was no turn.
+fn next_turn(others: Others, turns: u64) -> u64
+    ensures { result ≡ next_turn others turns }
+{
+    match others {
+        Others::Moved | Others::Busy | Others::Quiet => turns.wrapping_add(1),
+        Others::Passed => turns,
+    }
 }
 
 impl<'a> Worker<'a> {
@@ -70,13 +80,11 @@ impl<'a> Worker<'a> {
         ensures table { self.new.pass.now.table ≡ self.old.pass.now.table }
         ensures free { HoldsNone self.new.pass.now.known }
         ensures goes_on { GoesOn self.old.pass.now.known self.new.pass.now.known }
-        ensures past { GoesPast self.old.world.now.start.shape self.old.turns self.old.pass.now.known result self.new.turns self.new.pass.now.known }
+        ensures past { GoesPast self.old.world.now.start.shape self.old.turns quiet.old.counts self.old.pass.now.known result self.new.turns quiet.new.counts self.new.pass.now.known }
     {
         let first = self.first();
         let others = try_others(self.world, self.pass, first, quiet);
-        if others != Others::Passed {
-            self.count();
-        }
+        self.turns = next_turn(others, self.turns);
         others
     }
 

@@ -1,4 +1,4 @@
-use Rattle.std.proofs.Common.{◌≡◌, ◌≢◌, ap, ◌∙◌, subst, sym, rules, arith}
+use Rattle.std.proofs.Common.{◌≡◌, ◌≢◌, ap, ◌∙◌, subst, sym, refl, rules, arith}
 use denote.Enum.Bare.{same_true}
 use Rattle.gaspi_types.specs.World.{World}
 use Rattle.transfer_worker.specs.Order.{TriesOther}
@@ -9,13 +9,18 @@ use Rattle.transfer_worker.proofs.InOrder.{others-stop, others-end, tried-other-
 use Rattle.transfer_worker.proofs.Tries.{goes-then}
 use Rattle.transfer_worker.proofs.rounds.try_others.Goals as goal
 
+pub loop-next-init : goal.loop-next-init
+loop-next-init c = (refl, c.requires.free, search rules, λ begun knows. ((refl, refl), knows))
+
 pub returns-then-eq-clause-order : goal.returns-then-eq-clause-order
-returns-then-eq-clause-order c =
+returns-then-eq-clause-order c = λ begun knows.
     let w = c.args.world.now.start.shape in
     let ranks : c.limits-ranks.result.ranks ≡ w.limits.ranks = ap (λ l. l.ranks) c.limits-ranks.ensures.value ∙ ap (λ (s : World). s.limits.ranks) c.shape.ensures in
     let moved : c.try_other-other.result ≡ Moved = same_true the_type (search rules) _ _ (sym c.eq.ensures ∙ c.if-eq.true) in
-    let tried = subst (λ (o : Others). TriesOther w c.of.result c.loop-next.pass.known o c.try_other-other.new.pass.known) moved c.try_other-other.ensures.tried in
-    others-stop w c.args.first c.limits-ranks.result.ranks c.loop-next.next c.of.result c.args.pass.now.known c.loop-next.pass.known c.try_other-other.new.pass.known c.loop-next.so_far ranks c.of.ensures c.loop-next-test.true c.loop-next.invariant.3 tried
+    let so_far = c.loop-next.invariant.3 begun knows in
+    let here = c.try_other-other.ensures.tried begun so_far.1 in
+    let tried = subst (λ (o : Others). TriesOther w begun c.of.result c.loop-next.pass.known o c.try_other-other.new.pass.known) moved here.0 in
+    (others-stop w begun c.args.first c.limits-ranks.result.ranks c.loop-next.next c.of.result c.args.pass.now.known c.loop-next.pass.known c.try_other-other.new.pass.known c.loop-next.so_far ranks c.of.ensures c.loop-next-test.true so_far.0 tried, here.1)
 
 pub loop-next-preserved : goal.loop-next-preserved
 loop-next-preserved c =
@@ -25,12 +30,18 @@ loop-next-preserved c =
       c.try_other-other.ensures.table ∙ c.loop-next.invariant.0,
       c.try_other-other.ensures.free,
       goes-then c.args.pass.now.known c.loop-next.pass.known c.try_other-other.new.pass.known c.loop-next.invariant.2 c.try_other-other.ensures.goes_on,
-      rw c.with_other-so_far.ensures
-          (tried-other-next w c.args.first c.limits-ranks.result.ranks c.loop-next.next c.of.result c.args.pass.now.known c.loop-next.pass.known c.try_other-other.new.pass.known c.loop-next.so_far c.try_other-other.result ranks c.of.ensures c.loop-next.invariant.3 c.try_other-other.ensures.tried stays),
+      λ begun knows.
+          let so_far = c.loop-next.invariant.3 begun knows in
+          let here = c.try_other-other.ensures.tried begun so_far.1 in (
+            rw c.with_other-so_far.ensures
+                (tried-other-next w begun c.args.first c.limits-ranks.result.ranks c.loop-next.next c.of.result c.args.pass.now.known c.loop-next.pass.known c.try_other-other.new.pass.known c.loop-next.so_far c.try_other-other.result ranks c.of.ensures so_far.0 here.0 stays),
+            here.1,
+          ),
     )
 
 pub returns-clause-order : goal.returns-clause-order
-returns-clause-order c =
+returns-clause-order c = λ begun knows.
     let w = c.args.world.now.start.shape in
     let ranks : c.limits-ranks.result.ranks ≡ w.limits.ranks = ap (λ l. l.ranks) c.limits-ranks.ensures.value ∙ ap (λ (s : World). s.limits.ranks) c.shape.ensures in
-    others-end w c.args.first c.limits-ranks.result.ranks c.loop-next.next c.args.pass.now.known c.loop-next.pass.known c.loop-next.so_far ranks (let end = c.loop-next-test.false in let most = c.loop-next.auto.next-end in omega arith) c.loop-next.invariant.3
+    let so_far = c.loop-next.invariant.3 begun knows in
+    (others-end w begun c.args.first c.limits-ranks.result.ranks c.loop-next.next c.args.pass.now.known c.loop-next.pass.known c.loop-next.so_far ranks (let end = c.loop-next-test.false in let most = c.loop-next.auto.next-end in omega arith) so_far.0, so_far.1)
