@@ -1,4 +1,0 @@
-pub mod Looks
-pub mod LentLooks
-pub mod Worlds
-pub mod Transfers
