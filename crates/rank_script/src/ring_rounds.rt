@@ -161,17 +161,27 @@ impl Round {
     }
 }
 
+/// Lets a line go. A proof of what drops seven of them has a call for each.
+fn drop_line(_line: ScriptLine) {}
+
 impl Drop for Round {
     fn drop(self) {
         let Round {
-            store: _,
-            post: _,
-            wait: _,
-            waitsome: _,
-            reset: _,
-            load: _,
-            barrier: _,
+            store,
+            post,
+            wait,
+            waitsome,
+            reset,
+            load,
+            barrier,
         } = self;
+        drop_line(store);
+        drop_line(post);
+        drop_line(wait);
+        drop_line(waitsome);
+        drop_line(reset);
+        drop_line(load);
+        drop_line(barrier);
     }
 }
 
