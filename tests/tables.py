@@ -25,14 +25,21 @@ class Unreadable(Exception):
 
 
 @dataclass(frozen=True)
+class Torn:
+    """Bytes behind which the next read or write fails."""
+
+    text: bytes
+
+
+@dataclass(frozen=True)
 class Case:
     """One run of the program and what it must give."""
 
     place: str
     name: str
     words: list[bytes]
-    source: bytes | Path  # standard input: its bytes, or what is opened for it
-    output: bytes | Path | None  # its bytes, what is opened for it (or CLOSED) and not compared, or None: any legal journal
+    source: bytes | Torn | Path  # standard input: its bytes, or what is opened for it
+    output: bytes | Torn | Path | None  # its bytes, what is opened for it (or CLOSED) and not compared, or None: any legal journal
     status: int
     whole: bool = False  # whether it stands in full; such a case is run by the launcher
     once: tuple[bytes, ...] = ()  # what each stands in exactly one line of the journal, where any legal one will do
@@ -115,6 +122,7 @@ class Table:
             "line-faults": self.line_faults,
             "cuts": self.cuts,
             "journal-cuts": self.journal_cuts,
+            "torn": self.torn,
         }
         while self.taken < len(self.lines):
             word, _, rest = self.take().partition(" ")
@@ -389,6 +397,27 @@ class Table:
             for words in JUDGES:
                 yield self.row(f"{words}: the first {cut} bytes", words, text, output, status)
         yield self.row("check: the whole journal", "check", front + journal, f"legal {journal.count(chr(10)) - 2}\n", 0)
+
+    def torn(self, names: str) -> Iterator[Case]:
+        """Rows `WORDS STATUS: OUTPUT` of what a command gives of texts, or, without their names, of what reads nothing.
+
+        Where a read fails behind a front part of the texts, nothing is written; where a write fails behind a front part of
+        the output, that is all.
+        """
+        source = "".join(self.text(name) for name in names.split(" ") if names)
+        for row in self.rows():
+            said, output = parted(row)
+            words, _, status = said.rpartition(" ")
+            if not status.isdigit():
+                raise Unreadable(f"no number of a status: {status}")
+            whole = self.row(f"{words}: the whole", words, source, escaped(output), int(status))
+            yield whole
+            for count in range(len(whole.source) + 1) if names else ():
+                title = f"{words}: a read fails behind {count} bytes"
+                yield replace(whole, name=title, source=Torn(whole.source[:count]), output=b"", status=5)
+            for count in range(len(whole.output)):
+                title = f"{words}: a write fails behind {count} bytes"
+                yield replace(whole, name=title, output=Torn(whole.output[:count]), status=6)
 
 
 def read_tables(paths: list[Path]) -> tuple[list[Case], list[str]]:
