@@ -1,0 +1,5 @@
+pub mod PostedKinds
+pub mod DeliveryTables
+pub mod Brought
+pub mod LinesAt
+pub mod NumberRanges

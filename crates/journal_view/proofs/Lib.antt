@@ -1,0 +1,2 @@
+mod InputAnswers
+mod Reading

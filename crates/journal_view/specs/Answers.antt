@@ -1,0 +1,128 @@
+-- What the program answers to its words and its input. An input stands here as what its source had left before and after, and an output
+-- as what its sink held, where they tell it. (own choice)
+use Rattle.std.specs.Prelude.{◌≡◌, ◌⊎◌, ◌≤◌, ◌<◌, ℕ, ◌+◌, length, List, [], ◌++◌, Option, Some, Result, Ok, Err, codes}
+use Rattle.std.specs.Option.{ForSome}
+use Rattle.std.specs.Fmt.{decimal}
+use Rattle.gaspi_io.specs.Faults.{HasCause}
+use Rattle.gaspi_io.specs.Sink.{with_more, AddsFront}
+use Rattle.gaspi_io.specs.Source.{without, TakesAtMost}
+use Rattle.gaspi_io.specs.declared.read.ReadStop.{ReadStop}
+use Rattle.gaspi_io.specs.declared.read.ReadStop.TheVariants as stops
+use Rattle.rank_script.specs.Lines.{input_limit}
+use Rattle.rank_script.specs.WorldText.{TextFault, checked_world}
+use Rattle.rank_script.specs.declared.scripts.ScriptFault.{ScriptFault}
+use Rattle.rank_script.specs.declared.scripts.ScriptFault.TheVariants.{At, NoMemory}
+use Rattle.journal_view.specs.Viewing.{IsViewed}
+use Rattle.journal_view.specs.declared.viewing.Told.{Told}
+
+abbrev pub refused_text : List ℕ
+refused_text = codes "journal_view: words refused\n"
+
+-- the line that names a fault of a world text
+abbrev pub fault_text : TextFault → List ℕ
+fault_text f = codes "fault S" ++ decimal f.number ++ codes " line " ++ decimal f.line ++ codes "\n"
+
+-- What is done with the output.
+
+module _ (held held' : Option (List ℕ)) (faults faults' status : ℕ) where
+  -- a text was written, for that status, or it could not be written whole
+  abbrev pub IsWritten : ℕ → List ℕ → Type 0
+  IsWritten meant text =
+      ((status ≡ meant) × (held' ≡ with_more held text) × (faults' ≡ faults))
+      ⊎ ((status ≡ 6) × AddsFront text held held' × HasCause faults faults')
+
+  -- nothing was written
+  abbrev pub IsSilent : ℕ → Type 0
+  IsSilent meant = (status ≡ meant) × (held' ≡ held) × (faults' ≡ faults)
+
+  -- a fault was told, or there was no memory for its text
+  abbrev pub SaysFault : TextFault → Type 0
+  SaysFault fault = IsWritten 2 (fault_text fault) ⊎ IsSilent 7
+
+  abbrev pub Says : Result Told ScriptFault → Type 0
+  Says (Ok told) = IsWritten told.status told.text
+  Says (Err (At number line)) = SaysFault (record { number = number; line = line })
+  Says (Err NoMemory) = IsSilent 7
+
+  -- the input could not be read, or is too long
+  abbrev pub SaysStop : ReadStop → Type 0
+  SaysStop stops.Fault = IsSilent 5
+  SaysStop stops.Long = SaysFault (record { number = 1; line = 0 })
+  SaysStop stops.NoMemory = IsSilent 7
+
+-- What an answer says. Each case has its statuses.
+
+-- the whole input was read, and the text is what is told of it
+pub record TellsInput (before after : Option (List ℕ)) (status : ℕ) (text : List ℕ) : Type 0 where
+  pub input : List ℕ
+  pub all : ForSome before (λ told. input ≡ told)
+  pub end : ForSome before (λ told. after ≡ Some [])
+  pub tells : IsViewed input status text
+
+-- the input has a fault, and the text names the first; the whole input was read, and where it is too long, one byte past
+-- what it may have
+pub record TellsFault (before after : Option (List ℕ)) (text : List ℕ) : Type 0 where
+  pub input : List ℕ
+  pub fault : TextFault
+  pub all : ForSome before (λ told. input ≡ told)
+  pub end : length input ≤ input_limit → ForSome before (λ told. after ≡ Some [])
+  pub past : input_limit < length input → after ≡ without before (input_limit + 1)
+  pub is : checked_world input ≡ Err fault
+  pub text_is : text ≡ fault_text fault
+
+-- no read and no write failed
+abbrev pub NothingFailed : ℕ → ℕ → ℕ → ℕ → Type 0
+NothingFailed faults faults' sink_faults sink_faults' = (faults' ≡ faults) × (sink_faults' ≡ sink_faults)
+
+-- the input was told: status 0, 4 or 9
+pub record HasTold (before after held held' : Option (List ℕ)) (faults faults' sink_faults sink_faults' status : ℕ) : Type 0 where
+  pub text : List ℕ
+  pub still : NothingFailed faults faults' sink_faults sink_faults'
+  pub told : TellsInput before after status text
+  pub written : held' ≡ with_more held text
+
+-- a fault was told: status 2
+pub record IsFaulty (before after held held' : Option (List ℕ)) (faults faults' sink_faults sink_faults' status : ℕ) : Type 0 where
+  pub text : List ℕ
+  pub still : NothingFailed faults faults' sink_faults sink_faults'
+  pub fault : TellsFault before after text
+  pub written : held' ≡ with_more held text
+  pub status_is : status ≡ 2
+
+-- the input could not be read: status 5; nothing was written, and at most one byte more was taken than an input may have
+pub record CouldNotRead (before after held held' : Option (List ℕ)) (faults faults' sink_faults sink_faults' status : ℕ) : Type 0 where
+  pub cause : HasCause faults faults'
+  pub still : sink_faults' ≡ sink_faults
+  pub taken : TakesAtMost (input_limit + 1) before after
+  pub kept : held' ≡ held
+  pub status_is : status ≡ 5
+
+-- the text of the input or of a fault could not be written whole: status 6; what was written is a front part of it
+pub record CouldNotWrite (before after held held' : Option (List ℕ)) (faults faults' sink_faults sink_faults' status : ℕ) : Type 0 where
+  pub text : List ℕ
+  pub of : ((would_be : ℕ) × TellsInput before after would_be text) ⊎ TellsFault before after text
+  pub front : AddsFront text held held'
+  pub cause : HasCause sink_faults sink_faults'
+  pub still : faults' ≡ faults
+  pub status_is : status ≡ 6
+
+-- want of memory, and nothing else: status 7; nothing was written, and at most one byte more was taken than an input may have
+pub record LacksMemory (before after held held' : Option (List ℕ)) (faults faults' sink_faults sink_faults' status : ℕ) : Type 0 where
+  pub taken : TakesAtMost (input_limit + 1) before after
+  pub kept : held' ≡ held
+  pub still : NothingFailed faults faults' sink_faults sink_faults'
+  pub status_is : status ≡ 7
+
+-- the answer to an input
+abbrev pub Answers : Option (List ℕ) → Option (List ℕ) → ℕ → ℕ → Option (List ℕ) → Option (List ℕ) → ℕ → ℕ → ℕ → Type 0
+Answers before after faults faults' held held' sink_faults sink_faults' status =
+    HasTold before after held held' faults faults' sink_faults sink_faults' status
+    ⊎ (IsFaulty before after held held' faults faults' sink_faults sink_faults' status
+    ⊎ (CouldNotRead before after held held' faults faults' sink_faults sink_faults' status
+    ⊎ (CouldNotWrite before after held held' faults faults' sink_faults sink_faults' status
+    ⊎ LacksMemory before after held held' faults faults' sink_faults sink_faults' status)))
+
+-- the answer to words that are refused: status 1, or 6 where that could not be written, or 7 where memory is wanting
+abbrev pub Refuses : Option (List ℕ) → Option (List ℕ) → ℕ → ℕ → ℕ → Type 0
+Refuses held held' faults faults' status =
+    IsWritten held held' faults faults' status 1 refused_text ⊎ IsSilent held held' faults faults' status 7

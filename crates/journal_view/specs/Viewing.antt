@@ -1,0 +1,86 @@
+-- What is told of an input: the picture of its journal, or why it has none. (own choice)
+use Rattle.std.specs.Prelude.{◌≡◌, ◌⊎◌, ℕ, ◌+◌, ◌-◌, length, drop, List, ◌++◌, Option, Some, None, Ok, codes}
+use Rattle.std.specs.Fmt.{decimal}
+use Rattle.gaspi_types.specs.World.{World}
+use Rattle.gaspi_types.specs.declared.events.Event.{Event}
+use Rattle.text_lines.specs.Lines.{fed_lines}
+use Rattle.gaspi_model.specs.declared.states.Why.{Why}
+use Rattle.gaspi_model.specs.declared.states.Why.TheVariants as whys
+use Rattle.journal_texts.specs.JournalText.{journal_text, AreInRange, IsFaultyAt}
+use Rattle.journal_pictures.specs.Answers.{IsSequenceAnswer}
+use Rattle.journal_pictures.specs.declared.drawing.SequenceAnswer.{SequenceAnswer}
+use Rattle.journal_pictures.specs.declared.drawing.SequenceAnswer.TheVariants.{Drawn, Long, Illegal}
+use Rattle.rank_script.specs.WorldText.{journal_place, checked_world}
+use Rattle.rank_script.specs.declared.scripts.Script.{Script}
+
+-- The texts.
+
+abbrev pub why_word : Why → List ℕ
+why_word whys.Caller = codes "caller"
+why_word whys.Limit = codes "limit"
+why_word whys.Join = codes "join"
+why_word whys.Reply = codes "reply"
+why_word whys.Take = codes "take"
+why_word whys.Put = codes "put"
+
+abbrev pub no_journal_text : ℕ → List ℕ
+no_journal_text line = codes "not a journal " ++ decimal line ++ codes "\n"
+
+abbrev pub illegal_text : ℕ → Why → List ℕ
+illegal_text place why = codes "illegal " ++ decimal place ++ codes " " ++ why_word why ++ codes "\n"
+
+abbrev pub long_text : ℕ → List ℕ
+long_text events = codes "too long " ++ decimal events ++ codes "\n"
+
+abbrev pub answer_text : SequenceAnswer → List ℕ
+answer_text (Drawn text) = text
+answer_text (Long events) = long_text events
+answer_text (Illegal place why) = illegal_text place why
+
+abbrev pub answer_status : SequenceAnswer → ℕ
+answer_status (Drawn text) = 0
+answer_status (Long events) = 9
+answer_status (Illegal place why) = 4
+
+-- What is told: of a text that is no journal its first line that cannot stand there, of a journal its sequence diagram.
+
+-- no journal, which shows at that line of the input
+pub record IsNoJournal (line status : ℕ) (text : List ℕ) : Type 0 where
+  pub status_is : status ≡ 4
+  pub text_is : text ≡ no_journal_text line
+
+-- the diagram of a journal, or why it has none
+pub record HasPicture (world : World) (journal : List Event) (status : ℕ) (text : List ℕ) : Type 0 where
+  pub answer : SequenceAnswer
+  pub is : IsSequenceAnswer world journal answer
+  pub status_is : status ≡ answer_status answer
+  pub text_is : text ≡ answer_text answer
+
+-- a text that is no journal from its line on, the first line of which has that number
+pub record IsUnread (text : List ℕ) (number status : ℕ) (told : List ℕ) : Type 0 where
+  pub line : ℕ
+  pub faulty : IsFaultyAt text line
+  pub none : IsNoJournal (number - 1 + line) status told
+
+-- a journal, and its picture
+pub record IsPictured (world : World) (text : List ℕ) (status : ℕ) (told : List ℕ) : Type 0 where
+  pub journal : List Event
+  pub journal_is : text ≡ journal_text journal
+  pub ranges : AreInRange journal
+  pub picture : HasPicture world journal status told
+
+-- what is told of the text of a journal, the first line of which has that number
+abbrev pub IsRead : World → List ℕ → ℕ → ℕ → List ℕ → Type 0
+IsRead world text number status told = IsUnread text number status told ⊎ IsPictured world text status told
+
+-- What is told of an input with a world: where no line begins with `journal`, the line after the last is named.
+abbrev pub IsViewedIn : World → List ℕ → Option (ℕ × ℕ) → ℕ → List ℕ → Type 0
+IsViewedIn world input None status text = IsNoJournal (length (fed_lines input) + 1) status text
+IsViewedIn world input (Some place) status text = IsRead world (drop place.0 input) place.1 status text
+
+-- an input has a world text, and from the first line that begins with `journal` on a journal
+pub record IsViewed (input : List ℕ) (status : ℕ) (text : List ℕ) : Type 0 where
+  pub world : World
+  pub scripts : List Script
+  pub read : checked_world input ≡ Ok (record { world = Some world; scripts = scripts })
+  pub result : IsViewedIn world input (journal_place input) status text

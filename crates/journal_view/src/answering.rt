@@ -1,0 +1,110 @@
+//! What the program answers to its words and its input.
+
+ghost use Rattle.std.specs.Prelude.{◌≡◌, ◌⊎◌, map, None, Some, IfOk};
+ghost use Rattle.gaspi_io.specs.Faults.{HasCause};
+ghost use Rattle.gaspi_io.specs.Sink.{with_more, AddsFront};
+ghost use Rattle.journal_view.specs.Answers.{Answers, Refuses, Says, SaysFault, SaysStop, fault_text};
+ghost use Rattle.journal_view.specs.Words.{picture_of};
+ghost use Rattle.journal_view.specs.declared.words.Picture.{Picture};
+
+use crate::viewing::{Told, tell_view};
+use crate::words::{Picture, read_words};
+use gaspi_io::{Failed, ReadStop, Sink, Source, read_all, write_all};
+use gaspi_texts::write_number;
+use gaspi_types::{Bytes, NoMemory};
+use rank_script::{MOST_INPUT_BYTES, ScriptFault};
+use std::alloc::Global;
+
+/// The line that names a fault.
+fn fault_line(alloc: Global, number: u32, line: u64) -> Result<Bytes, NoMemory>
+    ensures { IfOk result (λ text. text ≡ fault_text (record { number = number; line = line })) }
+{
+    let mut text = Bytes::new(alloc);
+    text.append(b"fault S")?;
+    write_number(&mut text, u64::from(number))?;
+    text.append(b" line ")?;
+    write_number(&mut text, line)?;
+    text.append(b"\n")?;
+    Ok(text)
+}
+
+/// Writes a text, and gives the status: 6 where it could not be written whole.
+fn status_of<K: Sink>(sink: &mut K, text: &[u8], status: u8) -> u8
+    ensures { ((result ≡ status) × (K.held sink.new ≡ with_more (K.held sink.old) text.now) × (K.faults sink.new ≡ K.faults sink.old))
+        ⊎ ((result ≡ 6) × AddsFront text.now (K.held sink.old) (K.held sink.new) × HasCause (K.faults sink.old) (K.faults sink.new)) }
+{
+    match write_all(sink, text) {
+        Ok(()) => status,
+        Err(Failed) => 6,
+    }
+}
+
+/// Answers a fault of the input.
+fn answer_fault<K: Sink>(alloc: Global, sink: &mut K, number: u32, line: u64) -> u8
+    ensures { SaysFault (K.held sink.old) (K.held sink.new) (K.faults sink.old) (K.faults sink.new) result (record { number = number; line = line }) }
+{
+    match fault_line(alloc, number, line) {
+        Ok(text) => status_of(sink, text.as_slice(), 2),
+        Err(NoMemory) => 7,
+    }
+}
+
+/// Answers what was told of an input, or its fault.
+fn answer_told<K: Sink>(alloc: Global, sink: &mut K, told: Result<Told, ScriptFault>) -> u8
+    ensures { Says (K.held sink.old) (K.held sink.new) (K.faults sink.old) (K.faults sink.new) result told }
+{
+    match told {
+        Ok(told) => status_of(sink, told.text.as_slice(), told.status),
+        Err(ScriptFault::At { number, line }) => answer_fault(alloc, sink, number, line),
+        Err(ScriptFault::NoMemory) => 7,
+    }
+}
+
+/// Answers an input that could not be read.
+fn answer_stop<K: Sink>(alloc: Global, sink: &mut K, stop: ReadStop) -> u8
+    ensures { SaysStop (K.held sink.old) (K.held sink.new) (K.faults sink.old) (K.faults sink.new) result stop }
+{
+    match stop {
+        ReadStop::Fault => 5,
+        ReadStop::Long => answer_fault(alloc, sink, 1, 0),
+        ReadStop::NoMemory => 7,
+    }
+}
+
+/// Reads the input that the source has left, and writes the sequence diagram of its journal.
+fn view_sequence<S: Source, K: Sink>(alloc: Global, source: &mut S, sink: &mut K) -> u8
+    ensures { Answers (S.left source.old) (S.left source.new) (S.faults source.old) (S.faults source.new)
+        (K.held sink.old) (K.held sink.new) (K.faults sink.old) (K.faults sink.new) result }
+{
+    match read_all(alloc, source, MOST_INPUT_BYTES as u64) {
+        Ok(input) => answer_told(alloc, sink, tell_view(alloc, input.as_slice())),
+        Err(stop) => answer_stop(alloc, sink, stop),
+    }
+}
+
+/// The program: writes the picture that the words after its name ask for, of the journal in its input, and gives the exit status. Words
+/// that ask for none are refused, and then nothing is read.
+///
+/// | Status | Where |
+/// |---|---|
+/// | 0 | the picture was written |
+/// | 1 | the words are refused |
+/// | 2 | the world text has a fault |
+/// | 4 | there is no journal, or it is not legal |
+/// | 5 | a read failed |
+/// | 6 | a write failed |
+/// | 7 | want of memory |
+/// | 9 | the journal has too many events for that picture |
+pub fn view<S: Source, K: Sink>(alloc: Global, words: &[&str], source: &mut S, sink: &mut K) -> u8
+    ensures refused { picture_of (map (λ word. word.now) words.now) ≡ None
+        → Refuses (K.held sink.old) (K.held sink.new) (K.faults sink.old) (K.faults sink.new) result × (source.new ≡ source.old) }
+    ensures answers { (picture : Picture) → picture_of (map (λ word. word.now) words.now) ≡ Some picture
+        → Answers (S.left source.old) (S.left source.new) (S.faults source.old) (S.faults source.new)
+        (K.held sink.old) (K.held sink.new) (K.faults sink.old) (K.faults sink.new) result }
+{
+    match read_words(alloc, words) {
+        Ok(Some(Picture::Sequence)) => view_sequence(alloc, source, sink),
+        Ok(None) => status_of(sink, b"journal_view: words refused\n", 1),
+        Err(NoMemory) => 7,
+    }
+}

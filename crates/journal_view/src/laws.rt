@@ -1,0 +1,31 @@
+//! Laws of the words. Each is a function without a body: what it ensures is the law.
+
+ghost use Rattle.std.specs.Prelude.{◌≡◌, [], ◌∷◌, Some, None, codes};
+ghost use Rattle.journal_view.specs.Words.{picture_of};
+
+use crate::words::Picture;
+
+/// These words are taken.
+#[tactic(auto, unfolding(crate::specs::Words::picture_of, clap::proofs::OnLiterals::clap_on_literals))]
+pub fn words_that_are_taken()
+    ensures sequence { picture_of (codes "--sequence" ∷ []) ≡ Some Picture.Sequence }
+    ensures dashes { picture_of (codes "--sequence" ∷ codes "--" ∷ []) ≡ Some Picture.Sequence }
+{}
+
+/// These words are refused: no flag, one that there is not, a flag given twice or with a value, a word, and help and version.
+#[tactic(auto, unfolding(crate::specs::Words::picture_of, clap::proofs::OnLiterals::clap_on_literals))]
+pub fn words_that_are_refused()
+    ensures nothing { picture_of [] ≡ None }
+    ensures empty_word { picture_of ([] ∷ []) ≡ None }
+    ensures dashes { picture_of (codes "--" ∷ []) ≡ None }
+    ensures word { picture_of (codes "sequence" ∷ []) ≡ None }
+    ensures other_flag { picture_of (codes "--trace" ∷ []) ≡ None }
+    ensures longer_flag { picture_of (codes "--sequences" ∷ []) ≡ None }
+    ensures twice { picture_of (codes "--sequence" ∷ codes "--sequence" ∷ []) ≡ None }
+    ensures with_value { picture_of (codes "--sequence=true" ∷ []) ≡ None }
+    ensures word_behind { picture_of (codes "--sequence" ∷ codes "x" ∷ []) ≡ None }
+    ensures help { picture_of (codes "--help" ∷ []) ≡ None }
+    ensures short_help { picture_of (codes "-h" ∷ []) ≡ None }
+    ensures version { picture_of (codes "--version" ∷ []) ≡ None }
+    ensures short_version { picture_of (codes "-V" ∷ []) ≡ None }
+{}

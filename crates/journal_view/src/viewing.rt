@@ -1,0 +1,132 @@
+//! What is told of an input: its picture, or why it has none.
+
+ghost use Rattle.std.specs.Prelude.{◌≡◌, ◌<◌, ◌≤◌, ◌+◌, ◌^◌, ℕ, length, IfOk, IsErrOf, Err};
+ghost use Rattle.rank_script.specs.WorldText.{checked_world};
+ghost use Rattle.rank_script.specs.declared.scripts.ScriptFault.TheVariants as script_faults;
+ghost use Rattle.text_lines.specs.Lines.{fed_lines};
+ghost use Rattle.journal_view.specs.Viewing.{HasPicture, IsNoJournal, IsRead, IsViewed, illegal_text, long_text, why_word};
+
+use gaspi_model::Why;
+use gaspi_texts::write_number;
+use gaspi_types::{Bytes, NoMemory, Shape};
+use journal_pictures::{SequenceAnswer, sequence};
+use journal_texts::{Journal, JournalFault, read};
+use rank_script::{ScriptFault, read_input};
+use std::alloc::Global;
+use text_lines::first_line;
+
+/// What is told of an input: the status and the text.
+#[derive(Debug, Drop)]
+pub struct Told {
+    pub status: u8,
+    pub text: Bytes,
+}
+
+/// The word of why an event is no step.
+fn why_word(why: Why) -> &'static [u8]
+    ensures { result.now ≡ why_word why }
+{
+    match why {
+        Why::Caller => b"caller",
+        Why::Limit => b"limit",
+        Why::Join => b"join",
+        Why::Reply => b"reply",
+        Why::Take => b"take",
+        Why::Put => b"put",
+    }
+}
+
+/// The text that names the first event that is no step.
+fn illegal_text(alloc: Global, place: u64, why: Why) -> Result<Bytes, NoMemory>
+    ensures { IfOk result (λ text. text ≡ illegal_text place why) }
+{
+    let mut text = Bytes::new(alloc);
+    text.append(b"illegal ")?;
+    write_number(&mut text, place)?;
+    text.append(b" ")?;
+    text.append(why_word(why))?;
+    text.append(b"\n")?;
+    Ok(text)
+}
+
+/// The text that tells that a journal has too many events, and how many.
+fn long_text(alloc: Global, events: u64) -> Result<Bytes, NoMemory>
+    ensures { IfOk result (λ text. text ≡ long_text events) }
+{
+    let mut text = Bytes::new(alloc);
+    text.append(b"too long ")?;
+    write_number(&mut text, events)?;
+    text.append(b"\n")?;
+    Ok(text)
+}
+
+/// Tells that an input has no journal, and at which of its lines.
+fn tell_no_journal(alloc: Global, line: u64) -> Result<Told, NoMemory>
+    ensures { IfOk result (λ told. IsNoJournal line told.status told.text) }
+{
+    let mut text = Bytes::new(alloc);
+    text.append(b"not a journal ")?;
+    write_number(&mut text, line)?;
+    text.append(b"\n")?;
+    Ok(Told { status: 4, text })
+}
+
+/// Tells the sequence diagram of a journal.
+fn tell_sequence(alloc: Global, shape: &Shape, journal: &Journal) -> Result<Told, NoMemory>
+    ensures { IfOk result (λ told. HasPicture shape.now journal.now told.status told.text) }
+{
+    match sequence(alloc, shape, journal)? {
+        SequenceAnswer::Drawn(text) => Ok(Told { status: 0, text }),
+        SequenceAnswer::Long { events } => {
+            let text = long_text(alloc, events)?;
+            Ok(Told { status: 9, text })
+        }
+        SequenceAnswer::Illegal { place, why } => {
+            let text = illegal_text(alloc, place, why)?;
+            Ok(Told { status: 4, text })
+        }
+    }
+}
+
+/// How many lines a text has. The last may lack its line feed.
+fn line_count(text: &[u8]) -> u64
+    ensures count { result ≡ length (fed_lines text.now) }
+    ensures bound { result ≤ length text.now }
+{
+    let mut count: u64 = 0;
+    let mut rest = text;
+    while !rest.is_empty() {
+        let (_, later) = first_line(rest);
+        count += 1;
+        rest = later;
+    }
+    count
+}
+
+/// Reads the journal of an input, which begins at a line of that number, and tells its picture.
+fn tell_journal(alloc: Global, shape: &Shape, text: &[u8], number: u64) -> Result<Told, NoMemory>
+    requires { (1 ≤ number) × (number + length text.now < 2 ^ 63) }
+    ensures { IfOk result (λ told. IsRead shape.now text.now number told.status told.text) }
+{
+    match read(alloc, text) {
+        Ok(journal) => tell_sequence(alloc, shape, &journal),
+        Err(JournalFault::At { line }) => tell_no_journal(alloc, number - 1 + line),
+        Err(JournalFault::NoMemory) => Err(NoMemory),
+    }
+}
+
+/// Tells the picture of the journal of an input, in the world of the text before it.
+pub fn tell_view(alloc: Global, input: &[u8]) -> Result<Told, ScriptFault>
+    ensures told { IfOk result (λ told. IsViewed input.now told.status told.text) }
+    ensures fault { (number line : ℕ) → IsErrOf result (script_faults.At number line)
+        → checked_world input.now ≡ Err (record { number = number; line = line }) }
+{
+    let (shape, _scripts, place) = read_input(alloc, input)?;
+    match place {
+        None => Ok(tell_no_journal(alloc, line_count(input) + 1)?),
+        Some((place, number)) => {
+            let journal = &input[place as usize..];
+            Ok(tell_journal(alloc, &shape, journal, number)?)
+        }
+    }
+}

@@ -1,0 +1,88 @@
+//! The words of the command line, read.
+
+ghost use Rattle.std.specs.Prelude.{◌≡◌, ◌≢◌, IfOk, false, map, None};
+ghost use Rattle.clap.specs.Words.{app_of, found_of, kind_of, rows_of, rule_of};
+ghost use Rattle.clap.specs.declared.builder.Command.TheViews.{out-Command as fields_of};
+ghost use Rattle.journal_view.specs.Words.{flag_at, picture_in, picture_of, program_app, sequence_rule, the_app};
+
+use clap::error::ErrorKind;
+use clap::{Arg, ArgAction, ArgMatches, Command, Error};
+use gaspi_types::NoMemory;
+use std::alloc::{AllocError, Global};
+
+/// Which picture of a journal is asked for.
+#[derive(Clone, Copy, Debug, PartialEq, Eq)]
+pub enum Picture {
+    /// `--sequence`: a sequence diagram, in the text of Mermaid.
+    Sequence,
+}
+
+/// `--sequence`: the sequence diagram.
+fn sequence<'a>(alloc: Global) -> Arg<'a>
+    ensures rule { rule_of result ≡ sequence_rule }
+    ensures local { result.global ≡ false }
+{
+    Arg::new(alloc, "sequence")
+        .long("sequence")
+        .action(ArgAction::SetTrue)
+}
+
+/// The program without its flags.
+fn bare_program<'a>(alloc: Global) -> Command<'a>
+    ensures app { app_of result ≡ program_app }
+    ensures local { (fields_of result).has_globals ≡ false }
+{
+    Command::new(alloc, "journal_view")
+        .no_binary_name(true)
+        .disable_help_flag(true)
+        .disable_version_flag(true)
+}
+
+/// The program.
+fn program<'a>(alloc: Global) -> Result<Command<'a>, AllocError>
+    ensures { IfOk result (λ command. app_of command ≡ the_app) }
+{
+    bare_program(alloc).arg(sequence(alloc))
+}
+
+/// Whether a flag was given.
+fn flag(matches: &ArgMatches<'_>, id: &str) -> bool
+    ensures { result ≡ flag_at id.now (rows_of (found_of matches.now)) }
+{
+    match matches.get_str(id) {
+        Some(text) => text == "true",
+        None => false,
+    }
+}
+
+/// Which picture the flags ask for.
+fn asked(matches: &ArgMatches<'_>) -> Option<Picture>
+    ensures { result ≡ picture_in (rows_of (found_of matches.now)) }
+{
+    if flag(matches, "sequence") {
+        Some(Picture::Sequence)
+    } else {
+        None
+    }
+}
+
+/// The answer to words that clap refuses: none, or want of memory.
+fn refused(error: &Error) -> Result<Option<Picture>, NoMemory>
+    ensures { IfOk result (λ picture. (picture ≡ None) × (kind_of error.now ≢ ErrorKind.OutOfMemory)) }
+{
+    match error.kind() {
+        ErrorKind::OutOfMemory => Err(NoMemory),
+        _ => Ok(None),
+    }
+}
+
+/// Which picture the words after the program's name ask for: `--sequence`. None where the words are refused.
+pub fn read_words(alloc: Global, words: &[&str]) -> Result<Option<Picture>, NoMemory>
+    ensures { IfOk result (λ picture. picture ≡ picture_of (map (λ word. word.now) words.now)) }
+{
+    let program = program(alloc)?;
+    match program.try_get_matches_from(words) {
+        Ok(matches) => Ok(asked(&matches)),
+        Err(error) => refused(&error),
+    }
+}
