@@ -42,6 +42,7 @@ class Case:
     output: bytes | Torn | Path | None  # its bytes, what is opened for it (or CLOSED) and not compared, or None: any legal journal
     status: int
     whole: bool = False  # whether it stands in full; such a case is run by the launcher
+    program: str = "gaspirun"  # the program that is run
     once: tuple[bytes, ...] = ()  # what each stands in exactly one line of the journal, where any legal one will do
 
 
@@ -185,8 +186,9 @@ class Table:
         return rest
 
     def case(self, name: str) -> Iterator[Case]:
-        """Words, input, output and status; each further line of words is one more run."""
+        """Words, input, output and status, of a program where it is named; each further line of words is one more run."""
         place, title = self.place(), self.new_title(name)
+        program = self.part("program") if self.next_word() == "program" else "gaspirun"
         all_words = [self.part("words")]
         while self.next_word() == "words":
             all_words.append(self.part("words"))
@@ -197,7 +199,7 @@ class Table:
         if not status.isdigit():
             raise Unreadable(f"no number of a status: {status}")
         for words in all_words:
-            yield Case(place, f"{title}: {words}", words_of(words), source, output, int(status), True)
+            yield Case(place, f"{title}: {words}", words_of(words), source, output, int(status), True, program=program)
 
     def stream(self, said: str) -> bytes | Path:
         """What is said of an input or an output: its bytes, or what is opened for it."""

@@ -62,7 +62,7 @@ failed_word Failed = codes " failed: "
 
 -- what it brings
 abbrev pub bytes_text : ℕ → ℕ → ℕ → List ℕ
-bytes_text size segment offset = decimal size ++ labelled (codes " bytes, segment ") segment ++ labelled (codes ", offset ") offset
+bytes_text size segment offset = labelled (codes "size ") size ++ labelled (codes ", segment ") segment ++ labelled (codes ", offset ") offset
 
 abbrev pub notification_text : ℕ → ℕ → ℕ → List ℕ
 notification_text segment note value = labelled (codes "id ") note ++ labelled (codes ", value ") value ++ labelled (codes ", segment ") segment

@@ -167,8 +167,8 @@ fn entry_word(delivery: &Delivery) -> &'static [u8]
 fn append_bytes(text: &mut Bytes, size: u64, segment: u64, offset: u64) -> Result<(), NoMemory>
     ensures { OnOk result (text.new ≡ text.old ++ bytes_text size segment offset) }
 {
-    write_number(text, size)?;
-    append_labelled(text, b" bytes, segment ", segment)?;
+    append_labelled(text, b"size ", size)?;
+    append_labelled(text, b", segment ", segment)?;
     append_labelled(text, b", offset ", offset)
 }
 

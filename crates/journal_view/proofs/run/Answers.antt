@@ -1,4 +1,4 @@
-use Rattle.std.proofs.Common.{refl, inr, sym, subst}
+use Rattle.std.proofs.Common.{refl, inr}
 use Rattle.journal_view.proofs.InputAnswers.{starved-answers}
 use Rattle.journal_view.proofs.run.Goals as goal
 

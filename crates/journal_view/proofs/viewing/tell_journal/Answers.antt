@@ -1,4 +1,4 @@
-use Rattle.std.proofs.Common.{◌+◌, ◌-◌, Err, ap, inl, arith}
+use Rattle.std.proofs.Common.{Err, ap, inl, arith}
 use Rattle.std.proofs.lemmas.Result.{IfOk-weaker}
 use Rattle.text_lines.proofs.FedLines.{lines-short}
 use Rattle.journal_view.proofs.viewing.tell_journal.Goals as goal
