@@ -1,0 +1,72 @@
+//! What the threads of a world do: each runs the program for a caller, or makes transfers.
+
+ghost use Rattle.std.specs.Prelude.{◌≡◌};
+ghost use Rattle.commit_table.specs.Calls.{IsOf, HoldsNone};
+ghost use Rattle.gaspi_world.specs.Calling.{MayCall};
+ghost use Rattle.gaspi_world.specs.Callers.{IsWorkers};
+ghost use Rattle.transfer_worker.specs.Turns.{GoesOn, IsDrained};
+
+use crate::programs::Program;
+use gaspi_types::{Call, Timeout};
+use gaspi_world::{Body, Pass, Rank, World};
+use std::alloc::Global;
+use std::sync::Wait;
+use transfer_worker::Worker;
+
+/// What a thread of a world does.
+#[derive(Drop)]
+pub(crate) enum Part<'a, P, T> {
+    /// It runs the program for a caller, which comes to this once it has.
+    Caller { program: &'a P, outcome: Option<T> },
+    /// It makes transfers until none is left. Its first turn begins at the rank of that number.
+    Worker { turns: u64 },
+}
+
+/// Runs the program for the caller of a pass, and makes the caller's end.
+fn run_caller<R: Wait, P: Program>(
+    rt: &R,
+    alloc: Global,
+    world: &World,
+    pass: &mut Pass,
+    program: &P,
+) -> P::Outcome
+    requires { MayCall world.now pass.old }
+    ensures { MayCall world.now pass.new }
+{
+    let caller = world.caller_of(pass);
+    let mut rank = Rank { world, pass };
+    let outcome = program.run(rt, alloc, caller, &mut rank);
+    let _ = rank.call(rt, alloc, &Call::End, Timeout::Looks(1));
+    outcome
+}
+
+/// Makes transfers by the pass of a worker until none is left.
+fn drain<R: Wait>(rt: &R, world: &World, pass: &mut Pass, turns: u64)
+    requires pass { IsOf world.now pass.old }
+    requires free { HoldsNone pass.old.known }
+    requires worker { IsWorkers world.now.start.shape pass.old.known }
+    ensures table { pass.new.table ≡ pass.old.table }
+    ensures free { HoldsNone pass.new.known }
+    ensures goes_on { GoesOn pass.old.known pass.new.known }
+    ensures drained { IsDrained world.now.start.shape pass.new.known.seen }
+{
+    Worker { world, pass, turns }.drain(rt);
+}
+
+impl<'a, P: Program> Body for Part<'a, P, P::Outcome> {
+    ghost use Rattle.rank_programs.specs.Parts.{NeedsOf, DidOf};
+
+    ghost needs = { NeedsOf };
+
+    ghost did = { DidOf };
+
+    /// Runs the program, or makes the transfers.
+    fn run<R: Wait>(&mut self, rt: &R, alloc: Global, world: &World, pass: &mut Pass) {
+        match self {
+            Part::Caller { program, outcome } => {
+                *outcome = Some(run_caller(rt, alloc, world, pass, *program));
+            }
+            Part::Worker { turns } => drain(rt, world, pass, *turns),
+        }
+    }
+}

@@ -1,0 +1,82 @@
+//! Replies, read as what a call answers where nothing goes wrong. (own choice)
+
+ghost use Rattle.std.specs.Prelude.{◌≡◌, ◌↔◌, IsOk, IfErr, Ok};
+ghost use Rattle.gaspi_types.specs.declared.replies.Reply.TheVariants as replies;
+
+use gaspi_types::{Bytes, Numbers, Reply};
+use gaspi_world::Stop;
+use thiserror::Error;
+
+/// A call that was answered otherwise, or was not made. The name is its caller's own.
+#[derive(Debug, Drop, Error)]
+#[error("{call}: {told:?}")]
+pub struct Unexpected {
+    pub call: &'static str,
+    pub told: Result<Reply, Stop>,
+}
+
+/// The call was done, and answered nothing else.
+pub fn done(call: &'static str, told: Result<Reply, Stop>) -> Result<(), Unexpected>
+    ensures done { IsOk result ↔ (told ≡ Ok replies.Done) }
+    ensures other { IfErr result (λ e. e.told ≡ told) }
+{
+    match told {
+        Ok(Reply::Done) => Ok(()),
+        told => Err(Unexpected { call, told }),
+    }
+}
+
+/// The number that it answered: the value of a notification slot, a word, or how many entries a queue has.
+pub fn value(call: &'static str, told: Result<Reply, Stop>) -> Result<u64, Unexpected>
+    ensures value { (n : _) → (result ≡ Ok n) ↔ (told ≡ Ok (replies.Value n)) }
+    ensures other { IfErr result (λ e. e.told ≡ told) }
+{
+    match told {
+        Ok(Reply::Value(n)) => Ok(n),
+        told => Err(Unexpected { call, told }),
+    }
+}
+
+/// The number of what it answered: of a notification slot, a group, or the rank that sent a message.
+pub fn id(call: &'static str, told: Result<Reply, Stop>) -> Result<u32, Unexpected>
+    ensures id { (n : _) → (result ≡ Ok n) ↔ (told ≡ Ok (replies.Id n)) }
+    ensures other { IfErr result (λ e. e.told ≡ told) }
+{
+    match told {
+        Ok(Reply::Id(n)) => Ok(n),
+        told => Err(Unexpected { call, told }),
+    }
+}
+
+/// The bytes that it answered.
+pub fn bytes(call: &'static str, told: Result<Reply, Stop>) -> Result<Bytes, Unexpected>
+    ensures bytes { (bytes : _) → (result ≡ Ok bytes) ↔ (told ≡ Ok (replies.Bytes bytes)) }
+    ensures other { IfErr result (λ e. e.told ≡ told) }
+{
+    match told {
+        Ok(Reply::Bytes(bytes)) => Ok(bytes),
+        told => Err(Unexpected { call, told }),
+    }
+}
+
+/// The ranks that it answered: bit r for rank r.
+pub fn mask(call: &'static str, told: Result<Reply, Stop>) -> Result<u32, Unexpected>
+    ensures mask { (mask : _) → (result ≡ Ok mask) ↔ (told ≡ Ok (replies.Mask mask)) }
+    ensures other { IfErr result (λ e. e.told ≡ told) }
+{
+    match told {
+        Ok(Reply::Mask(mask)) => Ok(mask),
+        told => Err(Unexpected { call, told }),
+    }
+}
+
+/// The numbers that it answered.
+pub fn numbers(call: &'static str, told: Result<Reply, Stop>) -> Result<Numbers, Unexpected>
+    ensures numbers { (numbers : _) → (result ≡ Ok numbers) ↔ (told ≡ Ok (replies.List numbers)) }
+    ensures other { IfErr result (λ e. e.told ≡ told) }
+{
+    match told {
+        Ok(Reply::List(numbers)) => Ok(numbers),
+        told => Err(Unexpected { call, told }),
+    }
+}

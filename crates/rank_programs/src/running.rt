@@ -1,0 +1,218 @@
+//! A program run on threads, from the start of its world to the end.
+
+ghost use Rattle.std.specs.Prelude.{◌≡◌, ◌<◌, ◌≤◌, true, IfOk, map, length, option_to_list};
+ghost use Rattle.std.specs.List.{All};
+ghost use Rattle.gaspi_model.specs.Step.{is_legal};
+ghost use Rattle.notification_laws.specs.Contributions.{ContributesOnce};
+ghost use Rattle.notification_laws.specs.Notifications.{HandsOutOnce};
+ghost use Rattle.transfer_worker.specs.Turns.{IsDrained};
+ghost use Rattle.rank_programs.specs.Parts.{EachAt, made_pass, AreCallersThere, NeedsOf, outcome_of, outcomes_in, HaveAllRun, IsPartOf, IsReady, HaveRun};
+
+use crate::parts::Part;
+use crate::programs::Program;
+use gaspi_model::settling;
+use gaspi_types::{NoMemory, Shape};
+use gaspi_world::{Pass, Passes, Started, Task, World, launch};
+use journal_texts::Journal;
+use std::alloc::Global;
+use std::sync::Wait;
+use std::thread::Threads;
+use thiserror::Error;
+
+/// What a run gave: the journal, and what the callers came to, by rank and thread.
+#[derive(Drop)]
+pub struct Ran<T> {
+    pub journal: Journal,
+    pub outcomes: Vec<T>,
+}
+
+/// Why a run gave nothing.
+#[derive(Debug, Drop, Error)]
+pub enum RunFault {
+    /// There was no memory.
+    #[error("out of memory")]
+    NoMemory,
+    /// The passes are not all those of the world any more: callers have exchanged theirs for others.
+    #[error("passes of other callers")]
+    NotWhole,
+}
+
+impl From<NoMemory> for RunFault {
+    fn from(_error: NoMemory) -> RunFault {
+        RunFault::NoMemory
+    }
+}
+
+/// What the thread with a pass does, where the passes of the callers stand first.
+fn part_of<'a, P: Program>(world: &World, program: &'a P, place: usize) -> Part<'a, P, P::Outcome>
+    ensures { IsPartOf world.now place result }
+{
+    let callers = world.shape().callers().len();
+    if place < callers {
+        return Part::Caller {
+            program,
+            outcome: None,
+        };
+    }
+    Part::Worker {
+        turns: (place - callers) as u64,
+    }
+}
+
+/// A pass with what its thread does.
+fn task_of<'a, P: Program>(
+    world: &World,
+    program: &'a P,
+    pass: Pass,
+    place: usize,
+) -> Task<Part<'a, P, P::Outcome>>
+    requires { pass ≡ made_pass world.now place }
+    ensures { IsReady world.now place result }
+{
+    let body = part_of(world, program, place);
+    Task { body, pass }
+}
+
+/// A task for each pass, in their order.
+fn tasks_of<'a, P: Program>(
+    alloc: Global,
+    world: &World,
+    program: &'a P,
+    passes: Passes,
+) -> Result<Vec<Task<Part<'a, P, P::Outcome>>>, NoMemory>
+    requires { EachAt (λ place pass. pass ≡ made_pass world.now place) passes.items }
+    ensures ready { IfOk result (λ tasks. EachAt (IsReady world.now) tasks.items) }
+    ensures count { IfOk result (λ tasks. length tasks.items ≡ length passes.items) }
+{
+    let mut tasks = Vec::with_capacity(alloc, passes.len())?;
+    for pass in passes {
+        let task = task_of(world, program, pass, tasks.len());
+        tasks.push(task)?;
+    }
+    Ok(tasks)
+}
+
+/// Runs the tasks, each on a thread of its own.
+fn run_slice<R: Threads + Wait + Sync, P: Program + Sync>(
+    rt: &R,
+    alloc: Global,
+    world: &World,
+    tasks: &mut [Task<Part<'_, P, P::Outcome>>],
+)
+where
+    P::Outcome: Send,
+    requires { All (λ t. NeedsOf t.body world.now t.pass) tasks.old }
+    ensures ran { HaveAllRun tasks.old tasks.new }
+    ensures count { length tasks.new ≡ length tasks.old }
+{
+    launch(rt, alloc, world, tasks);
+}
+
+/// Runs the tasks, each on a thread of its own.
+fn run_tasks<R: Threads + Wait + Sync, P: Program + Sync>(
+    rt: &R,
+    alloc: Global,
+    world: &World,
+    tasks: &mut Vec<Task<Part<'_, P, P::Outcome>>>,
+)
+where
+    P::Outcome: Send,
+    requires { All (λ t. NeedsOf t.body world.now t.pass) tasks.old.items }
+    ensures ran { HaveAllRun tasks.old.items tasks.new.items }
+    ensures count { length tasks.new.items ≡ length tasks.old.items }
+{
+    run_slice(rt, alloc, world, tasks.as_mut_slice());
+}
+
+/// What the caller of a part came to, where it has run the program.
+fn outcome_of<P: Program>(part: Part<'_, P, P::Outcome>) -> Option<P::Outcome>
+    ensures { option_to_list result ≡ outcome_of part.entry }
+{
+    match part {
+        Part::Caller { outcome, .. } => outcome,
+        Part::Worker { .. } => None,
+    }
+}
+
+/// The passes of the tasks, in their order, and what the callers came to.
+fn split<P: Program>(
+    alloc: Global,
+    tasks: Vec<Task<Part<'_, P, P::Outcome>>>,
+) -> Result<(Passes, Vec<P::Outcome>), NoMemory>
+    ensures passes { IfOk result (λ split. split.0.items ≡ map (λ t. t.pass) tasks.entry.items) }
+    ensures outcomes { IfOk result (λ split. split.1.items ≡ outcomes_in tasks.entry.items) }
+{
+    let mut passes = Vec::with_capacity(alloc, tasks.len())?;
+    let mut outcomes = Vec::new(alloc);
+    for task in tasks {
+        passes.push(task.pass)?;
+        if let Some(outcome) = outcome_of(task.body) {
+            outcomes.push(outcome)?;
+        }
+    }
+    Ok((passes, outcomes))
+}
+
+/// Runs the program for each caller, and workers, each on a thread of its own: the passes then, and what the callers came to.
+fn run_parts<R: Threads + Wait + Sync, P: Program + Sync>(
+    rt: &R,
+    alloc: Global,
+    world: &World,
+    program: &P,
+    passes: Passes,
+) -> Result<(Passes, Vec<P::Outcome>), NoMemory>
+where
+    P::Outcome: Send,
+    requires passes { EachAt (λ place pass. pass ≡ made_pass world.now place) passes.items }
+    requires callers { AreCallersThere world.now }
+    requires worker { length world.now.start.shape.callers < length passes.items }
+    ensures ran { IfOk result (λ ran. HaveRun world.now ran.0.items) }
+    ensures outcomes { IfOk result (λ ran. length ran.1.items ≡ length world.now.start.shape.callers) }
+{
+    let mut tasks = tasks_of(alloc, world, program, passes)?;
+    run_tasks(rt, alloc, world, &mut tasks);
+    split(alloc, tasks)
+}
+
+/// Ends a world whose parts have run, where these are all its passes.
+fn closed(alloc: Global, world: World, passes: Passes) -> Result<Journal, RunFault>
+    requires { HaveRun world passes.items }
+    ensures legal { IfOk result (λ journal. is_legal world.start.shape journal ≡ true) }
+    ensures drained { IfOk result (λ journal. IsDrained world.start.shape journal) }
+    ensures handed { IfOk result (λ journal. HandsOutOnce world.start.shape journal) }
+    ensures contributed { IfOk result (λ journal. ContributesOnce world.start.shape journal) }
+{
+    settling();
+    if !world.whole(&passes) {
+        return Err(RunFault::NotWhole);
+    }
+    match world.close(alloc, passes) {
+        Ok((journal, _)) => Ok(journal),
+        Err(_) => Err(RunFault::NoMemory),
+    }
+}
+
+/// Runs a program for each caller of a world, with so many workers that make its transfers, each on a thread of its own. The journal is
+/// a legal history of the world. At its end every caller has ended, and all that was posted has arrived, but for what waits in broken
+/// queues.
+pub fn run_program<R: Threads + Wait + Sync, P: Program + Sync>(
+    rt: &R,
+    alloc: Global,
+    shape: &Shape,
+    program: &P,
+    workers: u32,
+) -> Result<Ran<P::Outcome>, RunFault>
+where
+    P::Outcome: Send,
+    requires { (1 ≤ workers) × (workers ≤ 4) }
+    ensures outcomes { IfOk result (λ ran. length ran.outcomes.items ≡ length shape.now.callers) }
+    ensures legal { IfOk result (λ ran. is_legal shape.now ran.journal ≡ true) }
+    ensures drained { IfOk result (λ ran. IsDrained shape.now ran.journal) }
+    ensures handed { IfOk result (λ ran. HandsOutOnce shape.now ran.journal) }
+    ensures contributed { IfOk result (λ ran. ContributesOnce shape.now ran.journal) }
+{
+    let Started { world, passes } = World::start(alloc, shape, workers)?;
+    let (passes, outcomes) = run_parts(rt, alloc, &world, program, passes)?;
+    let journal = closed(alloc, world, passes)?;
+    Ok(Ran { journal, outcomes })
+}
