@@ -2,6 +2,7 @@
 //! and the nodes that are made of them.
 
 mod drafts;
+mod driven_nodes;
 mod groups;
 mod lists;
 mod messages;

@@ -1,0 +1,4 @@
+pub mod Looks
+pub mod LentLooks
+pub mod Worlds
+pub mod Transfers

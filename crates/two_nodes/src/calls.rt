@@ -1,0 +1,37 @@
+//! A call of one of two ranks, by the nodes that it reaches.
+
+ghost use Rattle.std.specs.Prelude.{◌≡◌, ℕ, true};
+ghost use Rattle.gaspi_model.specs.Step.{is_declared};
+ghost use Rattle.gaspi_model.specs.declared.states.State.{State};
+ghost use Rattle.two_nodes.specs.Worlds.{ArePartsOf, HasCalled, is_driven};
+
+use crate::clients::{look_alone, look_between, look_on_group};
+use crate::stops::CallStop;
+use gaspi_types::{Invocation, Reach, Reply};
+use rank_node::{GroupNode, Node};
+use std::alloc::Global;
+
+/// One look at a call of the first rank of two.
+pub(crate) fn call_of(
+    own: &mut Node,
+    peer: &mut Node,
+    group: &mut GroupNode,
+    alloc: Global,
+    places: &mut u64,
+    invocation: &Invocation<'_>,
+) -> Result<Option<Reply>, CallStop>
+    requires parts { (s : State) × (other : ℕ) × ArePartsOf s invocation.now.caller.rank other own.old peer.old group.old places.old × (is_declared s invocation.now.caller.rank invocation.now.caller.thread ≡ true) }
+    requires driven { is_driven invocation.now.call.now ≡ true }
+    ensures { (s : State) (other : ℕ) → ArePartsOf s invocation.now.caller.rank other own.old peer.old group.old places.old → is_declared s invocation.now.caller.rank invocation.now.caller.thread ≡ true
+        → HasCalled s invocation.now.caller invocation.now.call.now result other places.old places.new own.old own.new peer.old peer.new group.new }
+{
+    match invocation.row.touch.reach(2, invocation.caller.rank) {
+        Reach::Alone | Reach::OwnMemory => look_alone(own, alloc, places, invocation),
+        Reach::PeerMemory(_) | Reach::BothMemories(_) | Reach::PeerPosts(_) => {
+            look_between(own, peer, alloc, places, invocation)
+        }
+        Reach::Group(_) | Reach::GroupAndMemory(_) => {
+            look_on_group(own, group, alloc, places, invocation)
+        }
+    }
+}
