@@ -1,4 +1,4 @@
-"""The tables of tests/: their text becomes cases. docs/TESTS.md describes the tables."""
+"""The tables of tests/: their text becomes cases. docs/CONTRIBUTING.md describes the tables."""
 
 from __future__ import annotations
 
