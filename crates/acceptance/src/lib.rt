@@ -1,4 +1,5 @@
-//! Tests alone: whole runs of the command that no text of `tests/` can show, and the worked examples over the public call.
+//! Tests alone: whole runs of the command that no text of `tests/` can show, the worked examples over the public call, and
+//! the texts of single calls, replies and events.
 #![tactic(auto)]
 
 #[cfg(test)]
@@ -9,3 +10,5 @@ mod parts;
 mod running;
 #[cfg(test)]
 mod streams;
+#[cfg(test)]
+mod texts;

@@ -4,18 +4,18 @@ ghost use Rattle.std.specs.Prelude.{◌≡◌, map};
 
 use crate::examples::{TOLD, TWO_RANKS, TWO_RESETS};
 use crate::running::{RUN, answer_to, source_of};
+use call_journal::write_transcripts;
 use command_line::Command;
 use gaspi_io::{SureSink, SureSource};
 use gaspi_run::{Answer, run_command, schedule};
+use gaspi_texts::Journal;
 use gaspi_types::{Bytes, NoMemory, Shape};
-use journal_texts::Journal;
 use rank_script::{RunOutcome, ScriptFault, Scripts, read_world};
 use std::alloc::Global;
 use std::process::Abort;
 use std::sync::Wait;
 use std::test::Fail;
 use std::thread::Threads;
-use transcripts::write_transcripts;
 
 /// What a schedule gave of a text: how many events, how many callers that ended, and what was told behind a front.
 #[derive(Drop)]

@@ -9,8 +9,8 @@ use crate::answers::WhyAnswer;
 use crate::lane_writes::{arrived, lane_writes, put_at};
 use crate::verdicts::{Verdict, check};
 use gaspi_model::history_lengths;
+use gaspi_texts::Journal;
 use gaspi_types::{NoMemory, Shape};
-use journal_texts::Journal;
 use std::alloc::Global;
 
 /// The answer for a place of a journal that is legal.

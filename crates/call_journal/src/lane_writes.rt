@@ -9,8 +9,8 @@ ghost use Rattle.call_journal.specs.LaneWrites.{writes_in, is_noted, post_of, go
 ghost use Rattle.call_journal.specs.Tracked.{IsTracked, Rise};
 
 use crate::answers::ArrivedWrite;
+use gaspi_texts::Journal;
 use gaspi_types::{Call, Event, NoMemory, Outcome, Posting, QueueId, RankId, Reply, Rows};
-use journal_texts::Journal;
 use std::alloc::Global;
 
 /// The put of an entry: its lane and its number.

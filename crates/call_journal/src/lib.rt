@@ -1,12 +1,19 @@
-//! Journals judged: whether a journal is legal, and else which event is the first that is no step; and which writes a notification
-//! stands for.
+//! Journals judged and counted: whether a journal is legal, and else which event is the first that is no step; which writes a notification
+//! stands for; how many calls, transfers and notifications it records; and what each caller was told, line by line.
 #![tactic(auto)]
 
 mod answers;
+mod bench_laws;
 mod explanations;
+mod journal_numbers;
 mod lane_writes;
+mod own_calls;
+mod transcripts;
 mod verdicts;
 
 pub use answers::{ArrivedWrite, WhyAnswer};
+pub use bench_laws::{bench_calls, bench_notifications, bench_transfers, bench_words};
 pub use explanations::why;
+pub use journal_numbers::{Numbers4, bench_numbers};
+pub use transcripts::write_transcripts;
 pub use verdicts::{Verdict, check};

@@ -1,15 +1,14 @@
 //! Journals judged.
 
 ghost use Rattle.std.specs.Prelude.{◌≡◌, IfOk};
-ghost use Rattle.notification_laws.specs.Contributions.{ContributesOnce};
-ghost use Rattle.notification_laws.specs.Notifications.{HandsOutOnce};
+ghost use Rattle.gaspi_model.specs.ContributionCounts.{ContributesOnce};
+ghost use Rattle.gaspi_model.specs.Notifications.{HandsOutOnce};
 ghost use Rattle.call_journal.specs.Verdicts.{IsVerdict};
 ghost use Rattle.call_journal.specs.declared.verdicts.Verdict.TheVariants.{Legal};
 
-use gaspi_model::{StepFault, Why};
+use gaspi_model::{StepFault, Why, contribution_counts, notification_values};
+use gaspi_texts::Journal;
 use gaspi_types::{NoMemory, Shape};
-use journal_texts::Journal;
-use notification_laws::{contribution_counts, notification_values};
 use plain_machine::Machine;
 use std::alloc::Global;
 

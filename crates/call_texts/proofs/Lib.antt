@@ -1,6 +1,7 @@
 pub mod CallTexts
 pub mod CountedWords
 pub mod ElementWords
+pub mod FedLines
 pub mod FormCounts
 pub mod FormWords
 pub mod FrontWords
@@ -9,6 +10,7 @@ pub mod ItemWords
 pub mod JoinedWords
 pub mod NumberWords
 pub mod Pieces
+pub mod PlainLines
 pub mod PlainWords
 pub mod ReadElements
 pub mod WordLengths

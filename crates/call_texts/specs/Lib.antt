@@ -3,6 +3,7 @@ pub mod Elements
 pub mod FieldWords
 pub mod Fields
 pub mod Hex
+pub mod Lines
 pub mod Numbers
 pub mod Steps
 pub mod Words

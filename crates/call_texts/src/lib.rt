@@ -1,4 +1,4 @@
-//! The words of texts and the texts of calls, both ways.
+//! The lines and words of texts, and the texts of calls, both ways.
 #![tactic(auto)]
 
 mod blanks;
@@ -11,6 +11,7 @@ mod field_words;
 mod fields;
 mod form_counts;
 mod hexes;
+mod lines;
 mod numbers;
 mod ranges;
 mod text_laws;
@@ -22,6 +23,7 @@ pub use call_words::CallWord;
 pub use call_writing::write_call;
 pub use elements::{append_elements, op_word, read_elements, read_op, read_type, type_word};
 pub use hexes::{read_bytes, write_bytes};
+pub use lines::{first_line, plain_line};
 pub use numbers::{read_number, read_value, write_number};
 pub use ranges::{bytes_are_in_range, call_is_in_range};
 pub use text_laws::{

@@ -16,7 +16,7 @@ use Rattle.gaspi_types.specs.declared.groups.Contribution.{Contribution}
 use Rattle.gaspi_types.specs.declared.groups.Group.{Group}
 use Rattle.gaspi_types.specs.declared.groups.Made.{Made}
 use Rattle.gaspi_types.specs.declared.replies.Refusal.{Refusal}
-use Rattle.call_rules.specs.Turns.{coll_in}
+use Rattle.gaspi_model.specs.RoundRules.{coll_in}
 use Rattle.collective_engine.specs.Rounds.{turns_of, IsRounds}
 use Rattle.collective_engine.specs.Slots.{HasItsValues, GivesNumbers}
 use Rattle.collective_engine.specs.Turns.{Turns, ranks_of, is_in, IsMember, joined_by, completed_by, buffer_of, given_by, with_given, with_left, is_full_for, may_join, StandsFor}

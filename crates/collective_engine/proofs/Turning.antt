@@ -5,7 +5,7 @@ use Rattle.gaspi_types.proofs.Items.{same-or-not}
 use Rattle.gaspi_types.specs.Collectives.{first_given, fixed_by, is_full}
 use Rattle.gaspi_types.specs.declared.collectives.Coll.{Coll}
 use Rattle.gaspi_types.specs.declared.groups.Contribution.{Contribution}
-use Rattle.call_rules.specs.Turns.{coll_in}
+use Rattle.gaspi_model.specs.RoundRules.{coll_in}
 use Rattle.collective_engine.specs.Slots.{HasItsValues}
 use Rattle.collective_engine.specs.Turns.{ranks_of, is_in, IsMember, joined_by, completed_by, given_by, with_given, with_left, AreClose, AreTurns}
 use Rattle.collective_engine.specs.declared.buffers.Buffers.{Buffers}

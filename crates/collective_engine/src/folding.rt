@@ -8,7 +8,7 @@ ghost use Rattle.collective_engine.specs.Slots.{GivesNumbers, AreInRange};
 ghost use Rattle.collective_engine.specs.Turns.{given_by};
 
 use crate::buffers::{Buffers, given};
-use call_rules::reduce;
+use gaspi_model::reduce;
 use gaspi_types::{NumType, Numbers, Op, RankId, Rows};
 
 /// The numbers that a rank has given to a turn.

@@ -14,6 +14,6 @@ mod reading;
 mod rounds;
 mod slots;
 
-pub use call_rules::{check_count, check_type};
+pub use gaspi_model::{check_count, check_type};
 pub use generations::Generations;
 pub use rounds::Rounds;

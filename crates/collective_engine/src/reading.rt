@@ -2,13 +2,13 @@
 
 ghost use Rattle.std.specs.Prelude.{◌≡◌, ◌<◌, ◌≤◌, Some, OnOk, length};
 ghost use Rattle.gaspi_types.specs.Collectives.{first_given, fits, is_full, generation_in, made_by};
-ghost use Rattle.call_rules.specs.Turns.{coll_in};
+ghost use Rattle.gaspi_model.specs.RoundRules.{coll_in};
 ghost use Rattle.collective_engine.specs.Turns.{completed_by, given_by};
 ghost use Rattle.gaspi_types.specs.declared.collectives.Coll.{Coll};
 
 use crate::buffers::{Buffers, given};
 use crate::generations::Generations;
-use call_rules::check_fits;
+use gaspi_model::check_fits;
 use gaspi_types::{Coll, Made, RankId, Refusal};
 
 /// What the first of some members that has joined a turn has joined it with.

@@ -6,14 +6,14 @@ ghost use Rattle.gaspi_types.specs.declared.collectives.Coll.TheVariants.{Allred
 ghost use Rattle.gaspi_types.specs.declared.collectives.NumType.{NumType};
 ghost use Rattle.gaspi_types.specs.declared.collectives.Op.{Op};
 ghost use Rattle.gaspi_types.specs.declared.groups.Group.{Group};
-ghost use Rattle.call_rules.specs.Turns.{coll_in};
+ghost use Rattle.gaspi_model.specs.RoundRules.{coll_in};
 ghost use Rattle.collective_engine.specs.Turns.{ranks_of};
 
 use crate::buffers::{Buffers, counts, give, leave, opening};
 use crate::folding::fold;
 use crate::generations::Generations;
 use crate::reading::{check, generations, is_full, own_coll};
-use call_rules::{Members, members_of};
+use gaspi_model::{Members, members_of};
 use gaspi_types::{Args, Coll, NoMemory, Numbers, RankId, Refusal, Rows, is_member};
 use std::alloc::Global;
 use std::marker::Model;

@@ -7,7 +7,7 @@
 
 ghost use Rattle.std.specs.Prelude.{◌<◌, IfSome};
 
-use commit_race::raised_by_two;
+use commit_table::raised_by_two;
 use std::alloc::{AllocError, Global};
 use std::env;
 use std::process::ExitCode;

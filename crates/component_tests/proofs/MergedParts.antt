@@ -2,7 +2,7 @@
 use Rattle.std.proofs.Common.{◌≡◌, zero, suc, ne_eqb, List, [], ◌∷◌, refl, arith}
 use Rattle.gaspi_types.specs.declared.events.Event.{Event}
 use Rattle.gaspi_types.specs.declared.events.PlacedEvent.{PlacedEvent}
-use Rattle.journal_texts.specs.Merges.{AreCutOf, placed}
+use Rattle.gaspi_texts.specs.Merges.{AreCutOf, placed}
 
 -- the first and the third of three events, and the second
 abbrev pub two_parts : Event → Event → Event → List (List PlacedEvent)

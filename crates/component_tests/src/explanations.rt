@@ -2,8 +2,8 @@
 
 use call_journal::{ArrivedWrite, WhyAnswer, why};
 use gaspi_model::Why;
+use gaspi_texts::read;
 use gaspi_types::{Rows, Shape};
-use journal_texts::read;
 use std::alloc::Global;
 use std::test::Fail;
 

@@ -1,7 +1,7 @@
 //! The texts of faults, which are printed nowhere.
 
+use gaspi_texts::JournalFault;
 use gaspi_types::ShapeFault;
-use journal_texts::JournalFault;
 use rank_script::ScriptFault;
 use std::alloc::Global;
 use std::fmt::Display;

@@ -2,10 +2,8 @@
 
 use crate::one_rank::{caller, notified, shape, taken};
 use call_journal::{Verdict, check};
+use gaspi_texts::{Journal, MergeRoom, RankJournal, ReservedJournal, have_own_values, read, write};
 use gaspi_types::{Bytes, Event, NoMemory, PlacedEvent, RankId, Shape};
-use journal_texts::{
-    Journal, MergeRoom, RankJournal, ReservedJournal, have_own_values, read, write,
-};
 use std::alloc::Global;
 use std::test::Fail;
 

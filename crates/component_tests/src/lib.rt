@@ -22,6 +22,4 @@ mod stores;
 #[cfg(test)]
 mod streams;
 #[cfg(test)]
-mod texts;
-#[cfg(test)]
 mod threads;

@@ -1,16 +1,31 @@
-//! What the GASPI machine is: its state, its step, its histories and their laws. Of code it has the types of the state, and what ranks
-//! have at the start.
+//! What the GASPI machine is: its state, its step, its histories and their laws.
+//!
+//! Of code it has the types of the state, what ranks have at the start, and the rules of collectives that the machine in memory, the stores
+//! of a rank and scripts share: replies and arguments compared, what a collective is refused for, when a pending one is resumed, and what
+//! the numbers of an allreduce come to. (GASPI: collectives, timeouts) No call of these takes memory.
 #![tactic(auto)]
 
+mod collective_checks;
+mod comparisons;
+mod group_members;
 mod laws;
+mod notification_laws;
 mod openings;
+mod pendings;
+mod reductions;
 mod states;
 
+pub use collective_checks::{check_count, check_fits, check_type};
+pub use comparisons::{same_args, same_coll, same_numbers, same_reply};
+pub use group_members::{Members, members_of};
 pub use laws::{
     changes, coarser_locality, collectives, corruption, enabled, endings, groups, history_lengths,
     listing, locality, messages, notification_order, prefixes, replies, settling, soundness,
 };
+pub use notification_laws::{contribution_counts, notification_values};
 pub use openings::{
     declared_size, opening_corrupt, opening_table, opening_thread, opening_threads,
 };
+pub use pendings::resume;
+pub use reductions::reduce;
 pub use states::{Memory, Posts, Shard, State, StepFault, ThreadState, Why};

@@ -12,9 +12,9 @@ use Rattle.gaspi_model.specs.Step.{own_calls}
 use Rattle.gaspi_model.proofs.Sound.OpenCounts.{count-append}
 use Rattle.gaspi_model.specs.declared.states.State.{State}
 use Rattle.gaspi_model.specs.declared.states.Why.{Why}
-use Rattle.bench_laws.specs.Laws.{RanToTheEnd, draws_until}
-use Rattle.journal_numbers.specs.Numbers.{is_call, is_transfer, is_notification, words_until, AreNumbers}
-use Rattle.journal_numbers.specs.declared.numbers.Numbers4.{Numbers4}
+use Rattle.call_journal.specs.Laws.{RanToTheEnd, draws_until}
+use Rattle.call_journal.specs.Numbers.{is_call, is_transfer, is_notification, words_until, AreNumbers}
+use Rattle.call_journal.specs.declared.journal_numbers.Numbers4.{Numbers4}
 use Rattle.rank_script.specs.Bench.{bench_callers, bench_lines, bench_shape}
 use Rattle.rank_script.specs.BenchScripts.{bench_scripts}
 use Rattle.rank_script.specs.Runs.{IsRun}

@@ -19,7 +19,7 @@ use Rattle.rank_script.specs.declared.scripts.RunOutcome.{RunOutcome}
 use Rattle.rank_script.specs.declared.scripts.RunOutcome.TheVariants as outcomes
 use Rattle.rank_script.specs.declared.scripts.ScriptLine.{ScriptLine}
 use Rattle.gaspi_model.specs.CallerEvents.{events_of}
-use Rattle.script_bodies.specs.Runs.{HadNoRoom as HadNone, HasCause, IsStoppedBefore as WasStoppedBefore}
+use Rattle.gaspi_run.specs.Runs.{HadNoRoom as HadNone, HasCause, IsStoppedBefore as WasStoppedBefore}
 use Rattle.gaspi_run.proofs.CallsOfEvents.{own-events}
 use Rattle.gaspi_run.specs.Endings.{own_events, IsStoppedBefore, HadNoRoom, HasLimitCause}
 use Rattle.gaspi_run.specs.Parts.{had_memory}

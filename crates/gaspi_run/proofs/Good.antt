@@ -12,7 +12,7 @@ use Rattle.gaspi_types.specs.declared.events.Event.{Event}
 use Rattle.gaspi_types.specs.declared.events.Event.TheVariants.{Called}
 use Rattle.gaspi_types.specs.declared.events.Transfer.{Transfer}
 use Rattle.gaspi_types.specs.declared.groups.Args.{Args}
-use Rattle.journal_texts.specs.JournalText.{HaveOwnValues}
+use Rattle.gaspi_texts.specs.JournalText.{HaveOwnValues}
 use Rattle.gaspi_model.specs.State.{opening}
 use Rattle.gaspi_model.specs.Sound.{IsSound}
 use Rattle.gaspi_model.specs.Step.{step, after, reached, transfer_event, answer_in, room_taken}

@@ -8,7 +8,7 @@ use Rattle.gaspi_types.specs.declared.groups.Args.{Args}
 use Rattle.gaspi_types.specs.declared.replies.Reply.{Reply}
 use Rattle.gaspi_types.specs.declared.shapes.CallerId.{CallerId}
 use Rattle.gaspi_model.specs.CollectiveCalls.{joining_call}
-use Rattle.script_bodies.specs.Joins.{IsFollowed, AreJoinsFollowed}
+use Rattle.gaspi_run.specs.Joins.{IsFollowed, AreJoinsFollowed}
 use Rattle.std.specs.Prelude.{ℕ}
 
 -- So far: a join is followed by its call, and one that stands last is of the call that comes next.

@@ -4,7 +4,7 @@ use Rattle.std.proofs.lemmas.List.Elements.{All-nil, All-cons, All-append}
 use Rattle.gaspi_types.specs.declared.events.Event.{Event}
 use Rattle.gaspi_types.specs.declared.events.Event.TheVariants.{Called, Joined, Take, Put}
 use Rattle.gaspi_texts.specs.EventText.{HasOwnValues}
-use Rattle.journal_texts.specs.JournalText.{HaveOwnValues}
+use Rattle.gaspi_texts.specs.JournalText.{HaveOwnValues}
 use Rattle.gaspi_model.specs.CollectiveCalls.{joining_call}
 use Rattle.gaspi_model.specs.Step.{step, group_in}
 use Rattle.gaspi_model.specs.declared.states.State.{State}

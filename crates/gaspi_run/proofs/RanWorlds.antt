@@ -12,7 +12,7 @@ use Rattle.gaspi_types.specs.declared.events.Event.{Event}
 use Rattle.gaspi_types.specs.declared.shapes.CallerId.{CallerId}
 use Rattle.gaspi_types.proofs.Items.{map-at, there-within, flat_map-parts}
 use Rattle.gaspi_texts.specs.EventText.{HasOwnValues}
-use Rattle.journal_texts.specs.JournalText.{HaveOwnValues}
+use Rattle.gaspi_texts.specs.JournalText.{HaveOwnValues}
 use Rattle.gaspi_model.specs.Settled.{IsSettled}
 use Rattle.gaspi_model.specs.State.{opening}
 use Rattle.gaspi_model.specs.Step.{after, reached, is_legal, own_calls}
@@ -34,14 +34,14 @@ use Rattle.rank_script.specs.WorldText.{AreScriptsOf, is_script_of}
 use Rattle.rank_script.specs.declared.scripts.RunOutcome.{RunOutcome}
 use Rattle.rank_script.specs.declared.scripts.Script.{Script}
 use Rattle.rank_script.specs.declared.scripts.ScriptLine.{ScriptLine}
-use Rattle.script_bodies.specs.Looks.{looks_along, AreWithin}
+use Rattle.gaspi_run.specs.Looks.{looks_along, AreWithin}
 use Rattle.commit_table.proofs.Lists.{prefix_trans}
-use Rattle.script_bodies.specs.Runs.{HasRun}
-use Rattle.script_bodies.specs.declared.bodies.ScriptBody.{ScriptBody}
+use Rattle.gaspi_run.specs.Runs.{HasRun}
+use Rattle.gaspi_run.specs.declared.bodies.ScriptBody.{ScriptBody}
 use Rattle.gaspi_run.proofs.CallsOfEvents.{own-events}
 use Rattle.transfer_worker.specs.Order.{Drains}
 use Rattle.transfer_worker.specs.Turns.{IsDrained}
-use Rattle.script_bodies.specs.Joins.{AreJoinsFollowed}
+use Rattle.gaspi_run.specs.Joins.{AreJoinsFollowed}
 use Rattle.gaspi_run.specs.Endings.{HasEnded, HaveEnded, HasSettled}
 use Rattle.gaspi_run.specs.Parts.{EachAt, HasRunTask, HasRunPart, HasRunWorker, IsDone, HaveRun, made_pass, finished_of, finished_with, finished_in, had_memory}
 use Rattle.gaspi_run.specs.Threads.{HadPass, HadWorker, IsTallied}

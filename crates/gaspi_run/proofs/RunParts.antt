@@ -16,9 +16,9 @@ use Rattle.gaspi_world.specs.declared.starts.Start.{Start}
 use Rattle.rank_script.specs.PlainScripts.{HasPlainLines, HasLookingLines, ArePlain, AreLooking}
 use Rattle.rank_script.specs.WorldText.{AreScriptsOf, is_script_of}
 use Rattle.rank_script.specs.declared.scripts.Script.{Script}
-use Rattle.script_bodies.specs.Bodies.{HasRunScript}
-use Rattle.script_bodies.specs.Runs.{HasRun}
-use Rattle.script_bodies.specs.declared.bodies.ScriptBody.{ScriptBody}
+use Rattle.gaspi_run.specs.Bodies.{HasRunScript}
+use Rattle.gaspi_run.specs.Runs.{HasRun}
+use Rattle.gaspi_run.specs.declared.bodies.ScriptBody.{ScriptBody}
 use Rattle.gaspi_run.specs.Parts.{NeedsOf, DidOf, EachAt, HaveAllRun, made_pass, IsPartOf, IsReady, HasRunCaller, HasRunPart, HasRunTask, IsDone, finished_of, finished_in}
 use Rattle.gaspi_run.specs.declared.turns.Finished.{Finished}
 use Rattle.gaspi_run.specs.declared.parts.Part.{Part}

@@ -22,7 +22,7 @@ use Rattle.rank_script.specs.declared.scripts.ScriptLine.{ScriptLine}
 use Rattle.rank_script.specs.declared.scripts.RunOutcome.{RunOutcome}
 use Rattle.rank_script.specs.declared.scripts.RunOutcome.TheVariants as outcomes
 use Rattle.gaspi_run.specs.declared.turns.Finished.{Finished}
-use Rattle.script_bodies.specs.Joins.{AreJoinsFollowed}
+use Rattle.gaspi_run.specs.Joins.{AreJoinsFollowed}
 use Rattle.gaspi_run.specs.Endings.{own_events, HasLimitCause, HasEnded}
 use Rattle.gaspi_run.specs.declared.turns.Waiting.{Waiting}
 use Rattle.gaspi_run.specs.declared.turns.Turns.{Turns}

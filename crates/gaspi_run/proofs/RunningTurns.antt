@@ -28,7 +28,7 @@ use Rattle.gaspi_run.specs.Schedule.{with_waiting}
 use Rattle.gaspi_run.specs.declared.turns.Waiting.{Waiting}
 use Rattle.gaspi_run.specs.declared.turns.Turns.{Turns}
 use Rattle.gaspi_run.proofs.JoinsFollowed.{AreFollowedSoFar, ends_joined, called-ends, called-so-far, joined-so-far}
-use Rattle.transcripts.proofs.OwnCalls.{own-same}
+use Rattle.call_journal.proofs.OwnCalls.{own-same}
 use Rattle.gaspi_run.proofs.Running.{IsRunning, Goes, present, come-going, own_events-append, events-same, events-more, called-other, waiting_count, finished_count, count-at, count-two, come-more, ended-more, set-cases}
 
 -- what the machine's and the runs' laws say

@@ -9,12 +9,12 @@ use Rattle.gaspi_io.specs.Faults.{HasCause}
 use Rattle.gaspi_io.specs.Sink.{with_more, AddsFront}
 use Rattle.gaspi_io.specs.Source.{without, TakesAtMost}
 use Rattle.gaspi_model.specs.Step.{is_legal}
-use Rattle.journal_texts.specs.JournalText.{journal_text, AreInRange}
+use Rattle.gaspi_texts.specs.JournalText.{journal_text, AreInRange}
 use Rattle.command_line.specs.declared.words.Command.{Command}
 use Rattle.command_line.specs.declared.words.Command.TheVariants.{Run, Step, Check, Why, Bench}
-use Rattle.bench_laws.specs.Laws.{draws_until}
-use Rattle.journal_numbers.specs.Numbers.{AreNumbers}
-use Rattle.journal_numbers.specs.declared.numbers.Numbers4.{Numbers4}
+use Rattle.call_journal.specs.Laws.{draws_until}
+use Rattle.call_journal.specs.Numbers.{AreNumbers}
+use Rattle.call_journal.specs.declared.journal_numbers.Numbers4.{Numbers4}
 use Rattle.rank_script.specs.Bench.{bench_shape}
 use Rattle.rank_script.specs.BenchScripts.{bench_scripts}
 use Rattle.rank_script.specs.Lines.{input_limit}
@@ -26,7 +26,7 @@ use Rattle.gaspi_run.specs.Endings.{HasSettled, HaveEnded}
 use Rattle.gaspi_run.specs.Judging.{IsChecked}
 use Rattle.gaspi_run.specs.Schedule.{IsScheduled}
 use Rattle.gaspi_run.specs.Threads.{ToldTally, HasRunWorld}
-use Rattle.transcripts.specs.Transcripts.{transcripts}
+use Rattle.call_journal.specs.Transcripts.{transcripts}
 use Rattle.gaspi_run.specs.declared.turns.Finished.{Finished}
 use Rattle.gaspi_run.specs.declared.commands.Answer.{Answer}
 use Rattle.gaspi_run.specs.declared.judging.Question.TheVariants as questions

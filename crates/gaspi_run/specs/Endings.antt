@@ -18,7 +18,7 @@ use Rattle.rank_script.specs.declared.scripts.RunOutcome.TheVariants as outcomes
 use Rattle.rank_script.specs.declared.scripts.Script.{Script}
 use Rattle.rank_script.specs.declared.scripts.ScriptLine.{ScriptLine}
 use Rattle.gaspi_model.specs.CallerEvents.{is_event_of, events_of}
-use Rattle.script_bodies.specs.Joins.{AreJoinsFollowed}
+use Rattle.gaspi_run.specs.Joins.{AreJoinsFollowed}
 use Rattle.gaspi_run.specs.declared.turns.Finished.{Finished}
 
 -- the room that the present call of a caller needs

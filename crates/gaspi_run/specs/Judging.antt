@@ -4,10 +4,10 @@ use Rattle.std.specs.List.{flat_map}
 use Rattle.std.specs.Fmt.{decimal}
 use Rattle.gaspi_types.specs.World.{World}
 use Rattle.gaspi_types.specs.declared.events.Event.{Event}
-use Rattle.text_lines.specs.Lines.{fed_lines}
+use Rattle.call_texts.specs.Lines.{fed_lines}
 use Rattle.gaspi_model.specs.declared.states.Why.{Why}
 use Rattle.gaspi_model.specs.declared.states.Why.TheVariants as whys
-use Rattle.journal_texts.specs.JournalText.{journal_text, AreInRange, IsFaultyAt}
+use Rattle.gaspi_texts.specs.JournalText.{journal_text, AreInRange, IsFaultyAt}
 use Rattle.call_journal.specs.Explanations.{IsWhyAnswer}
 use Rattle.call_journal.specs.Verdicts.{IsVerdict}
 use Rattle.call_journal.specs.declared.answers.ArrivedWrite.{ArrivedWrite}
@@ -15,8 +15,8 @@ use Rattle.call_journal.specs.declared.answers.WhyAnswer.{WhyAnswer}
 use Rattle.call_journal.specs.declared.answers.WhyAnswer.TheVariants as answers
 use Rattle.call_journal.specs.declared.verdicts.Verdict.{Verdict}
 use Rattle.call_journal.specs.declared.verdicts.Verdict.TheVariants.{Legal, Illegal}
-use Rattle.notification_laws.specs.Contributions.{ContributesOnce}
-use Rattle.notification_laws.specs.Notifications.{HandsOutOnce}
+use Rattle.gaspi_model.specs.ContributionCounts.{ContributesOnce}
+use Rattle.gaspi_model.specs.Notifications.{HandsOutOnce}
 use Rattle.rank_script.specs.WorldText.{journal_place, checked_world}
 use Rattle.rank_script.specs.declared.scripts.Script.{Script}
 use Rattle.gaspi_run.specs.declared.judging.Question.{Question}

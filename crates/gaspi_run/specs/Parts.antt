@@ -14,9 +14,9 @@ use Rattle.rank_script.specs.WorldText.{is_script_of}
 use Rattle.rank_script.specs.declared.scripts.RunOutcome.{RunOutcome}
 use Rattle.rank_script.specs.declared.scripts.RunOutcome.TheVariants as outcomes
 use Rattle.rank_script.specs.declared.scripts.Script.{Script}
-use Rattle.script_bodies.specs.Bodies.{IsRunnable, IsFresh, HasRunScript}
-use Rattle.script_bodies.specs.Runs.{HasRun}
-use Rattle.script_bodies.specs.declared.bodies.ScriptBody.{ScriptBody}
+use Rattle.gaspi_run.specs.Bodies.{IsRunnable, IsFresh, HasRunScript}
+use Rattle.gaspi_run.specs.Runs.{HasRun}
+use Rattle.gaspi_run.specs.declared.bodies.ScriptBody.{ScriptBody}
 use Rattle.transfer_worker.specs.Order.{Drains}
 use Rattle.transfer_worker.specs.Turns.{GoesOn, IsDrained}
 use Rattle.gaspi_run.specs.declared.turns.Finished.{Finished}

@@ -11,18 +11,18 @@ use Rattle.gaspi_model.specs.Step.{is_legal, own_calls}
 use Rattle.commit_table.specs.Calls.{TallyValue}
 use Rattle.commit_table.specs.Views.{new_pass}
 use Rattle.commit_table.specs.declared.views.Known.{Known}
-use Rattle.notification_laws.specs.Contributions.{ContributesOnce}
-use Rattle.notification_laws.specs.Notifications.{HandsOutOnce}
+use Rattle.gaspi_model.specs.ContributionCounts.{ContributesOnce}
+use Rattle.gaspi_model.specs.Notifications.{HandsOutOnce}
 use Rattle.rank_script.specs.Runs.{going_on}
 use Rattle.rank_script.specs.declared.scripts.Script.{Script}
 use Rattle.gaspi_model.specs.CallerEvents.{events_of}
 use Rattle.gaspi_world.specs.Callers.{IsPassOf}
 use Rattle.gaspi_world.specs.Waits.{Waited}
 use Rattle.gaspi_world.specs.declared.starts.Start.{Start}
-use Rattle.script_bodies.specs.Looks.{looks_along, AreWithin, AreByCall}
+use Rattle.gaspi_run.specs.Looks.{looks_along, AreWithin, AreByCall}
 use Rattle.transfer_worker.specs.Order.{Drains}
 use Rattle.transfer_worker.specs.Turns.{IsDrained}
-use Rattle.journal_texts.specs.JournalText.{AreInRange}
+use Rattle.gaspi_texts.specs.JournalText.{AreInRange}
 use Rattle.gaspi_run.specs.Endings.{HasSettled, HaveEnded}
 use Rattle.gaspi_run.specs.declared.turns.Finished.{Finished}
 

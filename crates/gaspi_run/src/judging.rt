@@ -4,18 +4,17 @@ ghost use Rattle.std.specs.Prelude.{◌≡◌, ◌<◌, ◌≤◌, ◌+◌, ◌+
 ghost use Rattle.std.specs.List.{flat_map};
 ghost use Rattle.rank_script.specs.WorldText.{checked_world};
 ghost use Rattle.rank_script.specs.declared.scripts.ScriptFault.TheVariants as script_faults;
-ghost use Rattle.text_lines.specs.Lines.{fed_lines};
+ghost use Rattle.call_texts.specs.Lines.{fed_lines};
 ghost use Rattle.gaspi_run.specs.Judging.{HasReply, HasVerdict, HasWrites, IsChecked, IsNoJournal, IsRead, illegal_text, verdict_status, verdict_text, why_status, why_text, why_word, write_line, writes_text, no_notification_text};
 
 use crate::telling::Told;
 use call_journal::{ArrivedWrite, Verdict, WhyAnswer, check, why};
+use call_texts::first_line;
 use gaspi_model::Why;
-use gaspi_texts::write_number;
+use gaspi_texts::{Journal, JournalFault, read, write_number};
 use gaspi_types::{Bytes, NoMemory, Rows, Shape};
-use journal_texts::{Journal, JournalFault, read};
 use rank_script::{ScriptFault, read_input};
 use std::alloc::Global;
-use text_lines::first_line;
 
 /// What is asked of a journal.
 #[derive(Clone, Copy, Debug, PartialEq, Eq)]

@@ -1,16 +1,23 @@
-//! The commands of the program.
+//! The commands of the program, and callers that run their scripts in a world.
+//!
+//! A `ScriptBody` makes the calls of a script one after another through the pass of its caller, and then the caller's end. How the run ended
+//! is its outcome.
 #![tactic(auto)]
 
+mod bodies;
 mod commands;
 mod judging;
+mod looks;
 mod moves;
 mod parts;
+mod running;
 mod scheduling;
 mod tasks;
 mod telling;
 mod threads;
 mod turns;
 
+pub use bodies::ScriptBody;
 pub use commands::{Answer, gaspirun, run_bench, run_command, run_threads};
 pub use scheduling::{Ran, schedule};
 pub use threads::{RanOnThreads, run_on_threads};

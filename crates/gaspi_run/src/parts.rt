@@ -6,8 +6,8 @@ ghost use Rattle.gaspi_world.specs.Callers.{IsWorkers};
 ghost use Rattle.transfer_worker.specs.Order.{Drains};
 ghost use Rattle.transfer_worker.specs.Turns.{GoesOn, IsDrained};
 
+use crate::ScriptBody;
 use gaspi_world::{Body, Pass, World};
-use script_bodies::ScriptBody;
 use std::alloc::Global;
 use std::sync::Wait;
 use transfer_worker::Worker;

@@ -1,7 +1,7 @@
 //! The schedule of a world's scripts on one thread.
 
 ghost use Rattle.std.specs.Prelude.{◌≡◌, ℕ, ◌<◌, ◌≤◌, ◌++◌, OnOk, IfOk, true};
-ghost use Rattle.journal_texts.specs.JournalText.{AreInRange, HaveOwnValues};
+ghost use Rattle.gaspi_texts.specs.JournalText.{AreInRange, HaveOwnValues};
 ghost use Rattle.gaspi_types.specs.World.{IsWorld};
 ghost use Rattle.gaspi_model.specs.Step.{is_legal};
 ghost use Rattle.rank_script.specs.PlainScripts.{ArePlain};
@@ -12,8 +12,8 @@ ghost use Rattle.gaspi_run.specs.Schedule.{starts, rank_starts, thread_starts, s
 use crate::moves::turn;
 use crate::turns::{Finished, Turns, Waiting};
 use gaspi_model::{enabled, endings, settling, soundness};
+use gaspi_texts::{Journal, journal_is_in_range};
 use gaspi_types::{CallerId, NoMemory, RankId, Rows, Shape, ThreadId};
-use journal_texts::{Journal, journal_is_in_range};
 use plain_machine::Machine;
 use rank_script::{Cursor, Scripts, runs};
 use std::alloc::Global;

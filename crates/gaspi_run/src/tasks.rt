@@ -8,12 +8,12 @@ ghost use Rattle.rank_script.specs.PlainScripts.{ArePlain};
 ghost use Rattle.rank_script.specs.WorldText.{AreScriptsOf};
 ghost use Rattle.gaspi_run.specs.Parts.{made_pass, AreCallersThere, EachAt, NeedsOf, IsPartOf, IsReady, HaveAllRun, IsDone, HaveRun, finished_of, finished_in};
 
+use crate::ScriptBody;
 use crate::parts::Part;
 use crate::turns::Finished;
 use gaspi_types::{NoMemory, Rows};
 use gaspi_world::{Pass, Passes, Task, World, launch};
 use rank_script::{Cursor, RunOutcome, Scripts};
-use script_bodies::ScriptBody;
 use std::alloc::Global;
 use std::sync::Wait;
 use std::thread::Threads;

@@ -1,31 +1,31 @@
 //! What the commands tell of their inputs.
 
 ghost use Rattle.std.specs.Prelude.{◌≡◌, ◌≤◌, ℕ, IfOk, IsErrOf, Err, None, true};
-ghost use Rattle.journal_texts.specs.JournalText.{HaveOwnValues};
+ghost use Rattle.gaspi_texts.specs.JournalText.{HaveOwnValues};
 ghost use Rattle.rank_script.specs.WorldText.{world_text};
 ghost use Rattle.rank_script.specs.declared.scripts.ScriptFault.TheVariants as script_faults;
 ghost use Rattle.command_line.specs.declared.words.Command.TheVariants as commands;
 ghost use Rattle.gaspi_model.specs.Step.{is_legal};
-ghost use Rattle.journal_numbers.specs.Numbers.{AreNumbers};
+ghost use Rattle.call_journal.specs.Numbers.{AreNumbers};
 ghost use Rattle.gaspi_run.specs.Command.{is_any_wrong, is_any_limit, run_status, run_text, numbers_text, IsWithin, is_plain, HasRunOnThreads, HasBenched, IsStepped, IsTold, world_read};
 
 use crate::judging::{Question, tell_judged};
 use crate::scheduling::schedule;
 use crate::threads::{RanOnThreads, run_on_threads};
 use crate::turns::Finished;
-use bench_laws::{bench_calls, bench_notifications, bench_transfers, bench_words};
+use call_journal::{
+    Numbers4, bench_calls, bench_notifications, bench_numbers, bench_transfers, bench_words,
+    write_transcripts,
+};
 use command_line::Command;
 use gaspi_model::StepFault;
-use gaspi_texts::write_number;
+use gaspi_texts::{Journal, write, write_number};
 use gaspi_types::{Bytes, NoMemory, Shape};
 use gaspi_world::Tally;
-use journal_numbers::{Numbers4, bench_numbers};
-use journal_texts::{Journal, write};
 use rank_script::{RunOutcome, ScriptFault, Scripts, bench_world, read_world};
 use std::alloc::Global;
 use std::sync::Wait;
 use std::thread::Threads;
-use transcripts::write_transcripts;
 
 /// What a command tells of its input: the history, what is known of the closed world where threads ran it, the status, and the
 /// text.

@@ -1,11 +1,11 @@
 //! The scripts of a world on threads: each caller and each worker on one of its own.
 
 ghost use Rattle.std.specs.Prelude.{◌≡◌, ◌≤◌, IfOk, true, Some, map};
-ghost use Rattle.journal_texts.specs.JournalText.{HaveOwnValues};
+ghost use Rattle.gaspi_texts.specs.JournalText.{HaveOwnValues};
 ghost use Rattle.commit_table.specs.Calls.{AreWhole};
 ghost use Rattle.gaspi_model.specs.Step.{is_legal};
-ghost use Rattle.notification_laws.specs.Contributions.{ContributesOnce};
-ghost use Rattle.notification_laws.specs.Notifications.{HandsOutOnce};
+ghost use Rattle.gaspi_model.specs.ContributionCounts.{ContributesOnce};
+ghost use Rattle.gaspi_model.specs.Notifications.{HandsOutOnce};
 ghost use Rattle.gaspi_world.specs.Closing.{HaveSeen, HaveDone};
 ghost use Rattle.rank_script.specs.WorldText.{AreScriptsOf};
 ghost use Rattle.gaspi_run.specs.Threads.{HasRunWorld};
@@ -13,9 +13,9 @@ ghost use Rattle.gaspi_run.specs.Threads.{HasRunWorld};
 use crate::tasks::{RanParts, run_parts};
 use crate::turns::Finished;
 use gaspi_model::{notification_order, settling};
+use gaspi_texts::{Journal, journal_is_in_range};
 use gaspi_types::{NoMemory, Rows, Shape};
 use gaspi_world::{Passes, Started, Tally, World, waits_last};
-use journal_texts::{Journal, journal_is_in_range};
 use rank_script::Scripts;
 use std::alloc::Global;
 use std::sync::Wait;

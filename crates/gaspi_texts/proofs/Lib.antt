@@ -1,8 +1,15 @@
+pub mod Cutting
 pub mod EventTexts
 pub mod FoundEvents
 pub mod GraphicWords
 pub mod InRange
 pub mod JoinedWords
+pub mod JournalLines
+pub mod MergedJournals
 pub mod Places
+pub mod RangesSoFar
+pub mod ReadJournals
+pub mod ReadLines
 pub mod ReplyTexts
 pub mod WordTexts
+pub mod WrittenLines

@@ -1,6 +1,9 @@
+pub mod Additions
 pub mod CallLaws
 pub mod CollectiveText
 pub mod EventReading
 pub mod EventText
+pub mod JournalText
+pub mod Merges
 pub mod RefusalText
 pub mod ReplyText

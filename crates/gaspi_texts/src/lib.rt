@@ -1,9 +1,19 @@
-//! The texts of replies and events, both ways, and those of the calls below them.
+//! The texts of replies, events and journals, both ways, with those of the calls below them.
+//!
+//! A `Journal` is the history of a world as a list of events. A `RankJournal` has the events of one rank with their places, and `MergeRoom`
+//! makes one journal of the lists of all ranks.
 #![tactic(auto)]
 
 mod collective_texts;
 mod event_reading;
 mod event_texts;
+mod journal_laws;
+mod journal_lines;
+mod journal_ranges;
+mod journal_reading;
+mod journal_values;
+mod journal_writing;
+mod merging;
 mod own_values;
 mod ranges;
 mod reply_reading;
@@ -17,6 +27,13 @@ pub use call_texts::{
     write_number,
 };
 pub use event_texts::{Scratch, read_event, read_event_with, write_event};
+use gaspi_types::{Buffer, Event, PlacedEvent, Rows};
+pub use journal_laws::journals_differ_in_text;
+pub use journal_ranges::journal_is_in_range;
+pub use journal_reading::{JournalFault, read};
+pub use journal_values::have_own_values;
+pub use journal_writing::write;
+pub use merging::MergeRoom;
 pub use own_values::has_own_values;
 pub use ranges::{event_is_in_range, reply_is_in_range};
 pub use reply_texts::{read_reply, read_reply_words, write_reply};
@@ -24,3 +41,15 @@ pub use text_laws::{
     events_differ_in_text, events_have_no_line_feed, read_replies_are_in_range,
     replies_differ_in_text, replies_read_back,
 };
+
+/// The events of a world in the order in which they happened: the place of an event is its index, from 0.
+pub type Journal = Rows<Event>;
+
+/// A journal with room for so many events: it takes its memory when it is made, and adding an event below its room cannot
+/// fail. `into_rows` makes a journal of it, without taking memory. The place of an event is its index, so it is the journal of
+/// a whole world, as under one lock, and not the part of one rank.
+pub type ReservedJournal = Buffer<Event>;
+
+/// The part of one rank in a journal: the events that the rank owns, each with its place, in rising order of places. `MergeRoom`
+/// makes a journal of the parts of all ranks.
+pub type RankJournal = Buffer<PlacedEvent>;

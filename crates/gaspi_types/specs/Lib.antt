@@ -1,3 +1,4 @@
+pub mod Buffered
 pub mod CallRows
 pub mod Checks
 pub mod Collectives

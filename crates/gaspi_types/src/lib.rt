@@ -1,6 +1,7 @@
-//! The types of the GASPI runtime: the shape of a world, its calls, replies and events.
+//! The types of the GASPI runtime: the shape of a world, its calls, replies and events, and lists whose memory is taken when they are made.
 #![tactic(auto)]
 
+mod buffers;
 mod call_rows;
 mod calls;
 mod collectives;
@@ -18,6 +19,7 @@ mod segments;
 mod shapes;
 mod touches;
 
+pub use buffers::Buffer;
 pub use call_rows::{CallRow, Posting, need};
 pub use calls::{
     Alloc, Allreduce, Barrier, Call, Commit, CompareSwap, Create, Delete, FetchAdd, GroupAdd,

@@ -45,10 +45,10 @@ use Rattle.rank_node.specs.Rooms.{HasMade, FitsRoom}
 use Rattle.rank_node.specs.Values.{PostsValue}
 use Rattle.rank_node.specs.declared.making.MadeSegment.{MadeSegment}
 use Rattle.rank_node.specs.declared.rooms.Room.{Room}
-use Rattle.world_shards.specs.Numbering.{by_ranks}
-use Rattle.world_shards.specs.RankShards.{call_other}
-use Rattle.world_shards.specs.ShardLaws.{arrives, limits-are, last-step, goes-on}
-use Rattle.world_shards.specs.ShardMachine.{state_after}
+use Rattle.gaspi_world.specs.Numbering.{by_ranks}
+use Rattle.gaspi_world.specs.RankShards.{call_other}
+use Rattle.gaspi_world.specs.ShardLaws.{arrives, limits-are, last-step, goes-on}
+use Rattle.gaspi_world.specs.ShardMachine.{state_after}
 use Rattle.gaspi_world.specs.Attempts.{found_after, is_full_after}
 use Rattle.gaspi_world.specs.Callers.{IsPassOf}
 use Rattle.gaspi_world.specs.Holds.{Holds, Added, AgreesOn}

@@ -26,14 +26,14 @@ use Rattle.rank_node.specs.Lending.{IsNodeOf, Lends, IsStepOn, IsLeft}
 use Rattle.rank_node.specs.declared.held_nodes.HeldNodes.{HeldNodes}
 use Rattle.rank_node.specs.declared.held_nodes.OtherNode.{OtherNode}
 use Rattle.rank_node.specs.declared.held_nodes.OtherNode.TheVariants as others
-use Rattle.world_shards.specs.Holds.{value_at, AreShardsOf, HaveStepped}
-use Rattle.world_shards.specs.Numbering.{by_ranks}
-use Rattle.world_shards.specs.RankJournals.{journal_of}
-use Rattle.world_shards.specs.RankShards.{IsEither, rank_other, call_other, event-either, either-event, join-other}
-use Rattle.world_shards.specs.ShardLaws.{agree-self, arrives, limits-are, last-step}
-use Rattle.world_shards.specs.ShardMachine.{HasParts, state_after}
-use Rattle.world_shards.proofs.HeldPairs.{here, elsewhere}
-use Rattle.world_shards.proofs.HeldShards.{stands-too, still-holds}
+use Rattle.gaspi_world.specs.ShardProjections.{value_at, AreShardsOf, HaveStepped}
+use Rattle.gaspi_world.specs.Numbering.{by_ranks}
+use Rattle.gaspi_world.specs.RankJournals.{journal_of}
+use Rattle.gaspi_world.specs.RankShards.{IsEither, rank_other, call_other, event-either, either-event, join-other}
+use Rattle.gaspi_world.specs.ShardLaws.{agree-self, arrives, limits-are, last-step}
+use Rattle.gaspi_world.specs.ShardMachine.{HasParts, state_after}
+use Rattle.gaspi_world.proofs.HeldPairs.{here, elsewhere}
+use Rattle.gaspi_world.proofs.HeldShards.{stands-too, still-holds}
 use Rattle.gaspi_world.specs.Callers.{IsPassOf}
 use Rattle.gaspi_world.specs.Holds.{Holds, AgreesOn, values_of, other_value, IsOther, IsOtherShard}
 use Rattle.gaspi_world.specs.Shards.{node_meaning}

@@ -7,7 +7,7 @@ use Rattle.gaspi_types.specs.declared.events.Transfer.{Transfer}
 use Rattle.commit_table.specs.declared.views.Known.{Known}
 use Rattle.rank_node.specs.Fronts.{IsFront, front_entry, transfer_footprint}
 use Rattle.rank_node.specs.declared.nodes.Node.{Node}
-use Rattle.world_shards.specs.RankShards.{rank_other}
+use Rattle.gaspi_world.specs.RankShards.{rank_other}
 use Rattle.gaspi_world.specs.Holds.{Holds, IsOtherShard}
 use Rattle.gaspi_world.specs.Moves.{IsFrontHeld}
 use Rattle.gaspi_world.specs.declared.holding.HeldShards.{HeldShards}

@@ -28,12 +28,12 @@ use Rattle.rank_node.specs.declared.held_nodes.HeldNodes.{HeldNodes}
 use Rattle.rank_node.specs.declared.held_nodes.OtherNode.{OtherNode}
 use Rattle.rank_node.specs.declared.held_nodes.OtherNode.TheVariants as others
 use Rattle.rank_node.specs.declared.nodes.Node.{Node}
-use Rattle.world_shards.specs.Holds.{value_at, HaveStepped}
-use Rattle.world_shards.specs.Numbering.{by_ranks}
-use Rattle.world_shards.specs.RankJournals.{placed_at, noted_by, own-noted, none-noted}
-use Rattle.world_shards.specs.RankShards.{rank_other}
-use Rattle.world_shards.specs.ShardMachine.{HasParts}
-use Rattle.world_shards.proofs.HeldPairs.{here}
+use Rattle.gaspi_world.specs.ShardProjections.{value_at, HaveStepped}
+use Rattle.gaspi_world.specs.Numbering.{by_ranks}
+use Rattle.gaspi_world.specs.RankJournals.{placed_at, noted_by, own-noted, none-noted}
+use Rattle.gaspi_world.specs.RankShards.{rank_other}
+use Rattle.gaspi_world.specs.ShardMachine.{HasParts}
+use Rattle.gaspi_world.proofs.HeldPairs.{here}
 use Rattle.gaspi_world.specs.Holds.{other_value, IsOther, IsOtherShard}
 use Rattle.gaspi_world.specs.Shards.{node_meaning, IsRankPosts, IsRankMemory}
 use Rattle.gaspi_world.specs.declared.shards.WorldShard.{WorldShard}

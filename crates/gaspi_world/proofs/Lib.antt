@@ -6,6 +6,9 @@ pub mod FewCallers
 pub mod Following
 pub mod Going
 pub mod HeldNodes
+pub mod HeldPairs
+pub mod HeldShards
+pub mod JournalLengths
 pub mod Lanes
 pub mod Looks
 pub mod MergedJournals

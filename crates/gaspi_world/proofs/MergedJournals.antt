@@ -14,14 +14,14 @@ use Rattle.gaspi_model.specs.Sound.{IsSound}
 use Rattle.gaspi_model.specs.Step.{is_legal, owner_of}
 use Rattle.gaspi_model.proofs.Histories.{prefix, reached-sound}
 use Rattle.commit_table.specs.Calls.{AreShards}
-use Rattle.journal_texts.specs.Merges.{cut, joined, AreCutOf, AreRisingFrom}
-use Rattle.journal_texts.proofs.Cutting.{joined-are-cut, joined-rise, length-joined}
+use Rattle.gaspi_texts.specs.Merges.{cut, joined, AreCutOf, AreRisingFrom}
+use Rattle.gaspi_texts.proofs.Cutting.{joined-are-cut, joined-rise, length-joined}
 use Rattle.rank_node.specs.Values.{PostsValue}
-use Rattle.world_shards.specs.Numbering.{by_ranks}
-use Rattle.world_shards.specs.RankJournals.{journal_of, journal_from, noted_by}
-use Rattle.world_shards.specs.ShardLaws.{arrives, limits-are}
-use Rattle.world_shards.specs.ShardMachine.{StandsFor, state_after}
-use Rattle.world_shards.proofs.JournalLengths.{journal-length, owner-posts}
+use Rattle.gaspi_world.specs.Numbering.{by_ranks}
+use Rattle.gaspi_world.specs.RankJournals.{journal_of, journal_from, noted_by}
+use Rattle.gaspi_world.specs.ShardLaws.{arrives, limits-are}
+use Rattle.gaspi_world.specs.ShardMachine.{StandsFor, state_after}
+use Rattle.gaspi_world.proofs.JournalLengths.{journal-length, owner-posts}
 use Rattle.gaspi_world.specs.Closing.{journals_of, rank_journals}
 use Rattle.gaspi_world.specs.Shards.{node_meaning}
 use Rattle.gaspi_world.specs.WorldMachine.{world_machine}

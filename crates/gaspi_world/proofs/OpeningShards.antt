@@ -10,7 +10,7 @@ use Rattle.gaspi_model.proofs.Sound.Turns.{in-range}
 use Rattle.commit_table.specs.Calls.{AreShards}
 use Rattle.rank_node.specs.Openings.{posts_at_start, memory_at_start, IsOpeningNode}
 use Rattle.rank_node.specs.declared.nodes.Node.{Node}
-use Rattle.world_shards.specs.Openings.{all-open}
+use Rattle.gaspi_world.specs.Openings.{all-open}
 use Rattle.gaspi_world.specs.Shards.{node_meaning, IsOpeningShard}
 use Rattle.gaspi_world.specs.WorldMachine.{world_machine}
 use Rattle.gaspi_world.specs.declared.shards.WorldShard.{WorldShard}

@@ -10,11 +10,11 @@ use Rattle.commit_table.specs.declared.views.Turn.{Turn}
 use Rattle.commit_table.proofs.Lists.{held_here, held_else}
 use Rattle.rank_node.specs.declared.held_nodes.OtherNode.{OtherNode}
 use Rattle.rank_node.specs.declared.held_nodes.OtherNode.TheVariants as others
-use Rattle.world_shards.specs.Holds as held
-use Rattle.world_shards.specs.Numbering.{by_ranks}
-use Rattle.world_shards.specs.ShardMachine.{StandsFor}
-use Rattle.world_shards.proofs.HeldPairs.{here, elsewhere, of-two, not-first, not-second, second-given}
-use Rattle.world_shards.proofs.HeldShards.{looked-holds, may-give}
+use Rattle.gaspi_world.specs.ShardProjections as held
+use Rattle.gaspi_world.specs.Numbering.{by_ranks}
+use Rattle.gaspi_world.specs.ShardMachine.{StandsFor}
+use Rattle.gaspi_world.proofs.HeldPairs.{here, elsewhere, of-two, not-first, not-second, second-given}
+use Rattle.gaspi_world.proofs.HeldShards.{looked-holds, may-give}
 use Rattle.gaspi_world.specs.Holds.{Holds, values_of, other_value, IsOther, IsOtherShard}
 use Rattle.gaspi_world.specs.Shards.{node_meaning}
 use Rattle.gaspi_world.specs.WorldMachine.{world_machine}

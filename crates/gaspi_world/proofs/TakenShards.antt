@@ -16,13 +16,13 @@ use Rattle.commit_table.specs.Calls.{HoldsNone, Looked, Taken}
 use Rattle.commit_table.specs.Views.{held_at, took, looked}
 use Rattle.commit_table.specs.declared.views.Known.{Known}
 use Rattle.commit_table.proofs.Lists.{held_here, held_else}
-use Rattle.world_shards.specs.Holds as held
-use Rattle.world_shards.specs.Holds.{value_at, TookBoth}
-use Rattle.world_shards.specs.Numbering.{by_ranks}
-use Rattle.world_shards.specs.ShardLaws.{arrives, limits-are}
-use Rattle.world_shards.specs.ShardMachine.{StandsFor, state_after}
-use Rattle.world_shards.proofs.HeldPairs.{here, elsewhere, not-first}
-use Rattle.world_shards.proofs.HeldShards.{looked-holds}
+use Rattle.gaspi_world.specs.ShardProjections as held
+use Rattle.gaspi_world.specs.ShardProjections.{value_at, TookBoth}
+use Rattle.gaspi_world.specs.Numbering.{by_ranks}
+use Rattle.gaspi_world.specs.ShardLaws.{arrives, limits-are}
+use Rattle.gaspi_world.specs.ShardMachine.{StandsFor, state_after}
+use Rattle.gaspi_world.proofs.HeldPairs.{here, elsewhere, not-first}
+use Rattle.gaspi_world.proofs.HeldShards.{looked-holds}
 use Rattle.gaspi_world.specs.Holds.{Holds, values_of, IsOther, IsOtherShard}
 use Rattle.gaspi_world.specs.Shards.{node_meaning, IsRankShard}
 use Rattle.gaspi_world.specs.WorldMachine.{world_machine}

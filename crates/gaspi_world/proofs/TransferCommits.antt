@@ -22,11 +22,11 @@ use Rattle.rank_node.specs.Lending.{Lends, IsStepOn, IsLeft}
 use Rattle.rank_node.specs.TransferSteps.{MayTake, MayPut, IsFirstPosted, IsFirstCarried, LendsForTransfer}
 use Rattle.rank_node.specs.Transfers.{take_of, put_of, event_of}
 use Rattle.rank_node.specs.declared.held_nodes.HeldNodes.{HeldNodes}
-use Rattle.world_shards.specs.Numbering.{by_ranks}
-use Rattle.world_shards.specs.RankShards.{rank_other}
-use Rattle.world_shards.specs.ShardLaws.{arrives, limits-are, goes-on}
-use Rattle.world_shards.specs.ShardMachine.{state_after}
-use Rattle.world_shards.proofs.HeldShards.{may-commit, added}
+use Rattle.gaspi_world.specs.Numbering.{by_ranks}
+use Rattle.gaspi_world.specs.RankShards.{rank_other}
+use Rattle.gaspi_world.specs.ShardLaws.{arrives, limits-are, goes-on}
+use Rattle.gaspi_world.specs.ShardMachine.{state_after}
+use Rattle.gaspi_world.proofs.HeldShards.{may-commit, added}
 use Rattle.gaspi_world.specs.Holds.{Holds, Added, values_of, left_by}
 use Rattle.gaspi_world.specs.Moves.{is_transfer_of, IsFrontHeld, IsMovedBehind, Moves}
 use Rattle.gaspi_world.specs.Shards.{node_meaning}

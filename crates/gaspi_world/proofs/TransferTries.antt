@@ -21,13 +21,13 @@ use Rattle.rank_node.specs.Fronts.{IsFront, front_entry, transfer_footprint}
 use Rattle.rank_node.specs.Lending.{IsNodeOf, IsPostsOf}
 use Rattle.rank_node.specs.declared.held_nodes.OtherNode.TheVariants as others
 use Rattle.rank_node.specs.declared.nodes.Node.{Node}
-use Rattle.world_shards.specs.Holds.{TookBoth}
-use Rattle.world_shards.specs.Numbering.{by_ranks}
-use Rattle.world_shards.specs.RankJournals.{journal_of}
-use Rattle.world_shards.specs.RankShards.{rank_other}
-use Rattle.world_shards.specs.ShardLaws.{arrives, limits-are, parts-moved}
-use Rattle.world_shards.specs.ShardMachine.{StandsFor, state_after}
-use Rattle.world_shards.proofs.HeldPairs.{low-first, both-looked}
+use Rattle.gaspi_world.specs.ShardProjections.{TookBoth}
+use Rattle.gaspi_world.specs.Numbering.{by_ranks}
+use Rattle.gaspi_world.specs.RankJournals.{journal_of}
+use Rattle.gaspi_world.specs.RankShards.{rank_other}
+use Rattle.gaspi_world.specs.ShardLaws.{arrives, limits-are, parts-moved}
+use Rattle.gaspi_world.specs.ShardMachine.{StandsFor, state_after}
+use Rattle.gaspi_world.proofs.HeldPairs.{low-first, both-looked}
 use Rattle.gaspi_world.specs.Holds.{values_of, IsOther, IsOtherShard}
 use Rattle.gaspi_world.specs.Moves.{MayTransfer, HasNoTransfer, HasActive, HaveEnded, IsFrontHeld, Tries}
 use Rattle.gaspi_world.specs.Shards.{node_meaning}

@@ -25,10 +25,10 @@ use Rattle.rank_node.specs.Fronts.{IsFront, front_entry, transfer_footprint}
 use Rattle.rank_node.specs.Lending.{IsPostsOf}
 use Rattle.rank_node.specs.Transfers.{take_of, put_of, event_of}
 use Rattle.rank_node.specs.Values.{PostsValue}
-use Rattle.world_shards.specs.Numbering.{by_ranks}
-use Rattle.world_shards.specs.RankShards.{IsEither, rank_other, either-event}
-use Rattle.world_shards.specs.ShardLaws.{arrives, limits-are, state-is}
-use Rattle.world_shards.specs.ShardMachine.{state_after}
+use Rattle.gaspi_world.specs.Numbering.{by_ranks}
+use Rattle.gaspi_world.specs.RankShards.{IsEither, rank_other, either-event}
+use Rattle.gaspi_world.specs.ShardLaws.{arrives, limits-are, state-is}
+use Rattle.gaspi_world.specs.ShardMachine.{state_after}
 use Rattle.gaspi_world.specs.Holds.{IsOtherShard}
 use Rattle.gaspi_world.specs.Moves.{HasNoTransfer, HasActive, HaveEnded}
 use Rattle.gaspi_world.proofs.HeldNodes.{other-shard, IsReach, reach-is}

@@ -30,7 +30,7 @@ use Rattle.timeout_state.specs.declared.budget.Look.TheVariants.{More, Final}
 use Rattle.commit_table.specs.declared.views.Known.{Known}
 use Rattle.commit_table.proofs.Lists.{prefix_self, prefix_trans}
 use Rattle.gaspi_world.specs.Attempts.{is_waiting, found_after, is_full_after, is_pending_after, MayHaveJoined, GoesOn, HasCommitted, IsLook, IsBusy, IsNotYet, IsRecorded, IsAtLimit, IsOutOfMemory}
-use Rattle.world_shards.specs.RankShards.{IsEither, call_other}
+use Rattle.gaspi_world.specs.RankShards.{IsEither, call_other}
 use Rattle.gaspi_model.specs.CallerEvents.{events_of, is_event_of}
 use Rattle.gaspi_world.specs.Calling.{AreUnready, HadRoom, JoinedFirst, HasMissed, AreLooks, IsCalled, IsStopped, HasWaited}
 use Rattle.gaspi_model.proofs.Recordable.{join-group}

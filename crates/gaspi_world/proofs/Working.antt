@@ -28,9 +28,9 @@ use Rattle.commit_table.specs.Views.{mine_after, gave_back}
 use Rattle.commit_table.specs.declared.views.Known.{Known}
 use Rattle.commit_table.specs.declared.views.LockOp.{LockOp}
 use Rattle.commit_table.proofs.Lists.{prefix_self, prefix_more, prefix_trans}
-use Rattle.world_shards.specs.RankShards.{IsEither, call_other}
-use Rattle.world_shards.specs.ShardLaws.{arrives}
-use Rattle.world_shards.specs.ShardMachine.{state_after}
+use Rattle.gaspi_world.specs.RankShards.{IsEither, call_other}
+use Rattle.gaspi_world.specs.ShardLaws.{arrives}
+use Rattle.gaspi_world.specs.ShardMachine.{state_after}
 use Rattle.gaspi_world.specs.Attempts.{is_waiting, found_after, is_full_after, GoesOn, HasCommitted, LookedOnce, Attempted}
 use Rattle.gaspi_world.specs.Callers.{IsPassOf}
 use Rattle.gaspi_world.specs.Holds.{Added, left_by}

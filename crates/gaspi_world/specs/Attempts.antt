@@ -20,7 +20,7 @@ use Rattle.timeout_state.specs.declared.budget.Look.TheVariants.{More, Final}
 use Rattle.commit_table.specs.Attempts.{Missed}
 use Rattle.commit_table.specs.declared.views.Known.{Known}
 use Rattle.gaspi_model.specs.CallerEvents.{events_of}
-use Rattle.world_shards.specs.RankShards.{IsEither, call_other}
+use Rattle.gaspi_world.specs.RankShards.{IsEither, call_other}
 use Rattle.gaspi_world.specs.WorldMachine.{world_machine}
 use Rattle.gaspi_world.specs.declared.attempts.Halt.{Halt}
 use Rattle.gaspi_world.specs.declared.attempts.Halt.TheVariants.{Busy, NotYet, NoMemory, EventLimit}

@@ -15,7 +15,7 @@ use Rattle.commit_table.specs.declared.views.Known.{Known}
 use Rattle.gaspi_world.specs.Attempts.{is_waiting, found_after, is_full_after, is_pending_after, MayHaveJoined, GoesOn, HasCommitted}
 use Rattle.commit_table.specs.Calls.{TableValue, PassValue, IsOf, HoldsNone}
 use Rattle.gaspi_model.specs.CallerEvents.{events_of}
-use Rattle.world_shards.specs.RankShards.{IsEither, call_other}
+use Rattle.gaspi_world.specs.RankShards.{IsEither, call_other}
 use Rattle.gaspi_world.specs.Callers.{IsPassOf}
 use Rattle.gaspi_world.specs.declared.calling.Stop.{Stop}
 use Rattle.gaspi_world.specs.declared.starts.Start.{Start}

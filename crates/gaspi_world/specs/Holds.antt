@@ -7,9 +7,9 @@ use Rattle.commit_table.specs.Views.{gave_back}
 use Rattle.commit_table.specs.declared.views.Known.{Known}
 use Rattle.rank_node.specs.declared.held_nodes.OtherNode.{OtherNode}
 use Rattle.rank_node.specs.declared.held_nodes.OtherNode.TheVariants.{Nothing, Rank, Group}
-use Rattle.world_shards.specs.Holds as held
-use Rattle.world_shards.specs.Numbering.{by_ranks}
-use Rattle.world_shards.specs.ShardMachine.{AgreeAt}
+use Rattle.gaspi_world.specs.ShardProjections as held
+use Rattle.gaspi_world.specs.Numbering.{by_ranks}
+use Rattle.gaspi_world.specs.ShardMachine.{AgreeAt}
 use Rattle.gaspi_world.specs.Shards.{node_meaning}
 use Rattle.gaspi_world.specs.declared.holding.HeldShards.{HeldShards}
 use Rattle.gaspi_world.specs.declared.shards.WorldShard.{WorldShard}

@@ -2,9 +2,17 @@ pub mod Attempts
 pub mod Callers
 pub mod Calling
 pub mod Closing
+pub mod Grains
 pub mod Holds
 pub mod Moves
+pub mod Numbering
+pub mod Openings
 pub mod Passes
+pub mod RankJournals
+pub mod RankShards
+pub mod ShardLaws
+pub mod ShardMachine
+pub mod ShardProjections
 pub mod Shards
 pub mod Waits
 pub mod Works

@@ -19,8 +19,8 @@ use Rattle.commit_table.specs.declared.views.Known.{Known}
 use Rattle.commit_table.specs.declared.views.LockOp.TheVariants as lock_op
 use Rattle.commit_table.specs.declared.views.Turn.{Turn}
 use Rattle.rank_node.specs.Fronts.{IsFront, front_entry, transfer_footprint}
-use Rattle.world_shards.specs.Numbering.{by_ranks}
-use Rattle.world_shards.specs.RankShards.{rank_other}
+use Rattle.gaspi_world.specs.Numbering.{by_ranks}
+use Rattle.gaspi_world.specs.RankShards.{rank_other}
 use Rattle.gaspi_world.specs.Holds.{Holds, Added}
 use Rattle.gaspi_world.specs.WorldMachine.{world_machine}
 use Rattle.gaspi_world.specs.declared.holding.HeldShards.{HeldShards}

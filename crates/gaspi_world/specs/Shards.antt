@@ -8,7 +8,7 @@ use Rattle.gaspi_model.specs.State.{opening_posts, opening_memory, opening_group
 use Rattle.gaspi_model.specs.declared.states.Memory.{Memory}
 use Rattle.gaspi_model.specs.declared.states.Posts.{Posts}
 use Rattle.rank_node.specs.Lending.{IsGroupNode}
-use Rattle.world_shards.specs.ShardMachine.{Meaning}
+use Rattle.gaspi_world.specs.ShardMachine.{Meaning}
 use Rattle.gaspi_world.specs.declared.shards.WorldShard.{WorldShard}
 use Rattle.gaspi_world.specs.declared.shards.WorldShard.TheVariants.{Rank, Group}
 

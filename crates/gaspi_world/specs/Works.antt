@@ -23,7 +23,7 @@ use Rattle.commit_table.specs.declared.views.Known.{Known}
 use Rattle.rank_node.specs.Rooms.{FitsRoom, FitsReserved, IsRoomFor}
 use Rattle.rank_node.specs.Values.{PostsValue}
 use Rattle.rank_node.specs.declared.rooms.Room.{Room}
-use Rattle.world_shards.specs.RankShards.{call_other}
+use Rattle.gaspi_world.specs.RankShards.{call_other}
 use Rattle.gaspi_world.specs.Attempts.{is_waiting, found_after, is_full_after, MayHaveJoined, HasCommitted}
 use Rattle.gaspi_world.specs.Callers.{IsPassOf}
 use Rattle.gaspi_world.specs.Holds.{Holds, Added, AgreesOn}

@@ -2,8 +2,8 @@
 use Rattle.gaspi_types.specs.World.{World, IsWorld}
 use Rattle.gaspi_model.specs.Parties.{party_of}
 use Rattle.commit_table.specs.Machine.{Laws}
-use Rattle.world_shards.specs.Numbering.{by_ranks}
-use Rattle.world_shards.specs.ShardLaws.{shards-lawful}
+use Rattle.gaspi_world.specs.Numbering.{by_ranks}
+use Rattle.gaspi_world.specs.ShardLaws.{shards-lawful}
 use Rattle.gaspi_world.specs.Shards.{node_meaning}
 use Rattle.gaspi_world.specs.WorldMachine.{world_machine}
 

@@ -3,8 +3,8 @@ use Rattle.gaspi_types.specs.World.{World}
 use Rattle.gaspi_types.specs.declared.events.Event.{Event}
 use Rattle.gaspi_model.specs.Parties.{party_of}
 use Rattle.commit_table.specs.Machine.{Machine}
-use Rattle.world_shards.specs.Numbering.{by_ranks}
-use Rattle.world_shards.specs.ShardMachine.{shard_machine}
+use Rattle.gaspi_world.specs.Numbering.{by_ranks}
+use Rattle.gaspi_world.specs.ShardMachine.{shard_machine}
 use Rattle.gaspi_world.specs.Shards.{node_meaning}
 use Rattle.gaspi_world.specs.declared.shards.WorldShard.{WorldShard}
 

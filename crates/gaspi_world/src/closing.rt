@@ -6,8 +6,8 @@ ghost use Rattle.gaspi_types.specs.World as shapes;
 ghost use Rattle.gaspi_types.specs.World.{IsWorld};
 ghost use Rattle.gaspi_types.specs.declared.events.Event.{Event};
 ghost use Rattle.gaspi_model.specs.Step.{is_legal};
-ghost use Rattle.notification_laws.specs.Contributions.{ContributesOnce};
-ghost use Rattle.notification_laws.specs.Notifications.{HandsOutOnce};
+ghost use Rattle.gaspi_model.specs.ContributionCounts.{ContributesOnce};
+ghost use Rattle.gaspi_model.specs.Notifications.{HandsOutOnce};
 ghost use Rattle.gaspi_world.specs.Closing.{HaveSeen, HaveDone, journals_of};
 ghost use Rattle.gaspi_world.specs.WorldMachine.{world_machine};
 
@@ -15,8 +15,8 @@ use crate::shards::WorldShard;
 use crate::starts::Start;
 use crate::worlds::{Passes, World};
 use commit_table::Ended;
-use journal_texts::{Journal, MergeRoom};
-use notification_laws::{contribution_counts, notification_values};
+use gaspi_model::{contribution_counts, notification_values};
+use gaspi_texts::{Journal, MergeRoom};
 use std::alloc::Global;
 use std::boxed::Box;
 

@@ -16,7 +16,7 @@ ghost use Rattle.rank_node.specs.Collectives.{IsMadeFor, IsPendingFor};
 ghost use Rattle.rank_node.specs.HeldNodes.{peer_of, group_of, IsSameKind};
 ghost use Rattle.rank_node.specs.Lending.{MayStep, IsStepOn, IsLeft};
 ghost use Rattle.rank_node.specs.Rooms.{IsRecordRoom};
-ghost use Rattle.world_shards.specs.RankShards.{call_other};
+ghost use Rattle.gaspi_world.specs.RankShards.{call_other};
 ghost use Rattle.gaspi_world.specs.Callers.{IsPassOf};
 ghost use Rattle.gaspi_world.specs.Holds.{Holds, Added};
 

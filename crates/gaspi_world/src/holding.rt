@@ -4,8 +4,8 @@ ghost use Rattle.std.specs.Prelude.{◌≡◌, ℕ, ◌<◌, ◌≤◌, ◌+◌,
 ghost use Rattle.gaspi_types.specs.World.{IsWorld};
 ghost use Rattle.commit_table.specs.Attempts.{LookedOnly, Missed};
 ghost use Rattle.commit_table.specs.Calls.{IsOf, HoldsNone};
-ghost use Rattle.world_shards.specs.Holds.{TookBoth};
-ghost use Rattle.world_shards.specs.RankShards.{IsEither, rank_other};
+ghost use Rattle.gaspi_world.specs.ShardProjections.{TookBoth};
+ghost use Rattle.gaspi_world.specs.RankShards.{IsEither, rank_other};
 ghost use Rattle.gaspi_world.specs.Holds.{Holds, values_of, other_value, IsOther, IsOtherShard, left_by};
 ghost use Rattle.gaspi_world.specs.Moves.{HasMoved};
 ghost use Rattle.gaspi_world.specs.Shards.{IsRankShard};

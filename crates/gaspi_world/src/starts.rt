@@ -3,9 +3,8 @@
 ghost use Rattle.gaspi_types.specs.World.{IsWorld};
 
 use crate::shards::WorldShard;
-use commit_table::Sharded;
+use commit_table::{Changes, Sharded};
 use gaspi_types::{CallRow, Event, NoMemory, Shape};
-use pauses::Changes;
 use std::alloc::Global;
 
 /// The start of a world, by its shape. It is made by `World::start` alone, so that no other table of this machine can be.

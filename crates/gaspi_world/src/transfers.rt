@@ -10,7 +10,7 @@ ghost use Rattle.post_queue.specs.MovableLanes.{is_movable_lane};
 ghost use Rattle.rank_node.specs.Fronts.{IsFront, front_entry, transfer_footprint};
 ghost use Rattle.rank_node.specs.Lending.{IsPostsOf};
 ghost use Rattle.rank_node.specs.Transfers.{event_of};
-ghost use Rattle.world_shards.specs.RankShards.{rank_other};
+ghost use Rattle.gaspi_world.specs.RankShards.{rank_other};
 ghost use Rattle.gaspi_world.specs.Callers.{IsWorkers};
 ghost use Rattle.gaspi_world.specs.Holds.{Holds};
 ghost use Rattle.gaspi_world.specs.Moves.{Moves, MovesOn, HasMoved, HasMovedOne, Tries, IsMovedBehind, IsFrontHeld};

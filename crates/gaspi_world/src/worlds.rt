@@ -12,9 +12,8 @@ ghost use Rattle.gaspi_world.specs.declared.starts.Start.{Start};
 use crate::callers::all_numbered;
 use crate::shards::opening_shards;
 use crate::starts::Start;
-use commit_table::CommitTable;
+use commit_table::{Changes, CommitTable};
 use gaspi_types::{CallerId, NoMemory, Rows, Shape};
-use pauses::Changes;
 use std::alloc::Global;
 use std::marker::Model;
 

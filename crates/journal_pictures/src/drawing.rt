@@ -10,8 +10,8 @@ use crate::delivery_tables::{delivery_for, empty_table, pass};
 use crate::diagram_lines::{write_line, write_participant};
 use call_journal::{Verdict, check};
 use gaspi_model::Why;
+use gaspi_texts::Journal;
 use gaspi_types::{Bytes, NoMemory, Shape};
-use journal_texts::Journal;
 use std::alloc::Global;
 
 /// How many events a diagram may have.

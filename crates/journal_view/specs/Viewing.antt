@@ -3,10 +3,10 @@ use Rattle.std.specs.Prelude.{◌≡◌, ◌⊎◌, ℕ, ◌+◌, ◌-◌, lengt
 use Rattle.std.specs.Fmt.{decimal}
 use Rattle.gaspi_types.specs.World.{World}
 use Rattle.gaspi_types.specs.declared.events.Event.{Event}
-use Rattle.text_lines.specs.Lines.{fed_lines}
+use Rattle.call_texts.specs.Lines.{fed_lines}
 use Rattle.gaspi_model.specs.declared.states.Why.{Why}
 use Rattle.gaspi_model.specs.declared.states.Why.TheVariants as whys
-use Rattle.journal_texts.specs.JournalText.{journal_text, AreInRange, IsFaultyAt}
+use Rattle.gaspi_texts.specs.JournalText.{journal_text, AreInRange, IsFaultyAt}
 use Rattle.journal_pictures.specs.Answers.{IsSequenceAnswer}
 use Rattle.journal_pictures.specs.declared.drawing.SequenceAnswer.{SequenceAnswer}
 use Rattle.journal_pictures.specs.declared.drawing.SequenceAnswer.TheVariants.{Drawn, Long, Illegal}

@@ -3,17 +3,16 @@
 ghost use Rattle.std.specs.Prelude.{◌≡◌, ◌<◌, ◌≤◌, ◌+◌, ◌^◌, ℕ, length, IfOk, IsErrOf, Err};
 ghost use Rattle.rank_script.specs.WorldText.{checked_world};
 ghost use Rattle.rank_script.specs.declared.scripts.ScriptFault.TheVariants as script_faults;
-ghost use Rattle.text_lines.specs.Lines.{fed_lines};
+ghost use Rattle.call_texts.specs.Lines.{fed_lines};
 ghost use Rattle.journal_view.specs.Viewing.{HasPicture, IsNoJournal, IsRead, IsViewed, illegal_text, long_text, why_word};
 
+use call_texts::first_line;
 use gaspi_model::Why;
-use gaspi_texts::write_number;
+use gaspi_texts::{Journal, JournalFault, read, write_number};
 use gaspi_types::{Bytes, NoMemory, Shape};
 use journal_pictures::{SequenceAnswer, sequence};
-use journal_texts::{Journal, JournalFault, read};
 use rank_script::{ScriptFault, read_input};
 use std::alloc::Global;
-use text_lines::first_line;
 
 /// What is told of an input: the status and the text.
 #[derive(Debug, Drop)]

@@ -20,7 +20,7 @@ use Rattle.gaspi_model.specs.declared.states.Posts.{Posts}
 use Rattle.gaspi_model.specs.declared.states.Memory.{Memory}
 use Rattle.gaspi_model.specs.declared.states.Why.TheVariants as whys
 use Rattle.gaspi_model.proofs.Listed.Enabled.{same_reply-refl}
-use Rattle.segment_tables.specs.PostKinds.{kinds_of}
+use Rattle.segment_store.specs.PostKinds.{kinds_of}
 use Rattle.plain_calls.specs.Looks.{IsFinding, found_done, found_after, BringsMessage}
 use Rattle.plain_calls.specs.Room.{HasCallRoom, freed}
 use Rattle.plain_calls.specs.declared.looks.Finding.{Finding}

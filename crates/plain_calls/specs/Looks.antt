@@ -19,8 +19,8 @@ use Rattle.gaspi_model.specs.declared.states.Memory.{Memory}
 use Rattle.gaspi_model.specs.declared.states.StepFault.{StepFault}
 use Rattle.gaspi_model.specs.declared.states.StepFault.TheVariants as faults
 use Rattle.gaspi_types.specs.declared.memory.NoMemory.{NoMemory}
-use Rattle.segment_tables.specs.PostKinds.{kinds_of}
-use Rattle.segment_tables.specs.declared.kinds.Kinds.{Kinds}
+use Rattle.segment_store.specs.PostKinds.{kinds_of}
+use Rattle.segment_store.specs.declared.kinds.Kinds.{Kinds}
 use Rattle.plain_calls.specs.declared.looks.Finding.{Finding}
 
 -- a check that a call finds itself done by, or its refusal

@@ -9,7 +9,7 @@ ghost use Rattle.gaspi_model.specs.declared.states.Posts.{Posts};
 
 use gaspi_model::Memory;
 use gaspi_types::{CompareSwap, FetchAdd, OwnSegments, RankId, Refusal, Reply, SegmentTable};
-use segment_tables::{
+use segment_store::{
     add_to_segment, bytes_of, check_word, is_generation, known_extent, segment_in, swap_in_segment,
     word_at,
 };

@@ -39,7 +39,7 @@ use gaspi_types::{
     Call, CompareSwap, FetchAdd, Invocation, Kind, Limits, Message, NoMemory, RankId, Ready,
     Refusal, Reply, ThreadId,
 };
-use segment_tables::Kinds;
+use segment_store::Kinds;
 use std::alloc::Global;
 
 /// What a call finds that posts nothing. Only a load takes memory.

@@ -14,14 +14,13 @@ ghost use Rattle.plain_calls.specs.Turns.{called_on, IsReducible};
 use crate::contributions::{check_turn, is_turn_full, turn_fold};
 use crate::group_calls::pending_on;
 use crate::threads::{is_running, thread_at};
-use call_rules::{check_count, check_type, resume, same_args};
-use gaspi_model::Posts;
+use gaspi_model::{Posts, check_count, check_type, resume, same_args};
 use gaspi_types::{
     Allreduce, Args, Barrier, Call, CallerId, Coll, Commit, Create, Group, GroupId, Handle,
     Handles, NoMemory, NumType, Numbers, RankId, Ready, Refusal, Reply, Resume, Rows, Stage,
     ThreadId, is_member,
 };
-use segment_tables::check_alloc;
+use segment_store::check_alloc;
 use std::alloc::Global;
 
 /// Checks the elements of an allreduce: their count, and then their type. (GASPI: allreduce)

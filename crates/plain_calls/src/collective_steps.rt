@@ -28,7 +28,7 @@ use gaspi_types::{
     Alloc, Call, Coll, Contribution, Group, Handle, Invocation, Limits, NoMemory, Pending, RankId,
     Ready, Reply, Stage,
 };
-use segment_tables::next_generation;
+use segment_store::next_generation;
 use std::alloc::Global;
 
 /// Puts a collective as the one that is pending on a group, or takes away the one that is there.

@@ -7,15 +7,14 @@ ghost use Rattle.gaspi_types.specs.Collectives.{part_of, given_in, members_in, t
 ghost use Rattle.gaspi_types.specs.NumberTypes.{AreInType};
 ghost use Rattle.gaspi_types.specs.declared.collectives.NumType.{NumType};
 ghost use Rattle.gaspi_model.specs.CollectiveCalls.{with_made_known};
-ghost use Rattle.call_rules.specs.Turns.{coll_in};
+ghost use Rattle.gaspi_model.specs.RoundRules.{coll_in};
 ghost use Rattle.plain_calls.specs.Turns.{AreAlike};
 
-use call_rules::{Members, check_fits, members_of, reduce};
-use gaspi_model::Posts;
+use gaspi_model::{Members, Posts, check_fits, members_of, reduce};
 use gaspi_types::{
     Coll, Contribution, Extent, Group, NoMemory, NumType, Numbers, Op, Part, RankId, Refusal, Rows,
 };
-use segment_tables::set_known;
+use segment_store::set_known;
 use std::alloc::Global;
 
 /// What a rank has given to a turn of a group, if it has.

@@ -1,15 +1,15 @@
 //! What a look at a call found. It is recorded as it was found, and nothing of it is looked for again.
 
 ghost use Rattle.std.specs.Prelude.{◌≡◌, None};
-ghost use Rattle.segment_tables.specs.declared.kinds.Kinds.TheVariants as kinds;
+ghost use Rattle.segment_store.specs.declared.kinds.Kinds.TheVariants as kinds;
 ghost use Rattle.gaspi_types.specs.Replies.{is_idle};
 ghost use Rattle.gaspi_model.specs.Calls.{recorded_reply};
 ghost use Rattle.gaspi_model.specs.CollectiveCalls.{is_reply_of, is_joining};
 
 use crate::replies::is_idle_ready;
-use call_rules::same_reply;
+use gaspi_model::same_reply;
 use gaspi_types::{Message, Ready, Reply};
-use segment_tables::Kinds;
+use segment_store::Kinds;
 
 /// What a look at a call found: what it answers, and, where it is done, the kinds of the entries that it appends, or the
 /// message that it sends.

@@ -8,7 +8,7 @@ ghost use Rattle.gaspi_model.specs.Memories.{bytes_of, slots_of, with_slots};
 
 use gaspi_model::Memory;
 use gaspi_types::{NoMemory, Rows, Segment};
-use segment_tables::{is_within, range_of, segment_in};
+use segment_store::{is_within, range_of, segment_in};
 use std::alloc::Global;
 
 /// The segment with a number.
@@ -29,7 +29,7 @@ pub fn new_slots(alloc: Global, notes: u32) -> Result<Rows<u32>, NoMemory>
 pub fn bytes_of(memory: &Memory, segment: u64) -> &[u8]
     ensures { result.now ≡ bytes_of memory.now segment }
 {
-    segment_tables::bytes_of(&memory.segments, segment)
+    segment_store::bytes_of(&memory.segments, segment)
 }
 
 /// The notification slots of a segment. Of one that is not there, none.

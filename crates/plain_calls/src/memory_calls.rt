@@ -8,7 +8,7 @@ ghost use Rattle.plain_calls.specs.Memory.{Loads};
 
 use gaspi_model::Memory;
 use gaspi_types::{Extents, Load, NoMemory, OwnSegments, Refusal, Reply, Rows, Store};
-use segment_tables::{bytes_of, check_own_range, range_of, store_bytes};
+use segment_store::{bytes_of, check_own_range, range_of, store_bytes};
 use std::alloc::Global;
 
 /// Checks a store: this is the table of the caller's own segments.

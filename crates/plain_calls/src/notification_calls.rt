@@ -10,7 +10,7 @@ ghost use Rattle.gaspi_model.specs.declared.states.Posts.{Posts};
 use crate::memories::{first_set, is_slot_range, set_slot};
 use gaspi_model::Memory;
 use gaspi_types::{Extents, Refusal, Reply, Reset, Waitsome};
-use segment_tables::extent_in;
+use segment_store::extent_in;
 
 /// Looks at a wait for a notification: ready where a slot of its range is set. So many slots has a segment, and these are the table of
 /// the caller's own segments and the slots of the one that the call names. (GASPI: notify_waitsome)

@@ -8,7 +8,7 @@ ghost use Rattle.gaspi_model.specs.State.{declared_size, opening_segments};
 
 use gaspi_model::declared_size;
 use gaspi_types::{NoMemory, OwnSegments, Rows, Segment, Shape};
-use segment_tables::new_segment;
+use segment_store::new_segment;
 use std::alloc::Global;
 
 /// The segment of a rank with a number.

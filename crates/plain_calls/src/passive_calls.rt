@@ -13,7 +13,7 @@ use gaspi_types::{
     Extents, Message, Messages, NoMemory, OwnSegments, PassiveReceive, PassiveSend, RankId,
     Refusal, Reply, Rows,
 };
-use segment_tables::{bytes_of, check_message_range, range_of, store_bytes};
+use segment_store::{bytes_of, check_message_range, range_of, store_bytes};
 use std::alloc::Global;
 
 /// Looks at a send, in a world of so many ranks: ready where the inbox of the rank that it names has room, as is said. This is the

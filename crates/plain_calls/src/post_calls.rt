@@ -8,7 +8,7 @@ ghost use Rattle.plain_calls.specs.Looks.{Grants, Accepts};
 
 use gaspi_model::Posts;
 use gaspi_types::{Call, Kind, Limits, NoMemory, Posting, Queue, RankId, Refusal};
-use segment_tables::{Kinds, call_kinds};
+use segment_store::{Kinds, call_kinds};
 use std::alloc::Global;
 
 /// Checks that a queue is not broken and has room for entries.

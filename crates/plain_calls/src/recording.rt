@@ -8,7 +8,7 @@ ghost use Rattle.gaspi_model.specs.Calls.{memory_after, charge, recorded_reply};
 ghost use Rattle.gaspi_model.specs.Sound.{IsSoundPosts};
 ghost use Rattle.gaspi_model.specs.Step.{called, Steps, is_there};
 ghost use Rattle.gaspi_model.specs.Transfers.{Worked};
-ghost use Rattle.segment_tables.specs.PostKinds.{kinds_of};
+ghost use Rattle.segment_store.specs.PostKinds.{kinds_of};
 ghost use Rattle.plain_calls.specs.Looks.{IsFinding, found_after, recorded_of};
 ghost use Rattle.plain_calls.specs.Memory.{keeps_memory};
 ghost use Rattle.plain_calls.specs.Room.{HasCallRoom, freed};

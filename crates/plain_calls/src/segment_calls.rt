@@ -18,7 +18,7 @@ use gaspi_types::{
     Alloc, Delete, Extent, Extents, Limits, NoMemory, Queue, RankId, Refusal, Register, Reply,
     Rows, Segment,
 };
-use segment_tables::{
+use segment_store::{
     add_own, check_alloc, extent_in, new_segment, next_generation, remove_own, set_known,
 };
 use std::alloc::Global;

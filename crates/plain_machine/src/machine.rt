@@ -30,7 +30,7 @@ use gaspi_types::{
     Transfer,
 };
 use plain_calls::{Finding, bytes_of, is_running, thread_at};
-use segment_tables::{is_within, word_at};
+use segment_store::{is_within, word_at};
 use std::alloc::Global;
 use std::marker::Model;
 

@@ -14,7 +14,7 @@ use gaspi_types::{
     Bytes, Destination, Entry, Kind, Limits, NoMemory, Outcome, Phase, Queue, RankId, Rows,
 };
 use plain_calls::{bytes_of, may_put, may_take, place_of, segment_at, set_slot};
-use segment_tables::{is_generation, range_of, store_bytes};
+use segment_store::{is_generation, range_of, store_bytes};
 use std::alloc::Global;
 
 /// Where an entry stands: its queue, its lane, its place there and itself.

@@ -1,9 +1,11 @@
+pub mod Builds
 pub mod Kinds
 pub mod LaneStates
 pub mod LanesStates
 pub mod LeastFrom
 pub mod MovableLanes
 pub mod Nonempty
+pub mod Payloads
 pub mod Places
 pub mod QueueStates
 pub mod Rising

@@ -2,10 +2,10 @@
 
 ghost use Rattle.std.specs.Prelude.{◌≡◌, length};
 ghost use Rattle.gaspi_types.specs.declared.entries.Phase.TheVariants.{Posted, Carried, Failed};
-ghost use Rattle.post_drafts.specs.Payloads.{payload_size};
+ghost use Rattle.post_queue.specs.Payloads.{payload_size};
 
+use crate::Draft;
 use gaspi_types::{Bytes, Entry, Kind, Phase};
-use post_drafts::Draft;
 use std::marker::Model;
 
 /// An entry that is posted, with room for the bytes that it will carry. Contracts see the entry.
@@ -20,7 +20,7 @@ impl Model for PostedEntry {
     ghost use Rattle.std.specs.Prelude.{◌≡◌, length};
     ghost use Rattle.gaspi_types.specs.declared.entries.Entry.{Entry};
     ghost use Rattle.gaspi_types.specs.declared.entries.Phase.TheVariants.{Posted};
-    ghost use Rattle.post_drafts.specs.Payloads.{payload_size};
+    ghost use Rattle.post_queue.specs.Payloads.{payload_size};
 
     ghost Value = { Entry };
 

@@ -5,14 +5,14 @@ ghost use Rattle.gaspi_types.specs.Lanes.{is_posted, is_failed, carried_count};
 ghost use Rattle.gaspi_types.specs.declared.entries.Entry.{Entry};
 ghost use Rattle.gaspi_types.specs.declared.entries.Phase.TheVariants.{Posted, Carried, Failed};
 ghost use Rattle.circular_buffer.specs.Buffer.{buffer};
-ghost use Rattle.post_drafts.specs.Payloads.{payload_size};
+ghost use Rattle.post_queue.specs.Payloads.{payload_size};
 ghost use Rattle.post_queue.specs.Nonempty.{is_nonempty};
 ghost use Rattle.post_queue.specs.Places.{first_posted, first_carried, posted_place, with_phase};
 
+use crate::Draft;
 use crate::entries::{PostedEntry, fail};
 use circular_buffer::HeapCircularBuffer;
 use gaspi_types::{Entry, Kind, NoMemory};
-use post_drafts::Draft;
 use std::alloc::Global;
 use std::marker::Model;
 

@@ -6,18 +6,18 @@ ghost use Rattle.gaspi_types.specs.Lanes.{has_user};
 ghost use Rattle.gaspi_types.specs.Masks.{is_member};
 ghost use Rattle.gaspi_types.specs.Queues.{queue_owed, user_of};
 ghost use Rattle.gaspi_types.specs.declared.entries.Entry.{Entry};
-ghost use Rattle.post_drafts.specs.Payloads.{payload_size};
+ghost use Rattle.post_queue.specs.Payloads.{payload_size};
 ghost use Rattle.post_queue.specs.LeastFrom.{AnswersLeast};
 ghost use Rattle.post_queue.specs.MovableLanes.{is_movable, is_movable_lane, is_movable_queue, IsNextLane};
 ghost use Rattle.post_queue.specs.QueueStates.{QueueState, state_of};
 ghost use Rattle.post_queue.specs.Steps.{taken_in, removed_in, posted_failed_in, head_failed_in, closed_queue, purged_queue};
 ghost use Rattle.post_queue.specs.LanesStates.{empty_queue, empty_queues, next_take, next_put, head_of, nonempty_of, post_checks, wait_checks, purge_checks, open_count_of, with_queue, with_posted};
 
+use crate::Entries;
 use crate::entries::PostedEntry;
 use crate::queue_rings::QueueRings;
 use crate::target_sets::{member_from, set_number};
 use gaspi_types::{Entry, NoMemory, QueueId, RankId, Refusal, Rows};
-use post_drafts::Entries;
 use std::alloc::Global;
 use std::marker::Model;
 

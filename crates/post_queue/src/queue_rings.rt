@@ -5,7 +5,7 @@ ghost use Rattle.std.specs.List.{list_any};
 ghost use Rattle.gaspi_types.specs.Lanes.{has_user, posted_entries};
 ghost use Rattle.gaspi_types.specs.Queues.{queue_owed, with_entries};
 ghost use Rattle.gaspi_types.specs.declared.entries.Entry.{Entry};
-ghost use Rattle.post_drafts.specs.Payloads.{payload_size};
+ghost use Rattle.post_queue.specs.Payloads.{payload_size};
 ghost use Rattle.post_queue.specs.LeastFrom.{AnswersLeast};
 ghost use Rattle.post_queue.specs.MovableLanes.{is_movable, is_movable_to};
 ghost use Rattle.post_queue.specs.Nonempty.{nonempty_in};
@@ -17,8 +17,8 @@ use crate::kinds::Progress;
 use crate::lane_rings::LaneRings;
 use crate::tallies::Tally;
 use crate::target_sets::{first_member, member_from, set_member};
+use crate::{Draft, Entries};
 use gaspi_types::{Entry, NoMemory, RankId, Refusal, Rows};
-use post_drafts::{Draft, Entries};
 use std::alloc::Global;
 use std::marker::Model;
 

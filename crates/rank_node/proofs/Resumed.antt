@@ -20,7 +20,7 @@ use Rattle.gaspi_types.specs.declared.groups.Handle.{Handle}
 use Rattle.gaspi_types.specs.declared.groups.Pending.{Pending}
 use Rattle.gaspi_types.specs.declared.groups.Resume.TheVariants.{Same}
 use Rattle.gaspi_types.proofs.Chains.{bind_then}
-use Rattle.call_rules.specs.Turns.{coll_in}
+use Rattle.gaspi_model.specs.RoundRules.{coll_in}
 use Rattle.plain_calls.specs.Turns.{called_on}
 use Rattle.gaspi_model.specs.CollectiveCalls.{element_checks, staged_at, args_of, full_reply, resumed_finds, collective_answer}
 use Rattle.gaspi_model.specs.State.{thread_at, is_running}

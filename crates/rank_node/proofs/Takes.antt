@@ -21,7 +21,7 @@ use Rattle.gaspi_model.specs.Transfers.{Found, taken_bytes, take_outcome, same_o
 use Rattle.gaspi_model.specs.declared.states.Posts.{Posts}
 use Rattle.gaspi_model.specs.declared.states.Memory.{Memory}
 use Rattle.gaspi_model.specs.declared.states.State.{State}
-use Rattle.post_drafts.specs.Payloads.{payload_size}
+use Rattle.post_queue.specs.Payloads.{payload_size}
 use Rattle.post_queue.specs.LanesStates.{next_take}
 use Rattle.post_queue.specs.Places.{posted_place, first_posted}
 use Rattle.rank_node.specs.Lending.{IsPostsOf}

@@ -20,7 +20,7 @@ use Rattle.gaspi_types.specs.declared.groups.Made.{Made}
 use Rattle.gaspi_types.specs.declared.groups.Pending.{Pending}
 use Rattle.gaspi_types.specs.declared.replies.Reply.{Reply}
 use Rattle.gaspi_types.specs.declared.segments.SegmentTable.{SegmentTable}
-use Rattle.call_rules.specs.Turns.{coll_in}
+use Rattle.gaspi_model.specs.RoundRules.{coll_in}
 use Rattle.collective_engine.specs.Slots.{elements_of, TakesFold, HasItsValues}
 use Rattle.collective_engine.specs.Turns.{Turns, own_given, is_in, may_join}
 use Rattle.gaspi_model.specs.CollectiveCalls.{joining_call, meeting_checks, completed_posts}

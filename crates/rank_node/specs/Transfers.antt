@@ -14,7 +14,7 @@ use Rattle.gaspi_model.specs.Posting.{counted}
 use Rattle.gaspi_model.specs.Transfers.{taken_bytes, take_outcome, memory_put}
 use Rattle.gaspi_model.specs.declared.states.Posts.{Posts}
 use Rattle.gaspi_model.specs.declared.states.Memory.{Memory}
-use Rattle.post_drafts.specs.Payloads.{payload_size}
+use Rattle.post_queue.specs.Payloads.{payload_size}
 use Rattle.post_queue.specs.LanesStates.{LanesState, next_take, next_put}
 use Rattle.post_queue.specs.Steps.{taken_in, posted_failed_in, removed_in, head_failed_in}
 use Rattle.rank_node.specs.Values.{PostsValue}

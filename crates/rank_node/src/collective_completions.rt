@@ -22,7 +22,7 @@ use gaspi_types::{
     Call, CallerId, Event, Extent, GroupId, Made, RankId, Reply, SegmentTable, ThreadId,
 };
 use plain_calls::is_idle;
-use segment_tables::set_known;
+use segment_store::set_known;
 
 /// Makes a segment of each of these ranks known, in the generation in which the rank has made it. (GASPI: segment_create)
 fn make_known(table: &mut SegmentTable, made: &[Made], seg: u64, size: u32)

@@ -21,7 +21,7 @@ use crate::node_posts::NodePosts;
 use crate::nodes::{GroupNode, Node};
 use crate::reserved_numbers::{ReservedNumbers, copied_args, take_rows};
 use gaspi_types::{Args, CallerId, Coll, Event, GroupId, RankId, ThreadId};
-use segment_tables::{add_own, next_generation};
+use segment_store::{add_own, next_generation};
 
 /// The generation of the segment that a collective makes as it joins; 0 where it makes none. (GASPI: segment_create)
 fn made_generation(own: &NodePosts, coll: Coll) -> u32

@@ -22,7 +22,7 @@ use gaspi_types::{
     Args, Call, Coll, NoMemory, Pending, RankId, Ready, Refusal, Reply, Resume, Rows, ThreadId,
 };
 use plain_calls::{args_of, called_on, check_fixed, collective_ready};
-use segment_tables::check_alloc;
+use segment_store::check_alloc;
 use std::alloc::Global;
 
 /// Checks the segment that a collective makes, if it does. (GASPI: segment_create)

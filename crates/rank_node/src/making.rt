@@ -6,8 +6,7 @@ ghost use Rattle.rank_node.specs.Making.{made_segment, with_made};
 use crate::node_memory::NodeMemory;
 use crate::node_posts::NodePosts;
 use gaspi_types::{NoMemory, Segment};
-use notify_slots::Slots;
-use segment_tables::{new_segment, next_generation};
+use segment_store::{Slots, new_segment, next_generation};
 use std::alloc::Global;
 
 /// A segment as it is made, with its slots, that stands in no table yet.

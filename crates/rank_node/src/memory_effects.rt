@@ -12,7 +12,7 @@ ghost use Rattle.gaspi_model.specs.SegmentCalls.{delete_leaves};
 use crate::making::MadeSegment;
 use crate::node_memory::NodeMemory;
 use gaspi_types::{Call, CompareSwap, Delete, FetchAdd, Message, PassiveReceive, Store};
-use segment_tables::{add_to_segment, store_bytes, swap_in_segment};
+use segment_store::{add_to_segment, store_bytes, swap_in_segment};
 
 impl NodeMemory {
     ghost use Rattle.rank_node.specs.Effects.{with_memory, MayDeposit, MayDepositIf, MayAffectMemory, IsMadeByCall};

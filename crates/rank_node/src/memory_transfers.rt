@@ -6,8 +6,7 @@ ghost use Rattle.gaspi_model.specs.Transfers.{carried_bytes, taken_bytes, take_o
 
 use crate::node_memory::NodeMemory;
 use gaspi_types::{Destination, Entry, Kind, Outcome, Phase, Rows};
-use notify_slots::Slots;
-use segment_tables::{bytes_of, is_generation, range_of, segment_in, store_bytes};
+use segment_store::{Slots, bytes_of, is_generation, range_of, segment_in, store_bytes};
 
 /// Sets a slot of a segment, where both are there. (GASPI: notify)
 fn set_slot(slots: &mut Rows<Option<Slots>>, seg: u64, note: u64, value: u32)

@@ -4,8 +4,7 @@ ghost use Rattle.std.specs.Prelude.{◌≡◌};
 ghost use Rattle.gaspi_model.specs.Memories.{slots_of};
 
 use gaspi_types::{OwnSegments, Rows};
-use notify_slots::Slots;
-use passive_channel::Inbox;
+use segment_store::{Inbox, Slots};
 use std::marker::Model;
 
 /// The memory of a rank. Contracts see it as the machine's memory, with how many messages its inbox holds at most.

@@ -6,9 +6,8 @@ ghost use Rattle.gaspi_types.specs.Tables.{entry_at};
 ghost use Rattle.gaspi_model.specs.Posting.{counted};
 ghost use Rattle.gaspi_model.specs.State.{thread_at, is_running};
 
-use buffers::Buffer;
 use gaspi_model::ThreadState;
-use gaspi_types::{Event, Limits, PlacedEvent, RankId, Rows, SegmentTable, ThreadId};
+use gaspi_types::{Buffer, Event, Limits, PlacedEvent, RankId, Rows, SegmentTable, ThreadId};
 use group_registry::Groups;
 use post_queue::Lanes;
 use std::marker::Model;

@@ -4,9 +4,8 @@ ghost use Rattle.std.specs.Prelude.{◌≡◌};
 
 use crate::node_memory::NodeMemory;
 use crate::node_posts::NodePosts;
-use buffers::Buffer;
 use collective_engine::Rounds;
-use gaspi_types::PlacedEvent;
+use gaspi_types::{Buffer, PlacedEvent};
 use group_registry::Meeting;
 
 /// All that one rank has: its posts with its rank journal, and its memory.

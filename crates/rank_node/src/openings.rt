@@ -10,14 +10,12 @@ use crate::node_counts::running_count;
 use crate::node_memory::NodeMemory;
 use crate::node_posts::NodePosts;
 use crate::nodes::Node;
-use buffers::Buffer;
 use gaspi_model::{declared_size, opening_corrupt, opening_table, opening_threads};
-use gaspi_types::{NoMemory, RankId, Rows, Shape};
+use gaspi_types::{Buffer, NoMemory, RankId, Rows, Shape};
 use group_registry::Groups;
-use notify_slots::Slots;
-use passive_channel::Inbox;
 use plain_calls::opening_segments;
 use post_queue::Lanes;
+use segment_store::{Inbox, Slots};
 use std::alloc::Global;
 use timeout_state::Pending;
 

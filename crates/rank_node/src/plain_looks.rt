@@ -23,7 +23,7 @@ use plain_calls::{
     waitsome_finds, word_finds,
 };
 use post_queue::Lanes;
-use segment_tables::{call_kinds, extent_in};
+use segment_store::{call_kinds, extent_in};
 use std::alloc::Global;
 
 /// Looks at a wait: ready where no entry of its queue is posted, and no read and no notification of a read stands in it.

@@ -16,8 +16,8 @@ use crate::node_counts::running_count;
 use crate::node_posts::NodePosts;
 use gaspi_model::ThreadState;
 use gaspi_types::{Call, Extent, GroupAdd, Posting, RankId, ThreadId};
-use post_drafts::Entries;
-use segment_tables::{add_own, remove_own, set_known};
+use post_queue::Entries;
+use segment_store::{add_own, remove_own, set_known};
 
 impl NodePosts {
     ghost use Rattle.std.specs.Prelude.{◌≡◌, ◌+◌, ◌<◌, ◌≤◌, ◌^◌, Ok, IsOk, IfSome, IsSomeAnd, Some, slice_set, ◌++◌, ◌∷◌, [], length, option_copied};

@@ -6,7 +6,7 @@ ghost use Rattle.gaspi_types.specs.Collectives.{resume, asks_same, same_args};
 ghost use Rattle.gaspi_types.specs.declared.calls.Call.TheVariants as calls;
 ghost use Rattle.gaspi_model.specs.CollectiveCalls.{element_checks, plain_args, args_of};
 
-use call_rules::{same_coll, same_numbers};
+use gaspi_model::{same_coll, same_numbers};
 use gaspi_types::{Allreduce, Args, Call, Coll, NumType, Pending, Refusal, Resume, ThreadId};
 
 /// Whether a collective without values is the one that is kept.
@@ -47,7 +47,7 @@ fn asks_same(members: u32, call: &Call, kept: &Args) -> bool
     }
 }
 
-/// What a collective of a thread meets where that one of the rank is pending on its group, or none: as `call_rules::resume` says,
+/// What a collective of a thread meets where that one of the rank is pending on its group, or none: as `gaspi_model::resume` says,
 /// without the arguments of the call. It takes no memory. (GASPI: timeouts)
 pub(crate) fn resumes(
     pending: Option<&Pending>,

@@ -14,10 +14,9 @@ use crate::node_memory::NodeMemory;
 use crate::node_posts::NodePosts;
 use crate::reserved_numbers::ReservedNumbers;
 use gaspi_types::{Bytes, Call, CallRow, Invocation, Message, NoMemory, Posting, Reply, Rows};
-use list_ops::{BuildStop, asked_entries};
 use plain_calls::message_of;
-use post_drafts::Entries;
-use segment_tables::{check_alloc, check_own_range};
+use post_queue::{BuildStop, Entries, asked_entries};
+use segment_store::{check_alloc, check_own_range};
 use std::alloc::Global;
 
 /// The memory that a call needs, with the call's row: of a post its entries, with room for their bytes; a segment that is made; a

@@ -3,17 +3,17 @@
 ghost use Rattle.std.specs.Prelude.{◌≡◌, ◌<◌, ◌≤◌, true, IfOk, map, length, option_to_list};
 ghost use Rattle.std.specs.List.{All};
 ghost use Rattle.gaspi_model.specs.Step.{is_legal};
-ghost use Rattle.notification_laws.specs.Contributions.{ContributesOnce};
-ghost use Rattle.notification_laws.specs.Notifications.{HandsOutOnce};
+ghost use Rattle.gaspi_model.specs.ContributionCounts.{ContributesOnce};
+ghost use Rattle.gaspi_model.specs.Notifications.{HandsOutOnce};
 ghost use Rattle.transfer_worker.specs.Turns.{IsDrained};
 ghost use Rattle.rank_programs.specs.Parts.{EachAt, made_pass, AreCallersThere, NeedsOf, outcome_of, outcomes_in, HaveAllRun, IsPartOf, IsReady, HaveRun};
 
 use crate::parts::Part;
 use crate::programs::Program;
 use gaspi_model::settling;
+use gaspi_texts::Journal;
 use gaspi_types::{NoMemory, Shape};
 use gaspi_world::{Pass, Passes, Started, Task, World, launch};
-use journal_texts::Journal;
 use std::alloc::Global;
 use std::sync::Wait;
 use std::thread::Threads;

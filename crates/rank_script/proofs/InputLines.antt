@@ -4,8 +4,8 @@ use Rattle.std.specs.List.{concat}
 use Rattle.std.proofs.lemmas.List.{length-take}
 use Rattle.std.proofs.Math.Seq.{take-append-add}
 use Rattle.std.proofs.lemmas.Bool.Decides.{nat_tests}
-use Rattle.text_lines.specs.Lines.{fed_lines, plain_line}
-use Rattle.text_lines.proofs.FedLines.{concat-fed_lines, fed_lines-take}
+use Rattle.call_texts.specs.Lines.{fed_lines, plain_line}
+use Rattle.call_texts.proofs.FedLines.{concat-fed_lines, fed_lines-take}
 use Rattle.rank_script.specs.WorldText.{nothing_said, read_lines, world_text, is_journal_line, journal_from, journal_place, world_part, checked_world, Reads, ReadsInput}
 use Rattle.rank_script.specs.Lines.{input_limit}
 use Rattle.rank_script.specs.UntilJournal.{lines_until, until_text}

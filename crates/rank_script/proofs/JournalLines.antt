@@ -4,7 +4,7 @@ use Rattle.std.specs.Prelude.{find}
 use Rattle.std.specs.List.{slice_split}
 use Rattle.std.specs.Str.{bytes_eq}
 use Rattle.call_texts.specs.Words.{is_blank, words_of}
-use Rattle.text_lines.specs.Lines.{plain_line}
+use Rattle.call_texts.specs.Lines.{plain_line}
 use Rattle.rank_script.specs.WorldText.{first_word, is_journal_line, journal_from}
 
 abbrev is_filled : List ℕ → Bool

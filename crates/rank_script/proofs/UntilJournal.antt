@@ -2,7 +2,7 @@
 use Rattle.std.proofs.Common.{◌≡◌, ℕ, ◌+◌, ◌≤◌, Bool, true, false, ◌&&◌, nat_lt, if◌then◌else◌, List, ◌∷◌, length, Option, None, Result, Ok, Err, map, IsErr, IsErrAnd, refl, sym, ◌∙◌, ap, subst, arith}
 use Rattle.std.proofs.lemmas.Bool.Decides.{nat_tests}
 use Rattle.gaspi_types.specs.World.{World}
-use Rattle.text_lines.specs.Lines.{fed_lines, plain_line}
+use Rattle.call_texts.specs.Lines.{fed_lines, plain_line}
 use Rattle.rank_script.specs.Lines.{input_limit}
 use Rattle.rank_script.specs.WorldText.{Said, TextFault, nothing_said, fault_of, after_line, read_lines, is_journal_line, ReadsInput}
 use Rattle.rank_script.specs.Readings.{ReadsLine}

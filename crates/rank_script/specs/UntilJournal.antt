@@ -1,6 +1,6 @@
 -- The lines of a text up to its journal, where that is looked for, or all of them. (own choice)
 use Rattle.std.specs.Prelude.{map, ℕ, Bool, ◌&&◌, nat_lt, List, [], ◌∷◌, length, Option, None, Result, Err, if◌then◌else◌}
-use Rattle.text_lines.specs.Lines.{fed_lines, plain_line}
+use Rattle.call_texts.specs.Lines.{fed_lines, plain_line}
 use Rattle.rank_script.specs.Lines.{input_limit}
 use Rattle.rank_script.specs.WorldText.{Said, TextFault, nothing_said, read_lines, is_journal_line, journal_from}
 

@@ -4,7 +4,7 @@ use Rattle.std.specs.Str.{bytes_eq}
 use Rattle.std.specs.Option.{option_map, option_map_or}
 use Rattle.gaspi_types.specs.Ranges.{is_between}
 use Rattle.call_texts.specs.Words.{words_of}
-use Rattle.text_lines.specs.Lines.{fed_lines, plain_line, lines_of}
+use Rattle.call_texts.specs.Lines.{fed_lines, plain_line, lines_of}
 use Rattle.call_texts.specs.Numbers.{number_of}
 use Rattle.call_texts.specs.CallText.{call_word_of, given_count, has_timeout, call_by}
 use Rattle.call_texts.specs.declared.call_words.CallWord.{CallWord}

@@ -6,7 +6,7 @@ ghost use Rattle.rank_script.specs.Runs.{Over, going_on, advanced, stopped, pres
 
 use crate::remaining::Remaining;
 use crate::scripts::{Halted, RunOutcome, Script, ScriptLine};
-use call_rules::same_reply;
+use gaspi_model::same_reply;
 use gaspi_types::{Call, NoMemory, Reply, Timeout};
 use std::alloc::Global;
 use std::marker::Model;

@@ -7,7 +7,7 @@ ghost use Rattle.call_texts.specs.Words.{is_blank};
 ghost use Rattle.rank_script.specs.WorldText.{is_journal_line, journal_place};
 
 use crate::line_parts::is_word;
-use text_lines::{first_line, plain_line};
+use call_texts::{first_line, plain_line};
 
 /// The byte at which the first line begins whose first word is `journal`, and that line's number, from 1; none exactly
 /// where no line begins so. It takes no memory.

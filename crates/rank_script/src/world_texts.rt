@@ -2,7 +2,7 @@
 
 ghost use Rattle.std.specs.Prelude.{◌≡◌, ◌≤◌, ◌+◌, [], length, IfOk, IfSome};
 ghost use Rattle.gaspi_types.specs.World.{IsWorld};
-ghost use Rattle.text_lines.specs.Lines.{fed_lines};
+ghost use Rattle.call_texts.specs.Lines.{fed_lines};
 ghost use Rattle.rank_script.specs.WorldText.{world_text, checked_world, journal_place, read_lines, Reads, ReadsInput, AreScriptsOf};
 ghost use Rattle.rank_script.specs.Lines.{input_limit};
 ghost use Rattle.rank_script.specs.UntilJournal.{until_text, until_from};
@@ -11,9 +11,9 @@ ghost use Rattle.rank_script.specs.Readings.{said_of, Accords};
 use crate::readings::Reading;
 use crate::scripts::{ScriptFault, Scripts};
 use crate::split::is_journal_line;
+use call_texts::{first_line, plain_line};
 use gaspi_types::Shape;
 use std::alloc::Global;
-use text_lines::{first_line, plain_line};
 
 /// The most bytes that a world text may have, and an input that begins with one.
 pub const MOST_INPUT_BYTES: usize = 268_435_456;

@@ -1,2 +1,5 @@
 pub mod Kept
+mod ListPosts
+mod OneTransfer
+pub mod Told
 pub mod Written

@@ -7,13 +7,13 @@ ghost use Rattle.gaspi_types.specs.SegmentTables.{extent_in, own_range_checks, a
 
 use crate::stops::PartStop;
 use crate::tables::{check_delete, check_own_word, no_segments, nothing_known, zeroed};
-use gaspi_types::{
-    Bytes, Extent, NoMemory, OwnSegments, RankId, Refusal, Rows, Segment, SegmentTable,
-};
-use segment_tables::{
+use crate::{
     add_own, add_to_segment, bytes_of, check_alloc, check_own_range, extent_in, is_generation,
     new_segment, next_generation, range_of, remove_own, segment_in, set_known, store_bytes,
     swap_in_segment, word_at,
+};
+use gaspi_types::{
+    Bytes, Extent, NoMemory, OwnSegments, RankId, Refusal, Rows, Segment, SegmentTable,
 };
 use std::alloc::Global;
 use std::marker::Model;

@@ -4,8 +4,8 @@
 ghost use Rattle.std.specs.Prelude.{◌≡◌, IfOk, length, replicate, None};
 ghost use Rattle.segment_store.specs.Segments.{nothing_known, own_word_checks, delete_checks};
 
+use crate::{check_word, extent_in};
 use gaspi_types::{Bytes, Extents, NoMemory, OwnSegments, Refusal, Rows, SegmentTable};
-use segment_tables::{check_word, extent_in};
 use std::alloc::Global;
 
 /// No own segment.

@@ -64,7 +64,7 @@ impl Pending {
         ensures { result ≡ resume (entry_at self.now group) thread (Some args.now) }
     {
         let pending = self.on(group);
-        call_rules::resume(pending, thread, Some(args))
+        gaspi_model::resume(pending, thread, Some(args))
     }
 
     /// Makes a collective of a thread pending on a group, on which none is. It takes no memory. (GASPI: collectives)

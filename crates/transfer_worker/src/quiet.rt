@@ -3,8 +3,8 @@
 ghost use Rattle.std.specs.Prelude.{◌≡◌, ◌⊎◌, ℕ, true};
 ghost use Rattle.transfer_worker.specs.QuietRanks.{IsKnown};
 
+use commit_table::Watched;
 use gaspi_world::World;
-use pauses::Watched;
 
 /// The most ranks of a world.
 const RANKS: usize = 16;

@@ -10,8 +10,8 @@ ghost use Rattle.transfer_worker.specs.Turns.{GoesOn, Turned, IsDrained};
 use crate::quiet::QuietRanks;
 use crate::rounds::{Others, try_all, try_others};
 use crate::turns::Turn;
+use commit_table::Pauses;
 use gaspi_world::{Pass, World};
-use pauses::Pauses;
 use std::sync::Wait;
 
 /// A worker in its world, by its pass.

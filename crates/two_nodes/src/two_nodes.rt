@@ -11,9 +11,8 @@ ghost use Rattle.two_nodes.specs.Worlds.{IsWorldOf, HasLookedAt, IsAtStart, HasT
 use crate::calls::call_of;
 use crate::stops::CallStop;
 use crate::transfers::transfer_of;
-use buffers::Buffer;
 use gaspi_types::{
-    Call, CallerId, GroupId, Invocation, NoMemory, PlacedEvent, RankId, Reply, Shape, Touch,
+    Buffer, Call, CallerId, GroupId, Invocation, NoMemory, PlacedEvent, RankId, Reply, Shape, Touch,
 };
 use rank_node::{GroupNode, Node, group_nodes_at_start};
 use std::alloc::Global;

@@ -1,5 +1,5 @@
 use gaspi_types::{ByteRange, Kind, NoMemory, NoteSlot};
-use post_drafts::{Draft, Entries, payload_size};
+use post_queue::{Draft, Entries, payload_size};
 use std::alloc::Global;
 use std::test::Fail;
 

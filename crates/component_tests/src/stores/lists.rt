@@ -3,8 +3,7 @@ use gaspi_types::{
     Read, ReadList, ReadListNotify, ReadNotify, Rows, SegmentTable, Shape, ThreadId, Write,
     WriteList, WriteListNotify, WriteNotify,
 };
-use list_ops::build;
-use post_drafts::Entries;
+use post_queue::{Entries, build};
 use std::alloc::Global;
 use std::test::Fail;
 

@@ -1,5 +1,5 @@
 use gaspi_types::{Message, NoMemory, RankId, Refusal, Rows};
-use passive_channel::Inbox;
+use segment_store::Inbox;
 use std::alloc::Global;
 use std::test::Fail;
 

@@ -1,6 +1,5 @@
 use gaspi_types::{ByteRange, Kind, NoMemory, NoteSlot, Phase, QueueId, RankId, Refusal};
-use post_drafts::{Entries, payload_size};
-use post_queue::Lanes;
+use post_queue::{Entries, Lanes, payload_size};
 use std::alloc::Global;
 use std::test::Fail;
 

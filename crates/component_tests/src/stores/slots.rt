@@ -1,5 +1,5 @@
 use gaspi_types::{NoMemory, Refusal, Shape};
-use notify_slots::Slots;
+use segment_store::Slots;
 use std::alloc::Global;
 use std::test::Fail;
 

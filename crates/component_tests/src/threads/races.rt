@@ -1,6 +1,6 @@
 //! Two threads that race for the counters of one table.
 
-use commit_race::raised_by_two;
+use commit_table::raised_by_two;
 use std::test::Fail;
 
 #[test]

@@ -1,7 +1,7 @@
 use Rattle.std.proofs.Common.{◌≡◌, List, [], ◌∷◌, subst, sym, arith}
 use Rattle.std.proofs.lemmas.Grind.{common_steps}
 use Rattle.gaspi_types.specs.declared.events.PlacedEvent.{PlacedEvent}
-use Rattle.journal_texts.specs.Merges.{AreCutOf}
+use Rattle.gaspi_texts.specs.Merges.{AreCutOf}
 use Rattle.component_tests.proofs.MergedParts.{two_parts, parts-cut}
 use Rattle.component_tests.proofs.journals.three_merged.Goals as goal
 

@@ -1,5 +1,5 @@
 use Rattle.std.proofs.Common.{◌≡◌, ◌+◌, ◌≤◌, length}
-use Rattle.text_lines.specs.Lines.{fed_lines}
+use Rattle.call_texts.specs.Lines.{fed_lines}
 use Rattle.gaspi_run.proofs.judging.line_count.Given as goal
 
 -- the lines so far, and those behind

@@ -1,5 +1,5 @@
 use Rattle.std.proofs.Common.{◌+◌, ◌-◌, Err, ap, inl, arith}
-use Rattle.text_lines.proofs.FedLines.{lines-short}
+use Rattle.call_texts.proofs.FedLines.{lines-short}
 use Rattle.gaspi_run.specs.Judging.{IsNoJournal, IsRead}
 use Rattle.gaspi_run.specs.declared.telling.Told.{Told}
 use Rattle.gaspi_run.proofs.Answering.{if-ok}

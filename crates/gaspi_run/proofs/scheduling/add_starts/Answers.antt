@@ -1,5 +1,5 @@
 use Rattle.gaspi_run.specs.Schedule.{thread_starts}
-use Rattle.transcripts.proofs.NumberRanges.{thread-more}
+use Rattle.call_journal.proofs.NumberRanges.{thread-more}
 use Rattle.gaspi_run.proofs.scheduling.add_starts.Goals as goal
 
 pub loop-thread-preserved : goal.loop-thread-preserved

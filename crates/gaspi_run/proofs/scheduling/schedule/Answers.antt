@@ -1,5 +1,5 @@
 use Rattle.std.proofs.Common.{◌≡◌, ◌<◌, true, sym, subst}
-use Rattle.journal_texts.specs.JournalText.{HaveOwnValues}
+use Rattle.gaspi_texts.specs.JournalText.{HaveOwnValues}
 use Rattle.gaspi_model.specs.Step.{is_legal}
 use Rattle.gaspi_run.specs.Endings.{HasSettled, HaveEnded}
 use Rattle.gaspi_run.specs.declared.turns.Turns.{Turns}

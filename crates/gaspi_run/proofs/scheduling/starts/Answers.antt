@@ -1,6 +1,6 @@
 use Rattle.std.proofs.Common.{[]}
 use Rattle.gaspi_run.specs.Schedule.{rank_starts}
-use Rattle.transcripts.proofs.NumberRanges.{range-more}
+use Rattle.call_journal.proofs.NumberRanges.{range-more}
 use Rattle.gaspi_run.proofs.scheduling.starts.Goals as goal
 
 pub loop-rank-preserved : goal.loop-rank-preserved

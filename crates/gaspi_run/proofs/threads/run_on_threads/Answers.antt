@@ -4,8 +4,8 @@ use Rattle.gaspi_types.specs.declared.events.Event.{Event}
 use Rattle.commit_table.specs.Views.{new_pass}
 use Rattle.gaspi_model.specs.Step.{is_legal}
 use Rattle.gaspi_world.specs.Callers.{IsPassOf}
-use Rattle.notification_laws.specs.Contributions.{ContributesOnce}
-use Rattle.notification_laws.specs.Notifications.{HandsOutOnce}
+use Rattle.gaspi_model.specs.ContributionCounts.{ContributesOnce}
+use Rattle.gaspi_model.specs.Notifications.{HandsOutOnce}
 use Rattle.gaspi_run.proofs.RanWorlds.{known, legal-has-own, made-each, whole}
 use Rattle.gaspi_run.proofs.threads.run_on_threads.Goals as goal
 

@@ -6,7 +6,7 @@ use Rattle.gaspi_types.specs.declared.events.Event.{Event}
 use Rattle.gaspi_model.proofs.Sections.{declared-within}
 use Rattle.commit_table.specs.Attempts.{Missed}
 use Rattle.commit_table.specs.Calls.{PassValue}
-use Rattle.world_shards.specs.RankShards.{IsEither, rank_other}
+use Rattle.gaspi_world.specs.RankShards.{IsEither, rank_other}
 use Rattle.gaspi_world.specs.declared.starts.Start.{Start}
 use Rattle.gaspi_world.specs.Attempts.{Attempted}
 use Rattle.gaspi_world.specs.Holds.{IsOtherShard}

@@ -3,8 +3,8 @@ use Rattle.gaspi_types.specs.declared.events.Event.{Event}
 use Rattle.gaspi_types.specs.World.{IsWorld}
 use Rattle.gaspi_model.specs.Step.{is_legal}
 use Rattle.commit_table.specs.Calls.{TableValue, AreWhole, AreShards, Closed}
-use Rattle.notification_laws.specs.Contributions.{ContributesOnce}
-use Rattle.notification_laws.specs.Notifications.{HandsOutOnce}
+use Rattle.gaspi_model.specs.ContributionCounts.{ContributesOnce}
+use Rattle.gaspi_model.specs.Notifications.{HandsOutOnce}
 use Rattle.gaspi_world.specs.Closing.{HaveSeen, HaveDone}
 use Rattle.gaspi_world.specs.WorldMachine.{world_machine}
 use Rattle.gaspi_world.specs.declared.starts.Start.{Start}

@@ -1,7 +1,7 @@
 use Rattle.std.proofs.Common.{◌≡◌, List, ◌∷◌, ◌++◌, length, append-nil, sym, ap, ◌∙◌, subst, arith}
 use Rattle.std.proofs.lemmas.List.{nil_from_length}
 use Rattle.gaspi_types.specs.declared.events.PlacedEvent.{PlacedEvent}
-use Rattle.journal_texts.specs.Merges.{joined, AreCutOf, AreRisingFrom}
+use Rattle.gaspi_texts.specs.Merges.{joined, AreCutOf, AreRisingFrom}
 use Rattle.gaspi_world.specs.Closing.{rank_journals}
 use Rattle.gaspi_world.specs.declared.shards.WorldShard.{WorldShard}
 use Rattle.gaspi_world.proofs.MergedJournals.{journals-are-cut, journals-rise, journals-fit, room-for-next}

@@ -1,8 +1,8 @@
 use Rattle.gaspi_types.specs.declared.events.Event.TheVariants.{Called}
 use Rattle.gaspi_model.specs.Parties.{party_of}
-use Rattle.world_shards.specs.Numbering.{by_ranks}
-use Rattle.world_shards.specs.ShardMachine.{state_after}
-use Rattle.world_shards.proofs.HeldShards.{may-commit, added}
+use Rattle.gaspi_world.specs.Numbering.{by_ranks}
+use Rattle.gaspi_world.specs.ShardMachine.{state_after}
+use Rattle.gaspi_world.proofs.HeldShards.{may-commit, added}
 use Rattle.std.proofs.Common.{◌++◌, ◌∷◌, []}
 use Rattle.gaspi_world.specs.Holds.{values_of}
 use Rattle.gaspi_world.specs.Shards.{node_meaning}

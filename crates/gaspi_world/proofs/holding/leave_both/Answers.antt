@@ -1,9 +1,9 @@
 use Rattle.std.proofs.Common.{ℕ, List, [], ◌∷◌, ◌∙◌, refl, ap, subst}
 use Rattle.gaspi_model.specs.Parties.{party_of}
-use Rattle.world_shards.specs.Holds as held
-use Rattle.world_shards.specs.Numbering.{by_ranks}
-use Rattle.world_shards.proofs.HeldPairs.{here, elsewhere, first-given, second-given}
-use Rattle.world_shards.proofs.HeldShards.{may-give}
+use Rattle.gaspi_world.specs.ShardProjections as held
+use Rattle.gaspi_world.specs.Numbering.{by_ranks}
+use Rattle.gaspi_world.proofs.HeldPairs.{here, elsewhere, first-given, second-given}
+use Rattle.gaspi_world.proofs.HeldShards.{may-give}
 use Rattle.gaspi_world.specs.Shards.{node_meaning}
 use Rattle.gaspi_world.specs.declared.shards.WorldShard.{WorldShard}
 use Rattle.gaspi_world.specs.declared.shards.WorldShard.TheVariants as shards

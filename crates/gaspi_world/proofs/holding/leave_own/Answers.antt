@@ -1,8 +1,8 @@
 use Rattle.std.proofs.Common.{[], ◌∷◌, refl, ap}
 use Rattle.gaspi_model.specs.Parties.{party_of}
-use Rattle.world_shards.specs.Numbering.{by_ranks}
-use Rattle.world_shards.proofs.HeldPairs.{here, first-given}
-use Rattle.world_shards.proofs.HeldShards.{may-give}
+use Rattle.gaspi_world.specs.Numbering.{by_ranks}
+use Rattle.gaspi_world.proofs.HeldPairs.{here, first-given}
+use Rattle.gaspi_world.proofs.HeldShards.{may-give}
 use Rattle.gaspi_world.specs.Shards.{node_meaning}
 use Rattle.gaspi_world.specs.declared.shards.WorldShard.TheVariants as shards
 use Rattle.gaspi_world.proofs.holding.leave_own.Goals as goal

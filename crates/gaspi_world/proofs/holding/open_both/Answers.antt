@@ -1,7 +1,7 @@
 use Rattle.std.proofs.Common.{Some, sym}
 use Rattle.gaspi_model.specs.Parties.{party_of}
-use Rattle.world_shards.specs.Numbering.{by_ranks}
-use Rattle.world_shards.proofs.HeldPairs.{low-first, high-first, both-looked}
+use Rattle.gaspi_world.specs.Numbering.{by_ranks}
+use Rattle.gaspi_world.proofs.HeldPairs.{low-first, high-first, both-looked}
 use Rattle.gaspi_world.specs.Shards.{node_meaning}
 use Rattle.gaspi_world.proofs.TakenShards.{rank-stands, holds-are, within-all}
 use Rattle.gaspi_world.proofs.holding.open_both.Goals as goal

@@ -2,7 +2,7 @@ use Rattle.std.proofs.Common.{sym, subst}
 use Rattle.gaspi_types.specs.declared.events.Event.{Event}
 use Rattle.commit_table.specs.Calls.{MayCommit}
 use Rattle.rank_node.specs.Transfers.{put_of, take_of}
-use Rattle.world_shards.specs.ShardMachine.{state_after}
+use Rattle.gaspi_world.specs.ShardMachine.{state_after}
 use Rattle.gaspi_world.specs.WorldMachine.{world_machine}
 use Rattle.gaspi_world.proofs.TransferCommits.{sound-seen, lends-front, may-commit-front, may-put, may-take, committed-front, moved-behind}
 use Rattle.gaspi_world.proofs.Transferring.{FrontLaws, event-put, event-take}

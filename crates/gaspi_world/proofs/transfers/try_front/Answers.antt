@@ -2,8 +2,8 @@ use Rattle.std.proofs.Common.{◌≡◌, ◌<◌, ℕ, ◌∙◌, [], ◌∷◌,
 use Rattle.commit_table.proofs.Missing.{first_missed}
 use Rattle.commit_table.specs.Views.{held_at}
 use Rattle.gaspi_model.proofs.Histories.{reached-sound}
-use Rattle.world_shards.specs.ShardLaws.{arrives}
-use Rattle.world_shards.specs.ShardMachine.{state_after}
+use Rattle.gaspi_world.specs.ShardLaws.{arrives}
+use Rattle.gaspi_world.specs.ShardMachine.{state_after}
 use Rattle.gaspi_world.specs.WorldMachine.{world_machine}
 use Rattle.gaspi_world.specs.declared.shards.WorldShard.TheVariants as shards
 use Rattle.gaspi_world.proofs.TakenShards.{rank-stands}

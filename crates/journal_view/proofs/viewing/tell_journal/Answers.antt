@@ -1,6 +1,6 @@
 use Rattle.std.proofs.Common.{Err, ap, inl, arith}
 use Rattle.std.proofs.lemmas.Result.{IfOk-weaker}
-use Rattle.text_lines.proofs.FedLines.{lines-short}
+use Rattle.call_texts.proofs.FedLines.{lines-short}
 use Rattle.journal_view.proofs.viewing.tell_journal.Goals as goal
 
 pub overflow_add-number : goal.overflow_add-number

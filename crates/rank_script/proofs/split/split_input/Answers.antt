@@ -1,5 +1,5 @@
 use Rattle.std.proofs.Common.{◌≡◌, ◌+◌, ◌-◌, length, sym, ap, ◌∙◌, false, arith}
-use Rattle.text_lines.specs.Lines.{fed_lines, plain_line}
+use Rattle.call_texts.specs.Lines.{fed_lines, plain_line}
 use Rattle.rank_script.specs.WorldText.{journal_from, is_journal_line}
 use Rattle.rank_script.proofs.JournalLines.{journal-later, fed-length}
 use Rattle.rank_script.proofs.split.split_input.Goals as goal

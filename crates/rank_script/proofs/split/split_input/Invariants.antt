@@ -1,5 +1,5 @@
 use Rattle.std.proofs.Common.{◌≡◌, ◌+◌, ◌-◌, ◌≤◌, length}
-use Rattle.text_lines.specs.Lines.{fed_lines}
+use Rattle.call_texts.specs.Lines.{fed_lines}
 use Rattle.rank_script.specs.WorldText.{journal_place, journal_from}
 use Rattle.rank_script.proofs.split.split_input.Given as goal
 

@@ -1,5 +1,5 @@
 use Rattle.std.proofs.Common.{length, sym, ◌∙◌, arith}
-use Rattle.text_lines.specs.Lines.{fed_lines}
+use Rattle.call_texts.specs.Lines.{fed_lines}
 use Rattle.rank_script.specs.Readings.{said_of}
 use Rattle.rank_script.specs.UntilJournal.{until_from}
 use Rattle.rank_script.proofs.JournalLines.{fed-length}

@@ -1,5 +1,5 @@
 use Rattle.std.proofs.Common.{◌≡◌, ◌+◌, ◌-◌, ◌≤◌, length, map}
-use Rattle.text_lines.specs.Lines.{fed_lines, plain_line}
+use Rattle.call_texts.specs.Lines.{fed_lines, plain_line}
 use Rattle.rank_script.specs.WorldText.{nothing_said, read_lines}
 use Rattle.rank_script.specs.UntilJournal.{lines_until, until_from}
 use Rattle.rank_script.specs.Readings.{said_of, Accords}

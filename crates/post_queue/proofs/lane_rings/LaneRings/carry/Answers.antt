@@ -2,7 +2,7 @@ use Rattle.std.proofs.Common.{◌≡◌, length, sym, ◌∙◌, ap, arith}
 use Rattle.gaspi_types.specs.Lanes.{is_posted}
 use Rattle.gaspi_types.specs.declared.entries.Entry.{Entry}
 use Rattle.gaspi_types.specs.declared.entries.Phase.TheVariants.{Carried}
-use Rattle.post_drafts.specs.Payloads.{payload_size}
+use Rattle.post_queue.specs.Payloads.{payload_size}
 use Rattle.post_queue.specs.LaneStates.{LaneState}
 use Rattle.post_queue.proofs.Rings.{first-waits, count-taken, rings-moved, lane-moved, some-from, at-some, if-some}
 use Rattle.post_queue.proofs.lane_rings.LaneRings.carry.Goals as goal

@@ -1,7 +1,7 @@
 use Rattle.std.proofs.Common.{◌≡◌, List, length, refl, ◌∙◌, ap, arith}
 use Rattle.gaspi_types.specs.declared.entries.Entry.{Entry}
 use Rattle.gaspi_types.specs.declared.entries.Phase.TheVariants.{Carried}
-use Rattle.post_drafts.specs.Payloads.{payload_size}
+use Rattle.post_queue.specs.Payloads.{payload_size}
 use Rattle.post_queue.specs.LaneStates.{LaneState}
 use Rattle.post_queue.specs.Places.{first_posted, posted_place, with_phase}
 use Rattle.post_queue.specs.QueueStates.{QueueState, state_of}

@@ -1,8 +1,0 @@
-use Rattle.bench_laws.proofs.LastWords.{word-is, words-are}
-use Rattle.bench_laws.proofs.laws.bench_words.Goals as goal
-
-pub returns-clause-each : goal.returns-clause-each
-returns-clause-each c = word-is
-
-pub returns-clause-sum : goal.returns-clause-sum
-returns-clause-sum c = words-are

@@ -1,0 +1,182 @@
+//! Transcripts: what each caller was told, line by line, and how its run ended.
+
+ghost use Rattle.std.specs.Prelude.{◌≡◌, ◌<◌, ◌++◌, ◌||◌, [], List, OnOk, OnErr, codes, is_some};
+ghost use Rattle.std.specs.Fmt.{decimal};
+ghost use Rattle.gaspi_types.specs.declared.events.Event.{Event};
+ghost use Rattle.gaspi_types.specs.CallRows.{is_end};
+ghost use Rattle.call_journal.specs.OwnCalls.{pairs_of, HasCallers, IsCallTable};
+ghost use Rattle.gaspi_texts.specs.EventText.{caller_word};
+ghost use Rattle.rank_script.specs.Runs.{going_on, outcome_of};
+ghost use Rattle.call_journal.specs.Transcripts.{call_line, ended_line, outcome_line, transcript, thread_transcript, rank_transcripts, transcripts};
+
+use crate::own_calls::{CallTable, OwnCall, own_calls};
+use gaspi_texts::{Journal, write_number, write_reply};
+use gaspi_types::{Bytes, Call, CallerId, NoMemory, RankId, Reply, Shape, ThreadId};
+use rank_script::{Cursor, RunOutcome, Script, Scripts};
+
+/// Adds a caller as its rank and thread.
+fn write_caller(text: &mut Bytes, caller: CallerId) -> Result<(), NoMemory>
+    ensures { OnOk result (text.new ≡ text.old ++ caller_word caller) }
+{
+    write_number(text, u64::from(caller.rank.number()))?;
+    text.append(b".")?;
+    write_number(text, u64::from(caller.thread.number()))
+}
+
+/// Adds the line of a recorded call.
+fn write_call(text: &mut Bytes, caller: CallerId, line: u64, reply: &Reply) -> Result<(), NoMemory>
+    ensures { OnOk result (text.new ≡ text.old ++ call_line caller line reply.now) }
+{
+    write_caller(text, caller)?;
+    text.append(b" ")?;
+    write_number(text, line)?;
+    text.append(b" ")?;
+    write_reply(text, reply)?;
+    text.append(b"\n")
+}
+
+/// Adds the line of a run that ended.
+fn write_ended(text: &mut Bytes, caller: CallerId) -> Result<(), NoMemory>
+    ensures { OnOk result (text.new ≡ text.old ++ ended_line caller) }
+{
+    write_caller(text, caller)?;
+    text.append(b" ended\n")
+}
+
+/// Adds the line of a run that came to another end at a line, with the word of that end.
+fn write_at_line(text: &mut Bytes, caller: CallerId, word: &[u8], line: u64) -> Result<(), NoMemory>
+    ensures { OnOk result (text.new ≡ text.old ++ (caller_word caller ++ (word.now ++ (decimal line ++ codes "\n")))) }
+{
+    write_caller(text, caller)?;
+    text.append(word)?;
+    write_number(text, line)?;
+    text.append(b"\n")
+}
+
+/// Adds the line of how a run ended.
+fn write_outcome(text: &mut Bytes, caller: CallerId, outcome: RunOutcome) -> Result<(), NoMemory>
+    ensures { OnOk result (text.new ≡ text.old ++ outcome_line caller outcome) }
+{
+    match outcome {
+        RunOutcome::Ended => write_ended(text, caller),
+        RunOutcome::Failed { line } => write_at_line(text, caller, b" failed ", line),
+        RunOutcome::Stuck { line } => write_at_line(text, caller, b" stuck ", line),
+        RunOutcome::Limit { line } | RunOutcome::NoMemory { line } => {
+            write_at_line(text, caller, b" limit ", line)
+        }
+    }
+}
+
+/// Adds the line of how a run ended: where it goes on, it came to the event limit at its present line.
+fn write_ending(text: &mut Bytes, caller: CallerId, cursor: &Cursor<'_>) -> Result<(), NoMemory>
+    ensures { OnOk result (text.new ≡ text.old ++ transcript caller cursor.now []) }
+{
+    let line = cursor.line();
+    let outcome = cursor.outcome().unwrap_or(RunOutcome::Limit { line });
+    write_outcome(text, caller, outcome)
+}
+
+/// Whether a call is the end of its caller.
+fn is_end(call: &Call) -> bool
+    ensures { result ≡ is_end call.now }
+{
+    call.row().ends
+}
+
+/// Whether a run makes no more calls: it is over, or its caller ends.
+fn is_over(cursor: &Cursor<'_>, call: &Call) -> bool
+    ensures { result ≡ (is_some (outcome_of cursor.now) || is_end call.now) }
+{
+    cursor.outcome().is_some() || is_end(call)
+}
+
+/// Adds the transcript of one caller, from its own calls.
+fn write_transcript(
+    text: &mut Bytes,
+    script: &Script,
+    calls: &[OwnCall<'_>],
+) -> Result<(), NoMemory>
+    ensures { OnOk result (text.new ≡ text.old ++ transcript script.now.caller (going_on script.now.lines) (pairs_of calls.now)) }
+{
+    let mut cursor = Cursor::new(text.allocator(), script)?;
+    for own in calls {
+        if is_over(&cursor, own.call) {
+            return write_ending(text, script.caller, &cursor);
+        }
+        write_call(text, script.caller, cursor.line(), own.reply)?;
+        cursor.advance(own.reply);
+    }
+    write_ending(text, script.caller, &cursor)
+}
+
+/// Adds the transcript of a caller that has a script.
+fn write_thread(
+    text: &mut Bytes,
+    caller: CallerId,
+    scripts: &Scripts,
+    table: &CallTable<'_>,
+) -> Result<(), NoMemory>
+    requires { HasCallers table.now }
+    ensures { (history : List Event) → IsCallTable table.now history → OnOk result (text.new ≡ text.old ++ thread_transcript scripts.now history caller.rank caller.thread) }
+{
+    let Some(script) = scripts.of(caller) else {
+        return Ok(());
+    };
+    let row = table.at(script.caller.rank.index());
+    let calls = row.at(script.caller.thread.index());
+    write_transcript(text, script, calls.as_slice())
+}
+
+/// Adds the transcripts of a rank's callers, by thread.
+fn write_rank(
+    text: &mut Bytes,
+    rank: u32,
+    scripts: &Scripts,
+    table: &CallTable<'_>,
+) -> Result<(), NoMemory>
+    requires rank { rank < 16 }
+    requires callers { HasCallers table.now }
+    ensures { (history : List Event) → IsCallTable table.now history → OnOk result (text.new ≡ text.old ++ rank_transcripts scripts.now history rank) }
+{
+    for thread in 0..4u32 {
+        let caller = CallerId {
+            rank: RankId::of(rank),
+            thread: ThreadId::of(thread),
+        };
+        write_thread(text, caller, scripts, table)?;
+    }
+    Ok(())
+}
+
+/// Adds the transcripts of all callers, by rank and thread.
+fn append_transcripts(
+    text: &mut Bytes,
+    shape: &Shape,
+    scripts: &Scripts,
+    journal: &Journal,
+) -> Result<(), NoMemory>
+    ensures { OnOk result (text.new ≡ text.old ++ transcripts shape.now scripts.now journal.now) }
+{
+    let table = own_calls(text.allocator(), journal.as_slice())?;
+    let limits = shape.limits();
+    for rank in 0..limits.ranks {
+        write_rank(text, rank, scripts, &table)?;
+    }
+    Ok(())
+}
+
+/// Adds the transcripts of all callers of a world, by rank and thread: what each was told, line by line, and how its run
+/// ended. Without memory nothing changes.
+pub fn write_transcripts(
+    text: &mut Bytes,
+    shape: &Shape,
+    scripts: &Scripts,
+    journal: &Journal,
+) -> Result<(), NoMemory>
+    ensures ok { OnOk result (text.new ≡ text.old ++ transcripts shape.now scripts.now journal.now) }
+    ensures err { OnErr result (text.new ≡ text.old) }
+{
+    let mut told = Bytes::new(text.allocator());
+    append_transcripts(&mut told, shape, scripts, journal)?;
+    text.extend(told)
+}

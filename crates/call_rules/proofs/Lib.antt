@@ -1,4 +1,0 @@
-pub mod Equal
-pub mod Folding
-pub mod Gathering
-pub mod Sums

@@ -1,6 +1,0 @@
-use Rattle.std.proofs.Common.{rules}
-use Rattle.call_rules.proofs.Equal.{tells}
-use Rattle.call_rules.proofs.comparisons.same_coll.Goals as goal
-
-pub returns-clause-equal : goal.returns-clause-equal
-returns-clause-equal c = tells c.same_fields.result c.args.a c.args.b (search rules)

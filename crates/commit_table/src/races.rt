@@ -1,0 +1,68 @@
+//! Two threads that raise counters over one table.
+
+ghost use Rattle.std.specs.Prelude.{◌≡◌, ◌<◌, length, IfOk};
+ghost use Rattle.commit_table.specs.Counters.{counters};
+ghost use Rattle.commit_table.specs.Calls.{IsOf, HoldsNone, Closed, AreShards};
+
+use crate::{CommitTable, Counters, Ended, Game, Outcome, Pass, end_game, raise, start_game};
+use std::alloc::{AllocError, Global};
+use std::sync::Wait;
+use std::thread::{Threads, join, yield_now};
+
+/// Raises a counter so many times, or until it has no room, and tries again where it is missed.
+pub fn raise_often<R: Wait>(
+    rt: &R,
+    table: &CommitTable<Counters>,
+    mut pass: Pass<Counters>,
+    counter: u32,
+    times: u64,
+) -> Pass<Counters>
+    requires pass { IsOf table.now pass × HoldsNone pass.known }
+    requires counter { counter < 2 }
+    ensures pass { IsOf table.now result × HoldsNone result.known × (result.known.party ≡ pass.known.party) }
+{
+    let mut left = times;
+    for _ in rt.forever() {
+        if left == 0 {
+            break;
+        }
+        match raise(table, &mut pass, counter) {
+            Outcome::Done(_) => left -= 1,
+            Outcome::Busy => yield_now(),
+            Outcome::Stuck => break,
+        }
+    }
+    pass
+}
+
+/// Two threads raise a counter each, which may be the same, so many times; then the table is closed.
+pub fn raised_by_two<R: Threads + Wait + Sync>(
+    rt: &R,
+    alloc: Global,
+    first_counter: u32,
+    second_counter: u32,
+    times: u64,
+) -> Result<Ended<Counters>, AllocError>
+    requires { (first_counter < 2) × (second_counter < 2) }
+    ensures passes { IfOk result (λ end. length end.tally.passes ≡ 2) }
+    ensures journal { IfOk result (λ end. Closed counters end.tally.journal end.tally.passes) }
+    ensures shards { IfOk result (λ end. AreShards counters end.shards.items end.tally.journal) }
+{
+    let Game {
+        table,
+        first,
+        second,
+    } = start_game(alloc)?;
+    let (first, second) = join(
+        rt,
+        || -> Pass<Counters>
+            requires { IsOf table first × HoldsNone first.known × (first_counter < 2) }
+            ensures { IsOf table result × HoldsNone result.known × (result.known.party ≡ first.known.party) }
+        { raise_often(rt, &table, first, first_counter, times) },
+        || -> Pass<Counters>
+            requires { IsOf table second × HoldsNone second.known × (second_counter < 2) }
+            ensures { IsOf table result × HoldsNone result.known × (result.known.party ≡ second.known.party) }
+        { raise_often(rt, &table, second, second_counter, times) },
+    );
+    end_game(alloc, table, first, second)
+}

@@ -1,0 +1,39 @@
+//! Callers as bodies of a world's threads. (own choice)
+
+use crate::running::{end, run_lines};
+use gaspi_world::{Body, Pass, World, waits_on};
+use rank_script::{Cursor, RunOutcome, Script, runs};
+use std::alloc::Global;
+use std::sync::Wait;
+
+/// A caller that runs its script in a world, and then ends. (own choice)
+#[derive(Drop)]
+pub struct ScriptBody<'a> {
+    pub script: &'a Script,
+    /// How far the run has come; before the first line at first.
+    pub cursor: Cursor<'a>,
+    /// How many looks a call may take that blocks.
+    pub limit: u32,
+    /// How the run ended, once it has.
+    pub outcome: Option<RunOutcome>,
+}
+
+impl<'a> Body for ScriptBody<'a> {
+    ghost use Rattle.std.specs.Prelude.{◌≡◌};
+    ghost use Rattle.rank_script.specs.Runs.{going_on};
+    ghost use Rattle.gaspi_run.specs.Bodies.{IsRunnable, IsFresh, HasRunScript};
+
+    ghost needs = { λ body world pass. IsRunnable body.script.now body.limit × IsFresh body.script.now world pass × (body.cursor ≡ going_on body.script.now.lines) };
+
+    ghost did = { λ body pass next after. (next.script ≡ body.script) × (next.limit ≡ body.limit) × HasRunScript body.script.now body.limit next.outcome pass after };
+
+    /// Runs the script: it makes the calls of its lines, and then, however the run ended, the end of the caller.
+    fn run<R: Wait>(&mut self, rt: &R, alloc: Global, world: &World, pass: &mut Pass) {
+        runs();
+        waits_on();
+        world.shape().limits();
+        let outcome = run_lines(rt, alloc, world, pass, self);
+        end(rt, alloc, world, pass);
+        self.outcome = Some(outcome);
+    }
+}

@@ -1,0 +1,96 @@
+//! A run of a script, call by call.
+
+ghost use Rattle.std.specs.Prelude.{◌≡◌, ◌≢◌, Err, false};
+ghost use Rattle.gaspi_types.specs.CallRows.{row_of};
+ghost use Rattle.gaspi_types.specs.World.{IsWorld};
+ghost use Rattle.gaspi_types.specs.declared.calls.Call.TheVariants.{End};
+ghost use Rattle.gaspi_types.specs.declared.calls.Timeout.TheVariants.{Looks};
+ghost use Rattle.gaspi_types.specs.declared.replies.Reply.TheVariants.{Done};
+ghost use Rattle.gaspi_types.specs.declared.shapes.CallerId.{CallerId};
+ghost use Rattle.timeout_state.specs.Looks.{looks_of, HasLook};
+ghost use Rattle.commit_table.specs.Calls.{HoldsNone};
+ghost use Rattle.gaspi_world.specs.Callers.{IsPassOf};
+ghost use Rattle.gaspi_world.specs.Calling.{MayCall, CallsBy, IsCalled};
+ghost use Rattle.gaspi_world.specs.declared.calling.Stop.TheVariants.{NoMemory};
+ghost use Rattle.gaspi_run.specs.Bodies.{IsRunnable, IsFresh};
+ghost use Rattle.rank_script.specs.Runs.{Over, going_on};
+ghost use Rattle.gaspi_run.specs.Runs.{moved};
+ghost use Rattle.gaspi_run.specs.SoFar.{HasNoEnd, HasComeTo};
+
+use crate::bodies::ScriptBody;
+use crate::looks::bounded;
+use gaspi_model::{enabled, replies};
+use gaspi_types::{Call, Reply, Timeout};
+use gaspi_world::{Pass, Rank, Stop, World, waits_on};
+use rank_script::{Cursor, Halted, RunOutcome, runs};
+use std::alloc::Global;
+use std::sync::Wait;
+
+/// Makes one call.
+fn make<R: Wait>(
+    rt: &R,
+    alloc: Global,
+    world: &World,
+    pass: &mut Pass,
+    call: &Call,
+    timeout: Timeout,
+) -> Result<Reply, Stop>
+    requires pass { MayCall world.now pass.old }
+    requires timeout { HasLook (looks_of timeout) }
+    ensures ample { (row_of call.now).takes_memory ≡ false → result ≢ Err NoMemory }
+    ensures calls { CallsBy world.now call.now timeout pass.old result pass.new }
+{
+    Rank { world, pass }.call(rt, alloc, call, timeout)
+}
+
+/// Goes on after what came of the present call.
+fn move_on(cursor: &mut Cursor, made: Result<Reply, Stop>)
+    ensures { cursor.new ≡ moved cursor.old made }
+{
+    match made {
+        Ok(reply) => cursor.advance(&reply),
+        Err(Stop::EventLimit) => cursor.stop(Halted::Limit),
+        Err(Stop::NoMemory) => cursor.stop(Halted::NoMemory),
+    }
+}
+
+/// Makes the calls of the script of a body until its run is over.
+pub(crate) fn run_lines<R: Wait>(
+    rt: &R,
+    alloc: Global,
+    world: &World,
+    pass: &mut Pass,
+    body: &mut ScriptBody<'_>,
+) -> RunOutcome
+    requires world { IsWorld world.now.start.shape }
+    requires script { IsRunnable body.old.script.now body.old.limit }
+    requires pass { IsFresh body.old.script.now world.now pass.old }
+    requires start { body.old.cursor ≡ going_on body.old.script.now.lines }
+    ensures script { body.new.script ≡ body.old.script }
+    ensures limit { body.new.limit ≡ body.old.limit }
+    ensures table { pass.new.table ≡ pass.old.table }
+    ensures free { HoldsNone pass.new.known }
+    ensures run { HasComeTo world.now.start.shape body.old.script.now.caller body.old.script.now.lines body.old.limit (Over result) pass.old.known pass.new.known }
+{
+    enabled();
+    runs();
+    waits_on();
+    while let Some((call, timeout)) = body.cursor.present() {
+        let made = make(rt, alloc, world, pass, call, bounded(timeout, body.limit));
+        move_on(&mut body.cursor, made);
+    }
+    body.cursor.outcome().unwrap()
+}
+
+/// Makes the end of a caller, which is recorded and done where the caller has not ended.
+pub(crate) fn end<R: Wait>(rt: &R, alloc: Global, world: &World, pass: &mut Pass)
+    requires pass { MayCall world.now pass.old }
+    ensures table { pass.new.table ≡ pass.old.table }
+    ensures free { HoldsNone pass.new.known }
+    ensures ends { (c : CallerId) → IsPassOf world.now.start.shape c pass.old.known → HasNoEnd c pass.old.known.mine
+        → IsCalled world.now.start.shape c End (Looks 1) Done pass.old.known pass.new.known }
+{
+    replies();
+    world.shape().limits();
+    let _ = make(rt, alloc, world, pass, &Call::End, Timeout::Looks(1));
+}

@@ -1,0 +1,63 @@
+//! Journals written.
+
+ghost use Rattle.std.specs.Prelude.{◌≡◌, ◌++◌, List, OnOk, OnErr};
+ghost use Rattle.gaspi_types.specs.declared.events.Event.{Event};
+ghost use Rattle.gaspi_texts.specs.Additions.{KeepsFront};
+ghost use Rattle.gaspi_texts.specs.JournalText.{event_line, end_line, journal_text, HaveOwnValues, AreInRange};
+
+use crate::journal_laws::journals_differ_in_text;
+use crate::journal_ranges::journal_is_in_range;
+use crate::{Journal, write_event, write_number};
+use gaspi_types::{Bytes, Event, NoMemory};
+
+/// Adds the line of an event. Without memory a part of it may be there.
+fn append_event_line(text: &mut Bytes, place: u64, event: &Event) -> Result<(), NoMemory>
+    ensures ok { OnOk result (text.new ≡ text.old ++ event_line place event.now) }
+    ensures kept { KeepsFront text.old text.new }
+{
+    write_number(text, place)?;
+    text.append(b" ")?;
+    write_event(text, event)?;
+    text.append(b"\n")
+}
+
+/// Adds the end line of a journal of so many events. Without memory a part of it may be there.
+fn append_end_line(text: &mut Bytes, count: u64) -> Result<(), NoMemory>
+    ensures ok { OnOk result (text.new ≡ text.old ++ end_line count) }
+    ensures kept { KeepsFront text.old text.new }
+{
+    text.append(b"end ")?;
+    write_number(text, count)?;
+    text.append(b"\n")
+}
+
+/// Adds the text of a journal. Without memory a part of it may be there.
+fn append_journal(text: &mut Bytes, journal: &Journal) -> Result<(), NoMemory>
+    ensures ok { OnOk result (text.new ≡ text.old ++ journal_text journal.now) }
+    ensures kept { KeepsFront text.old text.new }
+{
+    text.append(b"journal 1\n")?;
+    for (place, event) in journal.as_slice().iter().enumerate() {
+        append_event_line(text, place as u64, event)?;
+    }
+    append_end_line(text, journal.len() as u64)
+}
+
+/// Adds the text of a journal, where what callers join has the values that it says. Without memory nothing changes. What is
+/// written is the text of this journal and of no other, so `read` takes it, and gives this journal.
+pub fn write(text: &mut Bytes, journal: &Journal) -> Result<(), NoMemory>
+    requires { HaveOwnValues journal.now }
+    ensures ok { OnOk result (text.new ≡ text.old ++ journal_text journal.now) }
+    ensures err { OnErr result (text.new ≡ text.old) }
+    ensures ranges { AreInRange journal.now }
+    ensures only { (other : List Event) → AreInRange other → journal_text other ≡ journal_text journal.now → other ≡ journal.now }
+{
+    journals_differ_in_text();
+    prove!(journal_is_in_range(journal));
+    let count = text.len();
+    let written = append_journal(text, journal);
+    if written.is_err() {
+        text.truncate(count);
+    }
+    written
+}

@@ -1,2 +1,0 @@
-pub mod Notifications
-pub mod Contributions

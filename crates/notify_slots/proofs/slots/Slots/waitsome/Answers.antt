@@ -1,6 +1,0 @@
-use Rattle.std.proofs.Common.{rules}
-use Rattle.notify_slots.proofs.Told.{told}
-use Rattle.notify_slots.proofs.slots.Slots.waitsome.Goals as goal
-
-pub returns-clause-least : goal.returns-clause-least
-returns-clause-least c = told c.args.self.now c.args.begin c.args.num c.first_set.result (search rules) (search rules)

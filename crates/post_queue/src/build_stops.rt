@@ -1,0 +1,31 @@
+//! Why the entries of a call are not built.
+
+ghost use Rattle.std.specs.Prelude.{◌≡◌};
+ghost use Rattle.post_queue.specs.declared.build_stops.BuildStop.TheVariants.{Refused, NoMemory};
+
+use gaspi_types::{NoMemory, Refusal};
+
+/// Why the entries of a call are not built: the call is refused, or an allocation was.
+#[derive(Clone, Copy, Debug, PartialEq, Eq)]
+pub enum BuildStop {
+    /// The call is refused, for that cause.
+    Refused(Refusal),
+    /// Want of memory.
+    NoMemory,
+}
+
+impl From<Refusal> for BuildStop {
+    ghost from_gives = { λ refusal stop. stop ≡ Refused refusal };
+
+    fn from(refusal: Refusal) -> BuildStop {
+        BuildStop::Refused(refusal)
+    }
+}
+
+impl From<NoMemory> for BuildStop {
+    ghost from_gives = { λ _ stop. stop ≡ NoMemory };
+
+    fn from(_error: NoMemory) -> BuildStop {
+        BuildStop::NoMemory
+    }
+}

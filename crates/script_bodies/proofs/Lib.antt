@@ -1,6 +1,0 @@
-pub mod Active
-pub mod Ending
-pub mod GoingOn
-pub mod Joins
-pub mod OwnCalls
-pub mod RunLooks

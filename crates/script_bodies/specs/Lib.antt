@@ -1,5 +1,0 @@
-pub mod Bodies
-pub mod Joins
-pub mod Looks
-pub mod Runs
-pub mod SoFar

@@ -1,0 +1,36 @@
+-- What a call asks to be appended, as it is held.
+use Rattle.std.specs.Prelude.{◌≡◌, ℕ, ◌==◌, nat_lt, not, List, [], Result, Ok, Err}
+use Rattle.gaspi_types.specs.Checks.{◌>>=◌, check}
+use Rattle.gaspi_types.specs.Posts.{slot_in}
+use Rattle.gaspi_types.specs.declared.entries.Kind.{Kind}
+use Rattle.gaspi_types.specs.declared.entries.Kind.TheVariants.{Notify, ReadNote}
+use Rattle.gaspi_types.specs.declared.segments.Extent.{Extent}
+use Rattle.gaspi_types.specs.declared.replies.Refusal.{Refusal}
+use Rattle.gaspi_types.specs.declared.replies.Refusal.TheVariants.{BadNote, ZeroValue}
+use Rattle.segment_store.specs.declared.kinds.Kinds.{Kinds}
+use Rattle.segment_store.specs.declared.kinds.Kinds.TheVariants.{Nothing, One, Two, Many}
+
+-- the kinds of the entries, in order
+abbrev pub kinds_of : Kinds → List Kind
+kinds_of Nothing = []
+kinds_of (One kinds) = kinds
+kinds_of (Two kinds) = kinds
+kinds_of (Many kinds) = kinds
+
+-- what a call asks to be appended is that, or its refusal
+abbrev pub Asks : Result Kinds Refusal → Result (List Kind) Refusal → Type 0
+Asks (Ok kinds) asked = asked ≡ Ok (kinds_of kinds)
+Asks (Err refusal) asked = asked ≡ Err refusal
+
+-- a notification behind writes: its slot, then its value (notify)
+abbrev pub notification : ℕ → Extent → ℕ → ℕ → ℕ → Result Kind Refusal
+notification notes theirs segment note value = do
+  noted ← check (nat_lt note notes) BadNote
+  valued ← check (not (value == 0)) ZeroValue
+  Ok (Notify (slot_in theirs segment note) value)
+
+-- a notification behind reads: its slot (read_notify)
+abbrev pub read_notification : ℕ → Extent → ℕ → ℕ → Result Kind Refusal
+read_notification notes mine segment note = do
+  noted ← check (nat_lt note notes) BadNote
+  Ok (ReadNote (slot_in mine segment note))

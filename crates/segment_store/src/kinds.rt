@@ -1,0 +1,29 @@
+//! The entries that a call asks for. (GASPI: one-sided communication)
+
+ghost use Rattle.std.specs.Prelude.{◌≡◌};
+ghost use Rattle.segment_store.specs.PostKinds.{kinds_of};
+
+use gaspi_types::{Kind, Rows};
+
+/// The kinds of the entries that a call asks to be appended, in order. Only those of a list take memory.
+#[derive(Debug, Drop)]
+pub enum Kinds {
+    Nothing,
+    One([Kind; 1]),
+    Two([Kind; 2]),
+    Many(Rows<Kind>),
+}
+
+impl Kinds {
+    /// The kinds as a list.
+    pub fn as_slice(&self) -> &[Kind]
+        ensures { result.now ≡ kinds_of self.now }
+    {
+        match self {
+            Kinds::Nothing => &[],
+            Kinds::One(kinds) => kinds,
+            Kinds::Two(kinds) => kinds,
+            Kinds::Many(kinds) => kinds.as_slice(),
+        }
+    }
+}

@@ -1,0 +1,225 @@
+//! What the posts of lists ask of a table of segments. Each kind of check goes through all items before the next one.
+//! (GASPI: write_list)
+
+ghost use Rattle.std.specs.Prelude.{◌≡◌, ◌≤◌, length, IfOk, Ok};
+ghost use Rattle.gaspi_types.specs.Checks.{check_each};
+ghost use Rattle.gaspi_types.specs.Posts.{has_segments, has_size, transfers_of, listed, transfers_alone, write_list_kinds, read_list_kinds, write_list_notify_kinds, read_list_notify_kinds};
+ghost use Rattle.segment_store.specs.PostKinds.{kinds_of, Asks};
+ghost use Rattle.segment_store.specs.ListPosts.{list_checks, transfers_then};
+
+use crate::kinds::Kinds;
+use crate::posts::{ends_of, known_segment, notification, own_segment, read_notification};
+use crate::ranges::is_transfer_size;
+use gaspi_types::{
+    Direction, Item, Kind, NoMemory, RankId, ReadList, ReadListNotify, Refusal, Rows, SegmentTable,
+    WriteList, WriteListNotify, is_list_length,
+};
+use std::alloc::Global;
+
+/// Checks the segments of an item: the own one is there (`NoSegment`), and that of the rank is known (`Unregistered`).
+fn check_item_segments(
+    me: RankId,
+    table: &SegmentTable,
+    rank: u64,
+    item: &Item,
+) -> Result<(), Refusal>
+    ensures { result ≡ has_segments me table.now rank item.now }
+{
+    own_segment(table, item.seg)?;
+    known_segment(me, table, rank, item.rseg)?;
+    Ok(())
+}
+
+/// Checks the segments of all items.
+fn check_segments(
+    me: RankId,
+    table: &SegmentTable,
+    rank: u64,
+    items: &[Item],
+) -> Result<(), Refusal>
+    ensures { result ≡ check_each (has_segments me table.now rank) items.now }
+{
+    for item in items {
+        check_item_segments(me, table, rank, item)?;
+    }
+    Ok(())
+}
+
+/// Checks the sizes of all items (`BadSize`).
+fn check_sizes(items: &[Item]) -> Result<(), Refusal>
+    ensures { result ≡ check_each has_size items.now }
+{
+    for item in items {
+        if !is_transfer_size(item.size) {
+            return Err(Refusal::BadSize);
+        }
+    }
+    Ok(())
+}
+
+/// Checks a list before the ranges of its items: its length (`BadCount`), their segments, what else the post looks up, and
+/// their sizes. Where it is not refused, this gives what else was looked up.
+fn check_list<T: Copy>(
+    me: RankId,
+    table: &SegmentTable,
+    rank: u64,
+    items: &[Item],
+    beside: Result<T, Refusal>,
+) -> Result<T, Refusal>
+    ensures checks { result ≡ list_checks me table.now rank items.now beside }
+    ensures bound { IfOk result (λ known. length items.now ≤ 256) }
+    ensures beside { IfOk result (λ known. beside ≡ Ok known) }
+{
+    if !is_list_length(items.len()) {
+        return Err(Refusal::BadCount);
+    }
+    check_segments(me, table, rank, items)?;
+    let known = beside?;
+    check_sizes(items)?;
+    Ok(known)
+}
+
+/// A transfer for each item, in order, or the first refusal of an item. Memory is taken for all of them at once, and for a
+/// notification behind them.
+fn transfers_of(
+    alloc: Global,
+    direction: Direction,
+    me: RankId,
+    table: &SegmentTable,
+    rank: u64,
+    items: &[Item],
+) -> Result<Result<Rows<Kind>, Refusal>, NoMemory>
+    requires { length items.now ≤ 256 }
+    ensures kinds { IfOk result (λ asked. asked ≡ transfers_of direction me table.now rank items.now) }
+    ensures count { IfOk result (λ asked. IfOk asked (λ kinds. length kinds ≡ length items.now)) }
+{
+    let mut kinds = Rows::with_room(alloc, items.len() + 1)?;
+    for item in items {
+        match ends_of(me, table, rank, item) {
+            Ok(ends) => kinds.push(ends.kind(direction))?,
+            Err(refusal) => return Ok(Err(refusal)),
+        }
+    }
+    Ok(Ok(kinds))
+}
+
+/// The transfers of a list that was checked, and behind them its notification, which is refused after them.
+fn transfers_then(
+    alloc: Global,
+    direction: Direction,
+    me: RankId,
+    table: &SegmentTable,
+    rank: u64,
+    items: &[Item],
+    last: Result<Kind, Refusal>,
+) -> Result<Result<Kinds, Refusal>, NoMemory>
+    requires { length items.now ≤ 256 }
+    ensures asks { IfOk result (λ asked. Asks asked (transfers_then direction me table.now rank items.now last)) }
+    ensures few { IfOk result (λ asked. IfOk asked (λ kinds. length (kinds_of kinds) ≤ 257)) }
+{
+    let mut kinds = match transfers_of(alloc, direction, me, table, rank, items)? {
+        Ok(kinds) => kinds,
+        Err(refusal) => return Ok(Err(refusal)),
+    };
+    match last {
+        Ok(kind) => kinds.push(kind)?,
+        Err(refusal) => return Ok(Err(refusal)),
+    }
+    Ok(Ok(Kinds::Many(kinds)))
+}
+
+/// The transfers of a list alone.
+fn list_kinds(
+    alloc: Global,
+    direction: Direction,
+    me: RankId,
+    table: &SegmentTable,
+    rank: u64,
+    items: &[Item],
+) -> Result<Result<Kinds, Refusal>, NoMemory>
+    ensures asks { IfOk result (λ asked. Asks asked (listed items.now (transfers_alone direction me table.now rank items.now))) }
+    ensures few { IfOk result (λ asked. IfOk asked (λ kinds. length (kinds_of kinds) ≤ 257)) }
+{
+    match check_list(me, table, rank, items, Ok(())) {
+        Ok(()) => {
+            let asked = transfers_of(alloc, direction, me, table, rank, items)?;
+            Ok(asked.map(Kinds::Many))
+        }
+        Err(refusal) => Ok(Err(refusal)),
+    }
+}
+
+/// The entries of writes, or the first refusal. (GASPI: write_list)
+pub(crate) fn write_list_kinds(
+    alloc: Global,
+    me: RankId,
+    table: &SegmentTable,
+    call: &WriteList,
+) -> Result<Result<Kinds, Refusal>, NoMemory>
+    ensures asks { IfOk result (λ asked. Asks asked (write_list_kinds me table.now call.now)) }
+    ensures few { IfOk result (λ asked. IfOk asked (λ kinds. length (kinds_of kinds) ≤ 257)) }
+{
+    let items = call.items.as_slice();
+    list_kinds(alloc, Direction::Outward, me, table, call.rank, items)
+}
+
+/// The entries of reads, or the first refusal. (GASPI: read_list)
+pub(crate) fn read_list_kinds(
+    alloc: Global,
+    me: RankId,
+    table: &SegmentTable,
+    call: &ReadList,
+) -> Result<Result<Kinds, Refusal>, NoMemory>
+    ensures asks { IfOk result (λ asked. Asks asked (read_list_kinds me table.now call.now)) }
+    ensures few { IfOk result (λ asked. IfOk asked (λ kinds. length (kinds_of kinds) ≤ 257)) }
+{
+    let items = call.items.as_slice();
+    list_kinds(alloc, Direction::Inward, me, table, call.rank, items)
+}
+
+/// The entries of writes and the notification behind them, or the first refusal up to the notification value.
+/// (GASPI: write_list_notify)
+#[tactic(auto, using(crate::proofs::ListPosts::list_noted_writes))]
+pub(crate) fn write_list_notify_kinds(
+    alloc: Global,
+    notes: u32,
+    me: RankId,
+    table: &SegmentTable,
+    call: &WriteListNotify,
+) -> Result<Result<Kinds, Refusal>, NoMemory>
+    ensures asks { IfOk result (λ asked. Asks asked (write_list_notify_kinds notes me table.now call.now)) }
+    ensures few { IfOk result (λ asked. IfOk asked (λ kinds. length (kinds_of kinds) ≤ 257)) }
+{
+    let items = call.items.as_slice();
+    let known = known_segment(me, table, call.rank, call.nseg);
+    match check_list(me, table, call.rank, items, known) {
+        Ok(theirs) => {
+            let last = notification(notes, theirs, call.nseg, call.note, call.value);
+            transfers_then(alloc, Direction::Outward, me, table, call.rank, items, last)
+        }
+        Err(refusal) => Ok(Err(refusal)),
+    }
+}
+
+/// The entries of reads and the notification behind them, or the first refusal up to the slot.
+/// (GASPI: read_list_notify)
+pub(crate) fn read_list_notify_kinds(
+    alloc: Global,
+    notes: u32,
+    me: RankId,
+    table: &SegmentTable,
+    call: &ReadListNotify,
+) -> Result<Result<Kinds, Refusal>, NoMemory>
+    ensures asks { IfOk result (λ asked. Asks asked (read_list_notify_kinds notes me table.now call.now)) }
+    ensures few { IfOk result (λ asked. IfOk asked (λ kinds. length (kinds_of kinds) ≤ 257)) }
+{
+    let items = call.items.as_slice();
+    let known = own_segment(table, call.nseg);
+    match check_list(me, table, call.rank, items, known) {
+        Ok(mine) => {
+            let last = read_notification(notes, mine, call.nseg, call.note);
+            transfers_then(alloc, Direction::Inward, me, table, call.rank, items, last)
+        }
+        Err(refusal) => Ok(Err(refusal)),
+    }
+}

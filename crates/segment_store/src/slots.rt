@@ -1,0 +1,105 @@
+//! The notification slots of one segment. (GASPI: notifications)
+
+ghost use Rattle.std.specs.Prelude.{◌≡◌, ◌<◌, ◌≤◌, IfOk, OnOk, OnErr, length, replicate, slice_set};
+
+use crate::slot_ranges::{first_set, is_slot_range};
+use gaspi_types::{NoMemory, Refusal, Rows};
+use std::alloc::Global;
+use std::marker::Model;
+
+/// The notification slots of one segment, numbered from 0: each has the value of the notification that stands there, or 0
+/// where none stands. Contracts see the list of these values.
+///
+/// The numbers of slots are those that a caller wrote, so any number may come.
+#[derive(Debug, Drop)]
+pub struct Slots {
+    values: Rows<u32>,
+}
+
+impl Model for Slots {
+    ghost use Rattle.std.specs.Prelude.{List, ℕ, ◌≤◌, length};
+
+    ghost Value = { List ℕ };
+
+    ghost view = { λ slots. slots.values };
+
+    ghost invariant = { λ slots. length slots.values ≤ 1024 };
+}
+
+impl Slots {
+    ghost use Rattle.gaspi_types.specs.Slots.{IsSlotSet};
+    ghost use Rattle.segment_store.specs.Answers.{found_slot, slot_value};
+    ghost use Rattle.segment_store.specs.Found.{Tells};
+
+    /// So many slots, at most 1,024, which is the most that a world may have; no notification stands in them. Their
+    /// memory is taken here, and none after. (GASPI: segment_alloc)
+    pub fn new(alloc: Global, notes: u32) -> Result<Slots, NoMemory>
+        requires { notes ≤ 1024 }
+        ensures { IfOk result (λ slots. slots ≡ replicate notes 0) }
+    {
+        Ok(Slots {
+            values: Rows::from_vec(vec![in alloc; 0; notes as usize]?),
+        })
+    }
+
+    /// How many slots there are, at most 1,024.
+    pub fn len(&self) -> usize
+        ensures value { result ≡ length self.now }
+        ensures bound { result ≤ 1024 }
+    {
+        self.values.len()
+    }
+
+    /// The values of the slots, lent.
+    pub fn values(&self) -> &[u32]
+        ensures { result.now ≡ self.now }
+    {
+        self.values.as_slice()
+    }
+
+    /// Sets a slot to a value, in place of the one that stood there. All other slots stay. (GASPI: notify)
+    pub fn set(&mut self, note: u64, value: u32)
+        requires { note < length self.old }
+        ensures slots { self.new ≡ slice_set self.old note value }
+        ensures alone { IsSlotSet self.old self.new note value }
+    {
+        *self.values.at_mut(note as usize) = value;
+    }
+
+    /// The least slot of the range from `begin` on, `num` slots long, in which a notification stands; None exactly where
+    /// none stands in the range. `BadNote` where the range has no slot, or does not lie within the slots.
+    /// (GASPI: notify_waitsome)
+    pub fn waitsome(&self, begin: u64, num: u64) -> Result<Option<u32>, Refusal>
+        ensures answer { result ≡ found_slot self.now begin num }
+        ensures least { IfOk result (λ found. Tells self.now begin num found) }
+    {
+        if !is_slot_range(begin, num, self.values.len()) {
+            return Err(Refusal::BadNote);
+        }
+        let slots = self.values.as_slice();
+        Ok(first_set(slots, begin as usize, num as usize))
+    }
+
+    /// The value of a slot, 0 where no notification stands there. `BadNote` where there is no such slot. (own choice)
+    pub fn value(&self, note: u64) -> Result<u32, Refusal>
+        ensures { result ≡ slot_value self.now note }
+    {
+        if note >= self.values.len() as u64 {
+            return Err(Refusal::BadNote);
+        }
+        Ok(*self.values.at(note as usize))
+    }
+
+    /// Takes the notification that stands in a slot: answers its value, 0 where none stands there, and leaves 0. All other
+    /// slots stay. Refused as `value` is. (GASPI: notify_reset)
+    pub fn reset(&mut self, note: u64) -> Result<u32, Refusal>
+        ensures answer { result ≡ slot_value self.old note }
+        ensures slots { OnOk result (self.new ≡ slice_set self.old note 0) }
+        ensures alone { OnOk result (IsSlotSet self.old self.new note 0) }
+        ensures refused { OnErr result (self.new ≡ self.old) }
+    {
+        let value = self.value(note)?;
+        self.set(note, 0);
+        Ok(value)
+    }
+}

@@ -1,2 +1,0 @@
-mod OneTransfer
-mod ListPosts

@@ -1,7 +1,0 @@
-use Rattle.std.proofs.Common.{◌≡◌, drop}
-use Rattle.gaspi_types.specs.Checks.{check_each}
-use Rattle.gaspi_types.specs.Posts.{has_segments}
-use Rattle.segment_tables.proofs.list_posts.check_segments.Given as goal
-
-abbrev pub invariant-loop-item : goal.invariant-loop-item
-invariant-loop-item l = check_each (has_segments l.me l.table l.rank) l.items ≡ check_each (has_segments l.me l.table l.rank) (drop l.item-index l.items)

@@ -1,2 +1,0 @@
-pub mod PostKinds
-pub mod ListPosts

@@ -1,2 +1,0 @@
-pub mod FedLines
-pub mod PlainLines

@@ -1,4 +1,0 @@
-pub mod NumberRanges
-pub mod OwnCalls
-mod Calling
-mod Transcribing

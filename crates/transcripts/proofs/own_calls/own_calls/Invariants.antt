@@ -1,6 +1,0 @@
-use Rattle.std.proofs.Common.{take}
-use Rattle.transcripts.specs.OwnCalls.{IsCallTable}
-use Rattle.transcripts.proofs.own_calls.own_calls.Given as goal
-
-abbrev pub invariant-loop-event : goal.invariant-loop-event
-invariant-loop-event l = IsCallTable l.table (take l.event-index l.history)

@@ -1,6 +1,0 @@
-use Rattle.rank_script.specs.Runs.{going_on}
-use Rattle.transcripts.proofs.Transcribing.{HasTold}
-use Rattle.transcripts.proofs.transcripts.write_transcript.Given as goal
-
-abbrev pub invariant-loop-own : goal.invariant-loop-own
-invariant-loop-own l = HasTold l.script.caller (going_on l.script.lines) l.cursor l.calls l.fn.text l.text l.own-index

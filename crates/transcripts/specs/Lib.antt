@@ -1,2 +1,0 @@
-pub mod OwnCalls
-pub mod Transcripts

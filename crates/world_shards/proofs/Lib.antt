@@ -1,3 +1,0 @@
-pub mod HeldShards
-pub mod HeldPairs
-pub mod JournalLengths

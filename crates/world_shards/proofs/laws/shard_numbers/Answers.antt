@@ -1,8 +1,0 @@
-use Rattle.world_shards.specs.Grains.{shards-within, ranks-number}
-use Rattle.world_shards.proofs.laws.shard_numbers.Goals as goal
-
-pub returns-clause-within : goal.returns-clause-within
-returns-clause-within c = shards-within
-
-pub returns-clause-ranks : goal.returns-clause-ranks
-returns-clause-ranks c = ranks-number
