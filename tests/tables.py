@@ -44,6 +44,7 @@ class Case:
     whole: bool = False  # whether it stands in full; such a case is run by the launcher
     program: str = "gaspirun"  # the program that is run
     once: tuple[bytes, ...] = ()  # what each stands in exactly one line of the journal, where any legal one will do
+    pictured: bool = False  # whether it is the pictures of a journal that are judged, by what `check` says of it
 
 
 def under_seeds(place: str, name: str, world: bytes) -> Iterator[Case]:
@@ -113,6 +114,7 @@ class Table:
         sections = {
             "case": self.case,
             "stepped": self.stepped,
+            "pictured": self.pictured,
             "raced": self.raced,
             "told": self.told,
             "scripts": self.scripts,
@@ -227,6 +229,13 @@ class Table:
         """A world of which nothing is said but that what `step` writes is legal."""
         place, title = self.place(), self.new_title(name)
         yield from under_seeds(place, title, encoded(self.block()))
+
+    def pictured(self, folder: str) -> Iterator[Case]:
+        """Each world of a folder, with the journal that `step` writes of it, and each journal behind its world: their pictures."""
+        place = self.place()
+        for path in sorted((TOP / folder).glob("*.world")) + sorted((TOP / folder).glob("*.check")):
+            words = [b"step"] if path.suffix == ".world" else []
+            yield Case(place, f"the pictures of {path.relative_to(TOP)}", words, path.read_bytes(), None, 0, True, pictured=True)
 
     def raced(self, name: str) -> Iterator[Case]:
         """A world that is run on threads again and again: each journal is legal, and has each text in one line.

@@ -3,3 +3,7 @@ pub mod DeliveryTables
 pub mod Brought
 pub mod LinesAt
 pub mod NumberRanges
+pub mod Objects
+pub mod Lines
+pub mod OpenTables
+pub mod TraceTexts

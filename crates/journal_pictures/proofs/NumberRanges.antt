@@ -8,7 +8,7 @@ from-range {B} f a (suc n) =
     ap (λ (r : List B). f a ++ r) (from-range f (a + 1) n) ∙ sym (append_assoc (f a) (flat_map f (range_with_len (a + 1) n)) (f (a + 1 + n)))
     ∙ ap (λ (k : ℕ). (f a ++ flat_map f (range_with_len (a + 1) n)) ++ f k) (let same : a + 1 + n ≡ a + suc n = omega arith in same)
 
-flat_map-range : {B : Type 0} (f : ℕ → List B) (n : ℕ) → flat_map f (range_with_len 0 (n + 1)) ≡ flat_map f (range_with_len 0 n) ++ f n
+pub flat_map-range : {B : Type 0} (f : ℕ → List B) (n : ℕ) → flat_map f (range_with_len 0 (n + 1)) ≡ flat_map f (range_with_len 0 n) ++ f n
 flat_map-range {B} f n = rw (add-one n) (from-range f 0 n) ∙ ap (λ (k : ℕ). flat_map f (range_with_len 0 n) ++ f k) (let same : 0 + n ≡ n = omega arith in same)
 
 -- a text, or any list, to which what each number gives is added in order: one number more

@@ -1,3 +1,6 @@
+pub mod Answers
 pub mod Deliveries
 pub mod Diagram
-pub mod Answers
+pub mod JsonLines
+pub mod OpenEntries
+pub mod Trace

@@ -22,7 +22,7 @@ const MOST_EVENTS: usize = 400;
 pub enum SequenceAnswer {
     /// The text of the diagram.
     Drawn(Bytes),
-    /// The journal is legal, and has too many events for a diagram: so many.
+    /// The journal is legal, and has that number of events, too many for a diagram.
     Long { events: u64 },
     /// The event at that place, from 0, is the first that is no step, for that cause.
     Illegal { place: u64, why: Why },

@@ -1,10 +1,17 @@
-//! Pictures of journals: the sequence diagram of a run, in the text of Mermaid.
+//! Pictures of journals: the sequence diagram of a run, in the text of Mermaid, and its trace, in the JSON of the Chrome trace event
+//! format.
 #![tactic(auto)]
 
 mod deliveries;
 mod delivery_tables;
 mod diagram_lines;
 mod drawing;
+mod json_lines;
+mod open_entries;
+mod set_slots;
+mod trace_lines;
+mod tracing;
 
 pub use deliveries::Delivery;
 pub use drawing::{SequenceAnswer, sequence};
+pub use tracing::{TraceAnswer, trace};

@@ -14,6 +14,7 @@ use Rattle.rank_script.specs.declared.scripts.ScriptFault.TheVariants.{At, NoMem
 use Rattle.journal_view.specs.Answers.{fault_text, SaysFault, Says, SaysStop, Answers}
 use Rattle.journal_view.specs.Viewing.{IsViewed}
 use Rattle.journal_view.specs.declared.viewing.Told.{Told}
+use Rattle.journal_view.specs.declared.words.Picture.{Picture}
 
 -- an input that is too long
 long-text : (text : List ℕ) → input_limit < length text → checked_world text ≡ Err (record { number = 1; line = 0 })
@@ -49,9 +50,9 @@ long-fault None after long past =
       is = long-text text.0 text.1;
     }
 
-module _ (before after held held' : Option (List ℕ)) (faults faults' sink_faults sink_faults' status : ℕ) (taken : TakesAtMost (input_limit + 1) before after) where
+module _ (asked : Picture) (before after held held' : Option (List ℕ)) (faults faults' sink_faults sink_faults' status : ℕ) (taken : TakesAtMost (input_limit + 1) before after) where
   abbrev IsAnswered : Type 0
-  IsAnswered = Answers before after faults faults' held held' sink_faults sink_faults' status
+  IsAnswered = Answers asked before after faults faults' held held' sink_faults sink_faults' status
 
   answered-fault : (fault : TextFault) → KnowsFault before after fault → faults' ≡ faults → SaysFault held held' sink_faults sink_faults' status fault → IsAnswered
   answered-fault fault k read (inl (inl told)) = inr (inl (record {
@@ -78,7 +79,7 @@ module _ (before after held held' : Option (List ℕ)) (faults faults' sink_faul
 
   -- what was told of an input that was read
   pub answered-told : (input : List ℕ) (r : Result Told ScriptFault) → ForSome before (λ told. input ≡ told) → ForSome before (λ told. after ≡ Some []) → length input ≤ input_limit → faults' ≡ faults
-      → IfOk r (λ told. IsViewed input told.status told.text)
+      → IfOk r (λ told. IsViewed asked input told.status told.text)
       → ((number line : ℕ) → IsErrOf r (At number line) → checked_world input ≡ Err (record { number = number; line = line })) → Says held held' sink_faults sink_faults' status r → IsAnswered
   answered-told input (Ok told) all end short read tells faulty (inl written) = inl (record {
     text = told.text;
@@ -128,8 +129,8 @@ nothing-taken : (most : ℕ) (left : Option (List ℕ)) → TakesAtMost most lef
 nothing-taken most None = record { count = 0; within = omega arith; rest = refl }
 nothing-taken most (Some bytes) = record { count = 0; within = omega arith; rest = refl }
 
-pub starved-answers : (left held : Option (List ℕ)) (faults sink_faults status : ℕ) → status ≡ 7 → Answers left left faults faults held held sink_faults sink_faults status
-starved-answers left held faults sink_faults status is = inr (inr (inr (inr (record {
+pub starved-answers : (asked : Picture) (left held : Option (List ℕ)) (faults sink_faults status : ℕ) → status ≡ 7 → Answers asked left left faults faults held held sink_faults sink_faults status
+starved-answers asked left held faults sink_faults status is = inr (inr (inr (inr (record {
   taken = nothing-taken _ left;
   kept = refl;
   still = (refl, refl);

@@ -14,6 +14,7 @@ use Rattle.rank_script.specs.declared.scripts.ScriptFault.{ScriptFault}
 use Rattle.rank_script.specs.declared.scripts.ScriptFault.TheVariants.{At, NoMemory}
 use Rattle.journal_view.specs.Viewing.{IsViewed}
 use Rattle.journal_view.specs.declared.viewing.Told.{Told}
+use Rattle.journal_view.specs.declared.words.Picture.{Picture}
 
 abbrev pub refused_text : List ℕ
 refused_text = codes "journal_view: words refused\n"
@@ -53,11 +54,11 @@ module _ (held held' : Option (List ℕ)) (faults faults' status : ℕ) where
 -- What an answer says. Each case has its statuses.
 
 -- the whole input was read, and the text is what is told of it
-pub record TellsInput (before after : Option (List ℕ)) (status : ℕ) (text : List ℕ) : Type 0 where
+pub record TellsInput (asked : Picture) (before after : Option (List ℕ)) (status : ℕ) (text : List ℕ) : Type 0 where
   pub input : List ℕ
   pub all : ForSome before (λ told. input ≡ told)
   pub end : ForSome before (λ told. after ≡ Some [])
-  pub tells : IsViewed input status text
+  pub tells : IsViewed asked input status text
 
 -- the input has a fault, and the text names the first; the whole input was read, and where it is too long, one byte past
 -- what it may have
@@ -75,10 +76,10 @@ abbrev pub NothingFailed : ℕ → ℕ → ℕ → ℕ → Type 0
 NothingFailed faults faults' sink_faults sink_faults' = (faults' ≡ faults) × (sink_faults' ≡ sink_faults)
 
 -- the input was told: status 0, 4 or 9
-pub record HasTold (before after held held' : Option (List ℕ)) (faults faults' sink_faults sink_faults' status : ℕ) : Type 0 where
+pub record HasTold (asked : Picture) (before after held held' : Option (List ℕ)) (faults faults' sink_faults sink_faults' status : ℕ) : Type 0 where
   pub text : List ℕ
   pub still : NothingFailed faults faults' sink_faults sink_faults'
-  pub told : TellsInput before after status text
+  pub told : TellsInput asked before after status text
   pub written : held' ≡ with_more held text
 
 -- a fault was told: status 2
@@ -98,9 +99,9 @@ pub record CouldNotRead (before after held held' : Option (List ℕ)) (faults fa
   pub status_is : status ≡ 5
 
 -- the text of the input or of a fault could not be written whole: status 6; what was written is a front part of it
-pub record CouldNotWrite (before after held held' : Option (List ℕ)) (faults faults' sink_faults sink_faults' status : ℕ) : Type 0 where
+pub record CouldNotWrite (asked : Picture) (before after held held' : Option (List ℕ)) (faults faults' sink_faults sink_faults' status : ℕ) : Type 0 where
   pub text : List ℕ
-  pub of : ((would_be : ℕ) × TellsInput before after would_be text) ⊎ TellsFault before after text
+  pub of : ((would_be : ℕ) × TellsInput asked before after would_be text) ⊎ TellsFault before after text
   pub front : AddsFront text held held'
   pub cause : HasCause sink_faults sink_faults'
   pub still : faults' ≡ faults
@@ -113,13 +114,13 @@ pub record LacksMemory (before after held held' : Option (List ℕ)) (faults fau
   pub still : NothingFailed faults faults' sink_faults sink_faults'
   pub status_is : status ≡ 7
 
--- the answer to an input
-abbrev pub Answers : Option (List ℕ) → Option (List ℕ) → ℕ → ℕ → Option (List ℕ) → Option (List ℕ) → ℕ → ℕ → ℕ → Type 0
-Answers before after faults faults' held held' sink_faults sink_faults' status =
-    HasTold before after held held' faults faults' sink_faults sink_faults' status
+-- the answer to an input, of which that picture is asked for
+abbrev pub Answers : Picture → Option (List ℕ) → Option (List ℕ) → ℕ → ℕ → Option (List ℕ) → Option (List ℕ) → ℕ → ℕ → ℕ → Type 0
+Answers asked before after faults faults' held held' sink_faults sink_faults' status =
+    HasTold asked before after held held' faults faults' sink_faults sink_faults' status
     ⊎ (IsFaulty before after held held' faults faults' sink_faults sink_faults' status
     ⊎ (CouldNotRead before after held held' faults faults' sink_faults sink_faults' status
-    ⊎ (CouldNotWrite before after held held' faults faults' sink_faults sink_faults' status
+    ⊎ (CouldNotWrite asked before after held held' faults faults' sink_faults sink_faults' status
     ⊎ LacksMemory before after held held' faults faults' sink_faults sink_faults' status)))
 
 -- the answer to words that are refused: status 1, or 6 where that could not be written, or 7 where memory is wanting

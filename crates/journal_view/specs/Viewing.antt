@@ -1,4 +1,4 @@
--- What is told of an input: the picture of its journal, or why it has none. (own choice)
+-- What is told of an input: the picture of its journal that is asked for, or why it has none. (own choice)
 use Rattle.std.specs.Prelude.{◌≡◌, ◌⊎◌, ℕ, ◌+◌, ◌-◌, length, drop, List, ◌++◌, Option, Some, None, Ok, codes}
 use Rattle.std.specs.Fmt.{decimal}
 use Rattle.gaspi_types.specs.World.{World}
@@ -7,11 +7,15 @@ use Rattle.call_texts.specs.Lines.{fed_lines}
 use Rattle.gaspi_model.specs.declared.states.Why.{Why}
 use Rattle.gaspi_model.specs.declared.states.Why.TheVariants as whys
 use Rattle.gaspi_texts.specs.JournalText.{journal_text, AreInRange, IsFaultyAt}
-use Rattle.journal_pictures.specs.Answers.{IsSequenceAnswer}
+use Rattle.journal_pictures.specs.Answers.{IsSequenceAnswer, IsTraceAnswer}
 use Rattle.journal_pictures.specs.declared.drawing.SequenceAnswer.{SequenceAnswer}
 use Rattle.journal_pictures.specs.declared.drawing.SequenceAnswer.TheVariants.{Drawn, Long, Illegal}
+use Rattle.journal_pictures.specs.declared.tracing.TraceAnswer.{TraceAnswer}
+use Rattle.journal_pictures.specs.declared.tracing.TraceAnswer.TheVariants.{Traced, Refuted}
 use Rattle.rank_script.specs.WorldText.{journal_place, checked_world}
 use Rattle.rank_script.specs.declared.scripts.Script.{Script}
+use Rattle.journal_view.specs.declared.words.Picture.{Picture}
+use Rattle.journal_view.specs.declared.words.Picture.TheVariants.{Sequence, Trace}
 
 -- The texts.
 
@@ -42,7 +46,15 @@ answer_status (Drawn text) = 0
 answer_status (Long events) = 9
 answer_status (Illegal place why) = 4
 
--- What is told: of a text that is no journal its first line that cannot stand there, of a journal its sequence diagram.
+abbrev pub trace_answer_text : TraceAnswer → List ℕ
+trace_answer_text (Traced text) = text
+trace_answer_text (Refuted place why) = illegal_text place why
+
+abbrev pub trace_answer_status : TraceAnswer → ℕ
+trace_answer_status (Traced text) = 0
+trace_answer_status (Refuted place why) = 4
+
+-- What is told: of a text that is no journal its first line that cannot stand there, of a journal its picture.
 
 -- no journal, which shows at that line of the input
 pub record IsNoJournal (line status : ℕ) (text : List ℕ) : Type 0 where
@@ -50,11 +62,23 @@ pub record IsNoJournal (line status : ℕ) (text : List ℕ) : Type 0 where
   pub text_is : text ≡ no_journal_text line
 
 -- the diagram of a journal, or why it has none
-pub record HasPicture (world : World) (journal : List Event) (status : ℕ) (text : List ℕ) : Type 0 where
+pub record HasSequence (world : World) (journal : List Event) (status : ℕ) (text : List ℕ) : Type 0 where
   pub answer : SequenceAnswer
   pub is : IsSequenceAnswer world journal answer
   pub status_is : status ≡ answer_status answer
   pub text_is : text ≡ answer_text answer
+
+-- the trace of a journal, or why it has none
+pub record HasTrace (world : World) (journal : List Event) (status : ℕ) (text : List ℕ) : Type 0 where
+  pub answer : TraceAnswer
+  pub is : IsTraceAnswer world journal answer
+  pub status_is : status ≡ trace_answer_status answer
+  pub text_is : text ≡ trace_answer_text answer
+
+-- the picture that is asked for
+abbrev pub HasPicture : Picture → World → List Event → ℕ → List ℕ → Type 0
+HasPicture Sequence world journal status text = HasSequence world journal status text
+HasPicture Trace world journal status text = HasTrace world journal status text
 
 -- a text that is no journal from its line on, the first line of which has that number
 pub record IsUnread (text : List ℕ) (number status : ℕ) (told : List ℕ) : Type 0 where
@@ -63,24 +87,24 @@ pub record IsUnread (text : List ℕ) (number status : ℕ) (told : List ℕ) : 
   pub none : IsNoJournal (number - 1 + line) status told
 
 -- a journal, and its picture
-pub record IsPictured (world : World) (text : List ℕ) (status : ℕ) (told : List ℕ) : Type 0 where
+pub record IsPictured (asked : Picture) (world : World) (text : List ℕ) (status : ℕ) (told : List ℕ) : Type 0 where
   pub journal : List Event
   pub journal_is : text ≡ journal_text journal
   pub ranges : AreInRange journal
-  pub picture : HasPicture world journal status told
+  pub picture : HasPicture asked world journal status told
 
 -- what is told of the text of a journal, the first line of which has that number
-abbrev pub IsRead : World → List ℕ → ℕ → ℕ → List ℕ → Type 0
-IsRead world text number status told = IsUnread text number status told ⊎ IsPictured world text status told
+abbrev pub IsRead : Picture → World → List ℕ → ℕ → ℕ → List ℕ → Type 0
+IsRead asked world text number status told = IsUnread text number status told ⊎ IsPictured asked world text status told
 
 -- What is told of an input with a world: where no line begins with `journal`, the line after the last is named.
-abbrev pub IsViewedIn : World → List ℕ → Option (ℕ × ℕ) → ℕ → List ℕ → Type 0
-IsViewedIn world input None status text = IsNoJournal (length (fed_lines input) + 1) status text
-IsViewedIn world input (Some place) status text = IsRead world (drop place.0 input) place.1 status text
+abbrev pub IsViewedIn : Picture → World → List ℕ → Option (ℕ × ℕ) → ℕ → List ℕ → Type 0
+IsViewedIn asked world input None status text = IsNoJournal (length (fed_lines input) + 1) status text
+IsViewedIn asked world input (Some place) status text = IsRead asked world (drop place.0 input) place.1 status text
 
 -- an input has a world text, and from the first line that begins with `journal` on a journal
-pub record IsViewed (input : List ℕ) (status : ℕ) (text : List ℕ) : Type 0 where
+pub record IsViewed (asked : Picture) (input : List ℕ) (status : ℕ) (text : List ℕ) : Type 0 where
   pub world : World
   pub scripts : List Script
   pub read : checked_world input ≡ Ok (record { world = Some world; scripts = scripts })
-  pub result : IsViewedIn world input (journal_place input) status text
+  pub result : IsViewedIn asked world input (journal_place input) status text

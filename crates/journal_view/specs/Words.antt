@@ -7,12 +7,19 @@ use Rattle.clap.specs.Simple.{on_top}
 use Rattle.clap.specs.Words.{App, Row, Rule, Shape, Text, fault_of, first_of, matches_of, new_app, new_rule, with_rule}
 use Rattle.clap.specs.declared.builder.action.ArgAction.TheVariants.{SetTrue}
 use Rattle.journal_view.specs.declared.words.Picture.{Picture}
-use Rattle.journal_view.specs.declared.words.Picture.TheVariants.{Sequence}
+use Rattle.journal_view.specs.declared.words.Picture.TheVariants.{Sequence, Trace}
 
 -- `--sequence`: a flag
 abbrev pub sequence_rule : Rule
 sequence_rule = record (new_rule (codes "sequence")) {
   long = Some (codes "sequence");
+  action = Some SetTrue;
+}
+
+-- `--trace`: a flag
+abbrev pub trace_rule : Rule
+trace_rule = record (new_rule (codes "trace")) {
+  long = Some (codes "trace");
   action = Some SetTrue;
 }
 
@@ -28,15 +35,20 @@ abbrev pub program_app : App
 program_app = on_top with_settings (new_app (codes "journal_view"))
 
 abbrev pub the_app : App
-the_app = with_rule program_app sequence_rule
+the_app = with_rule (with_rule program_app sequence_rule) trace_rule
 
 -- a flag was given
 abbrev pub flag_at : Text → List Row → Bool
 flag_at id rows = option_map_or (λ text. bytes_eq text (codes "true")) (first_of id rows) false
 
--- which picture the flags ask for
+-- which picture the flags ask for: exactly one of them
+abbrev pub picture_by : Bool → Bool → Option Picture
+picture_by true false = Some Sequence
+picture_by false true = Some Trace
+picture_by both neither = None
+
 abbrev pub picture_in : List Row → Option Picture
-picture_in rows = if flag_at (codes "sequence") rows then Some Sequence else None
+picture_in rows = picture_by (flag_at (codes "sequence") rows) (flag_at (codes "trace") rows)
 
 -- which picture the words after the program's name ask for, and none where clap refuses them
 unfoldable pub picture_of : List Text → Option Picture

@@ -71,13 +71,18 @@ fn answer_stop<K: Sink>(alloc: Global, sink: &mut K, stop: ReadStop) -> u8
     }
 }
 
-/// Reads the input that the source has left, and writes the sequence diagram of its journal.
-fn view_sequence<S: Source, K: Sink>(alloc: Global, source: &mut S, sink: &mut K) -> u8
-    ensures { Answers (S.left source.old) (S.left source.new) (S.faults source.old) (S.faults source.new)
+/// Reads the input that the source has left, and writes the picture of its journal.
+fn view_picture<S: Source, K: Sink>(
+    alloc: Global,
+    picture: Picture,
+    source: &mut S,
+    sink: &mut K,
+) -> u8
+    ensures { Answers picture (S.left source.old) (S.left source.new) (S.faults source.old) (S.faults source.new)
         (K.held sink.old) (K.held sink.new) (K.faults sink.old) (K.faults sink.new) result }
 {
     match read_all(alloc, source, MOST_INPUT_BYTES as u64) {
-        Ok(input) => answer_told(alloc, sink, tell_view(alloc, input.as_slice())),
+        Ok(input) => answer_told(alloc, sink, tell_view(alloc, picture, input.as_slice())),
         Err(stop) => answer_stop(alloc, sink, stop),
     }
 }
@@ -99,11 +104,11 @@ pub fn view<S: Source, K: Sink>(alloc: Global, words: &[&str], source: &mut S, s
     ensures refused { picture_of (map (λ word. word.now) words.now) ≡ None
         → Refuses (K.held sink.old) (K.held sink.new) (K.faults sink.old) (K.faults sink.new) result × (source.new ≡ source.old) }
     ensures answers { (picture : Picture) → picture_of (map (λ word. word.now) words.now) ≡ Some picture
-        → Answers (S.left source.old) (S.left source.new) (S.faults source.old) (S.faults source.new)
+        → Answers picture (S.left source.old) (S.left source.new) (S.faults source.old) (S.faults source.new)
         (K.held sink.old) (K.held sink.new) (K.faults sink.old) (K.faults sink.new) result }
 {
     match read_words(alloc, words) {
-        Ok(Some(Picture::Sequence)) => view_sequence(alloc, source, sink),
+        Ok(Some(picture)) => view_picture(alloc, picture, source, sink),
         Ok(None) => status_of(sink, b"journal_view: words refused\n", 1),
         Err(NoMemory) => 7,
     }

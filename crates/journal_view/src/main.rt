@@ -76,7 +76,7 @@ fn run<S: Source, K: Sink>(
     ensures refused { picture_of (map string_bytes (drop 1 given.now)) ≡ None
         → Refuses (K.held sink.old) (K.held sink.new) (K.faults sink.old) (K.faults sink.new) (exit_status result) × (source.new ≡ source.old) }
     ensures answers { (picture : Picture) → picture_of (map string_bytes (drop 1 given.now)) ≡ Some picture
-        → Answers (S.left source.old) (S.left source.new) (S.faults source.old) (S.faults source.new)
+        → Answers picture (S.left source.old) (S.left source.new) (S.faults source.old) (S.faults source.new)
         (K.held sink.old) (K.held sink.new) (K.faults sink.old) (K.faults sink.new) (exit_status result) }
 {
     let Ok(words) = after_name(alloc, given) else {

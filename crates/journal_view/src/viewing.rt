@@ -4,13 +4,16 @@ ghost use Rattle.std.specs.Prelude.{◌≡◌, ◌<◌, ◌≤◌, ◌+◌, ◌^
 ghost use Rattle.rank_script.specs.WorldText.{checked_world};
 ghost use Rattle.rank_script.specs.declared.scripts.ScriptFault.TheVariants as script_faults;
 ghost use Rattle.call_texts.specs.Lines.{fed_lines};
-ghost use Rattle.journal_view.specs.Viewing.{HasPicture, IsNoJournal, IsRead, IsViewed, illegal_text, long_text, why_word};
+ghost use Rattle.gaspi_texts.specs.JournalText.{IsFaultyAt};
+ghost use Rattle.gaspi_texts.specs.declared.journal_reading.JournalFault.TheVariants.{At};
+ghost use Rattle.journal_view.specs.Viewing.{HasPicture, HasSequence, HasTrace, IsNoJournal, IsRead, IsUnread, IsViewed, illegal_text, long_text, why_word};
 
+use crate::words::Picture;
 use call_texts::first_line;
 use gaspi_model::Why;
 use gaspi_texts::{Journal, JournalFault, read, write_number};
 use gaspi_types::{Bytes, NoMemory, Shape};
-use journal_pictures::{SequenceAnswer, sequence};
+use journal_pictures::{SequenceAnswer, TraceAnswer, sequence, trace};
 use rank_script::{ScriptFault, read_input};
 use std::alloc::Global;
 
@@ -72,7 +75,7 @@ fn tell_no_journal(alloc: Global, line: u64) -> Result<Told, NoMemory>
 
 /// Tells the sequence diagram of a journal.
 fn tell_sequence(alloc: Global, shape: &Shape, journal: &Journal) -> Result<Told, NoMemory>
-    ensures { IfOk result (λ told. HasPicture shape.now journal.now told.status told.text) }
+    ensures { IfOk result (λ told. HasSequence shape.now journal.now told.status told.text) }
 {
     match sequence(alloc, shape, journal)? {
         SequenceAnswer::Drawn(text) => Ok(Told { status: 0, text }),
@@ -84,6 +87,34 @@ fn tell_sequence(alloc: Global, shape: &Shape, journal: &Journal) -> Result<Told
             let text = illegal_text(alloc, place, why)?;
             Ok(Told { status: 4, text })
         }
+    }
+}
+
+/// Tells the trace of a journal.
+fn tell_trace(alloc: Global, shape: &Shape, journal: &Journal) -> Result<Told, NoMemory>
+    ensures { IfOk result (λ told. HasTrace shape.now journal.now told.status told.text) }
+{
+    match trace(alloc, shape, journal)? {
+        TraceAnswer::Traced(text) => Ok(Told { status: 0, text }),
+        TraceAnswer::Refuted { place, why } => {
+            let text = illegal_text(alloc, place, why)?;
+            Ok(Told { status: 4, text })
+        }
+    }
+}
+
+/// Tells the picture of a journal.
+fn tell_picture(
+    alloc: Global,
+    picture: Picture,
+    shape: &Shape,
+    journal: &Journal,
+) -> Result<Told, NoMemory>
+    ensures { IfOk result (λ told. HasPicture picture shape.now journal.now told.status told.text) }
+{
+    match picture {
+        Picture::Sequence => tell_sequence(alloc, shape, journal),
+        Picture::Trace => tell_trace(alloc, shape, journal),
     }
 }
 
@@ -102,21 +133,43 @@ fn line_count(text: &[u8]) -> u64
     count
 }
 
-/// Reads the journal of an input, which begins at a line of that number, and tells its picture.
-fn tell_journal(alloc: Global, shape: &Shape, text: &[u8], number: u64) -> Result<Told, NoMemory>
-    requires { (1 ≤ number) × (number + length text.now < 2 ^ 63) }
-    ensures { IfOk result (λ told. IsRead shape.now text.now number told.status told.text) }
+/// Tells why a text, the first line of which has that number, was not read as a journal.
+fn tell_fault(
+    alloc: Global,
+    fault: JournalFault,
+    text: &[u8],
+    number: u64,
+) -> Result<Told, NoMemory>
+    requires number { (1 ≤ number) × (number + length text.now < 2 ^ 63) }
+    requires faulty { (line : ℕ) → fault ≡ At line → IsFaultyAt text.now line }
+    ensures { IfOk result (λ told. IsUnread text.now number told.status told.text) }
 {
-    match read(alloc, text) {
-        Ok(journal) => tell_sequence(alloc, shape, &journal),
-        Err(JournalFault::At { line }) => tell_no_journal(alloc, number - 1 + line),
-        Err(JournalFault::NoMemory) => Err(NoMemory),
+    match fault {
+        JournalFault::At { line } => tell_no_journal(alloc, number - 1 + line),
+        JournalFault::NoMemory => Err(NoMemory),
     }
 }
 
-/// Tells the picture of the journal of an input, in the world of the text before it.
-pub fn tell_view(alloc: Global, input: &[u8]) -> Result<Told, ScriptFault>
-    ensures told { IfOk result (λ told. IsViewed input.now told.status told.text) }
+/// Reads the journal of an input, which begins at a line of that number, and tells its picture.
+fn tell_journal(
+    alloc: Global,
+    picture: Picture,
+    shape: &Shape,
+    text: &[u8],
+    number: u64,
+) -> Result<Told, NoMemory>
+    requires { (1 ≤ number) × (number + length text.now < 2 ^ 63) }
+    ensures { IfOk result (λ told. IsRead picture shape.now text.now number told.status told.text) }
+{
+    match read(alloc, text) {
+        Ok(journal) => tell_picture(alloc, picture, shape, &journal),
+        Err(fault) => tell_fault(alloc, fault, text, number),
+    }
+}
+
+/// Tells the picture that is asked for, of the journal of an input, in the world of the text before it.
+pub fn tell_view(alloc: Global, picture: Picture, input: &[u8]) -> Result<Told, ScriptFault>
+    ensures told { IfOk result (λ told. IsViewed picture input.now told.status told.text) }
     ensures fault { (number line : ℕ) → IsErrOf result (script_faults.At number line)
         → checked_world input.now ≡ Err (record { number = number; line = line }) }
 {
@@ -125,7 +178,7 @@ pub fn tell_view(alloc: Global, input: &[u8]) -> Result<Told, ScriptFault>
         None => Ok(tell_no_journal(alloc, line_count(input) + 1)?),
         Some((place, number)) => {
             let journal = &input[place as usize..];
-            Ok(tell_journal(alloc, &shape, journal, number)?)
+            Ok(tell_journal(alloc, picture, &shape, journal, number)?)
         }
     }
 }

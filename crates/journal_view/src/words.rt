@@ -3,7 +3,7 @@
 ghost use Rattle.std.specs.Prelude.{◌≡◌, ◌≢◌, IfOk, false, map, None};
 ghost use Rattle.clap.specs.Words.{app_of, found_of, kind_of, rows_of, rule_of};
 ghost use Rattle.clap.specs.declared.builder.Command.TheViews.{out-Command as fields_of};
-ghost use Rattle.journal_view.specs.Words.{flag_at, picture_in, picture_of, program_app, sequence_rule, the_app};
+ghost use Rattle.journal_view.specs.Words.{flag_at, picture_in, picture_of, program_app, sequence_rule, the_app, trace_rule};
 
 use clap::error::ErrorKind;
 use clap::{Arg, ArgAction, ArgMatches, Command, Error};
@@ -15,6 +15,8 @@ use std::alloc::{AllocError, Global};
 pub enum Picture {
     /// `--sequence`: a sequence diagram, in the text of Mermaid.
     Sequence,
+    /// `--trace`: a trace, in the JSON of the Chrome trace event format.
+    Trace,
 }
 
 /// `--sequence`: the sequence diagram.
@@ -24,6 +26,16 @@ fn sequence<'a>(alloc: Global) -> Arg<'a>
 {
     Arg::new(alloc, "sequence")
         .long("sequence")
+        .action(ArgAction::SetTrue)
+}
+
+/// `--trace`: the trace.
+fn trace<'a>(alloc: Global) -> Arg<'a>
+    ensures rule { rule_of result ≡ trace_rule }
+    ensures local { result.global ≡ false }
+{
+    Arg::new(alloc, "trace")
+        .long("trace")
         .action(ArgAction::SetTrue)
 }
 
@@ -42,7 +54,7 @@ fn bare_program<'a>(alloc: Global) -> Command<'a>
 fn program<'a>(alloc: Global) -> Result<Command<'a>, AllocError>
     ensures { IfOk result (λ command. app_of command ≡ the_app) }
 {
-    bare_program(alloc).arg(sequence(alloc))
+    bare_program(alloc).arg(sequence(alloc))?.arg(trace(alloc))
 }
 
 /// Whether a flag was given.
@@ -55,14 +67,14 @@ fn flag(matches: &ArgMatches<'_>, id: &str) -> bool
     }
 }
 
-/// Which picture the flags ask for.
+/// Which picture the flags ask for: exactly one of them.
 fn asked(matches: &ArgMatches<'_>) -> Option<Picture>
     ensures { result ≡ picture_in (rows_of (found_of matches.now)) }
 {
-    if flag(matches, "sequence") {
-        Some(Picture::Sequence)
-    } else {
-        None
+    match (flag(matches, "sequence"), flag(matches, "trace")) {
+        (true, false) => Some(Picture::Sequence),
+        (false, true) => Some(Picture::Trace),
+        _ => None,
     }
 }
 
@@ -76,7 +88,7 @@ fn refused(error: &Error) -> Result<Option<Picture>, NoMemory>
     }
 }
 
-/// Which picture the words after the program's name ask for: `--sequence`. None where the words are refused.
+/// Which picture the words after the program's name ask for: `--sequence` or `--trace`. None where the words are refused.
 pub fn read_words(alloc: Global, words: &[&str]) -> Result<Option<Picture>, NoMemory>
     ensures { IfOk result (λ picture. picture ≡ picture_of (map (λ word. word.now) words.now)) }
 {

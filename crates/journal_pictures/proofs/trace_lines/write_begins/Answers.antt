@@ -1,0 +1,9 @@
+use Rattle.std.proofs.Common.{arith}
+use Rattle.std.proofs.lemmas.Result.{on_ok_weaker}
+use Rattle.journal_pictures.specs.Trace.{span_begin}
+use Rattle.journal_pictures.proofs.Lines.{lines-step, lines-end}
+use Rattle.journal_pictures.proofs.trace_lines.write_begins.Goals as goal
+
+pub loop-entry-preserved : goal.loop-entry-preserved
+loop-entry-preserved c =
+    lines-step (span_begin c.args.place c.args.origin) c.args.entries.now c.loop-entry.entry-index c.entry-item.result c.loop-entry.text _ _ (omega arith) c.entry-item.is c.in_ok-write_begin.ensures c.loop-entry.invariant

@@ -1,0 +1,145 @@
+//! The notification slots that a put has set and no reset has read.
+
+ghost use Rattle.std.specs.Prelude.{◌≡◌, IfOk, OnOk, find};
+ghost use Rattle.journal_pictures.specs.Diagram.{receiver};
+ghost use Rattle.journal_pictures.specs.OpenEntries.{is_slot, slots_after, slots_put, with_slot, without_slot};
+
+use crate::deliveries::Delivery;
+use crate::open_entries::OpenEntry;
+use gaspi_types::{Call, Direction, Event, NoMemory, Outcome, QueueId, RankId, Reply, Rows};
+use std::alloc::Global;
+
+/// A notification slot of a rank that is set, and the put that has set it: of which rank and queue, and at which place.
+#[derive(Clone, Copy, Debug, PartialEq, Eq)]
+pub struct SetSlot {
+    pub rank: RankId,
+    pub segment: u64,
+    pub note: u64,
+    pub origin: RankId,
+    pub queue: QueueId,
+    pub place: u64,
+}
+
+/// Whether it is that slot.
+fn is_slot(slot: &SetSlot, rank: RankId, segment: u64, note: u64) -> bool
+    ensures { result ≡ is_slot rank segment note slot.now }
+{
+    slot.rank.number() == rank.number() && slot.segment == segment && slot.note == note
+}
+
+/// That slot, where it is set.
+pub fn slot_at(slots: &[SetSlot], rank: RankId, segment: u64, note: u64) -> Option<SetSlot>
+    ensures { result ≡ find (is_slot rank segment note) slots.now }
+{
+    slots
+        .iter()
+        .copied()
+        .find(|slot| is_slot(slot, rank, segment, note))
+}
+
+/// The slots without that one.
+fn without_slot(
+    alloc: Global,
+    slots: &[SetSlot],
+    rank: RankId,
+    segment: u64,
+    note: u64,
+) -> Result<Rows<SetSlot>, NoMemory>
+    ensures { IfOk result (λ list. list ≡ without_slot rank segment note slots.now) }
+{
+    let kept = slots
+        .iter()
+        .copied()
+        .filter(|slot| !is_slot(slot, rank, segment, note))
+        .collect(alloc)?;
+    Ok(Rows::from_vec(kept))
+}
+
+/// Frees a slot.
+fn free_slot(
+    slots: &mut Rows<SetSlot>,
+    rank: RankId,
+    segment: u64,
+    note: u64,
+) -> Result<(), NoMemory>
+    ensures { OnOk result (slots.new ≡ without_slot rank segment note slots.old) }
+{
+    let alloc = slots.allocator();
+    *slots = without_slot(alloc, slots.as_slice(), rank, segment, note)?;
+    Ok(())
+}
+
+/// Sets a slot.
+fn set_slot(slots: &mut Rows<SetSlot>, slot: SetSlot) -> Result<(), NoMemory>
+    ensures { OnOk result (slots.new ≡ with_slot slot slots.old) }
+{
+    free_slot(slots, slot.rank, slot.segment, slot.note)?;
+    slots.push(slot)
+}
+
+/// The rank to which an entry brings it.
+fn receiver(direction: Direction, origin: RankId, target: RankId) -> RankId
+    ensures { result ≡ receiver direction origin target }
+{
+    match direction {
+        Direction::Outward => target,
+        Direction::Inward => origin,
+    }
+}
+
+/// Passes a put at a place, of an entry that brings that.
+fn pass_put(
+    slots: &mut Rows<SetSlot>,
+    place: u64,
+    origin: RankId,
+    queue: QueueId,
+    target: RankId,
+    entry: Option<OpenEntry>,
+) -> Result<(), NoMemory>
+    ensures { OnOk result (slots.new ≡ slots_put place origin queue target entry slots.old) }
+{
+    match entry {
+        Some(
+            OpenEntry {
+                delivery: Delivery::Notification {
+                    direction,
+                    segment,
+                    note,
+                    ..
+                },
+                ..
+            },
+        ) => set_slot(
+            slots,
+            SetSlot {
+                rank: receiver(direction, origin, target),
+                segment,
+                note,
+                origin,
+                queue,
+                place,
+            },
+        ),
+        _ => Ok(()),
+    }
+}
+
+/// Passes an event.
+pub fn pass_slots(
+    slots: &mut Rows<SetSlot>,
+    place: u64,
+    event: &Event,
+    entry: Option<OpenEntry>,
+) -> Result<(), NoMemory>
+    ensures { OnOk result (slots.new ≡ slots_after entry place event.now slots.old) }
+{
+    match event {
+        Event::Put(origin, queue, target, _, Outcome::Applied) => {
+            pass_put(slots, place, *origin, *queue, *target, entry)
+        }
+        Event::Called(caller, Call::Reset(call), Reply::Value(_)) => {
+            free_slot(slots, caller.rank, call.seg, call.note)
+        }
+        _ => Ok(()),
+    }
+}

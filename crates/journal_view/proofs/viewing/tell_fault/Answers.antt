@@ -1,0 +1,17 @@
+use Rattle.std.proofs.Common.{arith, refl}
+use Rattle.std.proofs.lemmas.Result.{IfOk-weaker}
+use Rattle.call_texts.proofs.FedLines.{lines-short}
+use Rattle.journal_view.proofs.viewing.tell_fault.Goals as goal
+
+pub overflow_add-number : goal.overflow_add-number
+overflow_add-number c =
+    let faulty = c.requires.faulty c.in-At.line c.in-At.is in
+    let within = faulty.within in
+    let short = lines-short c.args.text.now in
+    omega (arith, c.requires.number)
+
+pub returns-in-At : goal.returns-in-At
+returns-in-At c =
+    IfOk-weaker c.tell_no_journal.result _ _
+    (λ told none. record { line = c.in-At.line; faulty = c.requires.faulty c.in-At.line c.in-At.is; none = none })
+    c.tell_no_journal.ensures
