@@ -1,362 +1,170 @@
 //! Jacobi's method on a line of cells, by four ranks on threads that write their border cells into each other's halo cells. (own choice)
 //!
 //! Each new cell is the half of the sum of its two neighbours, rounded towards 0. Beyond the left end of the line stands 0, beyond
-//! the right end `RIGHT`. Written are the number of iterations, the residual, the cells of each rank, and whether the journal is
-//! legal. A call that is answered otherwise than it should be ends its rank: standard error names both, and the status is 1.
+//! the right end `END`. Written are the number of iterations, the residual, the cells of each rank, and whether the journal is legal.
+//!
+//! Segment 0 of a rank has ten cells of eight bytes: a halo cell, the eight cells of the rank, and another halo cell. What is written
+//! into a halo cell is notified under the number of that cell.
 #![tactic(auto)]
 
 ghost use Rattle.rank_programs.specs.Callers.{IsCaller, StaysCaller};
 
+use anyhow::{Result, bail, ensure};
 use byteorder::{ByteOrder, LittleEndian};
 use call_journal::{Verdict, check};
-use gaspi_types::{
-    Allreduce, CallerId, Load, NoMemory, NumType, Numbers, Op, Reset, Rows, Shape, ShapeFault,
-    Store, Timeout, Wait as WaitQueue, Waitsome, WriteNotify,
-};
-use gaspi_world::Rank;
-use rank_programs::{
-    Program, Ran, RunFault, Unexpected, bytes, done, id, numbers, run_program, value,
-};
+use gaspi_types::{NumType, Op, Shape, Timeout, WriteNotify};
+use rank_programs::{Caller, Program, RunFault, run_program};
 use std::alloc::Global;
-use std::io;
 use std::sync::Wait;
-use thiserror::Error;
 
 /// The last rank of the line.
-const LAST: u32 = 3;
-
-/// How many cells a rank has, and how many with a halo cell at either side. Each has eight bytes of the rank's segment 0.
-const CELLS: usize = 8;
-
-const WITH_HALO: usize = 10;
+const LAST: u64 = 3;
 
 /// What stands beyond the right end.
-const RIGHT: i64 = 1_048_576;
+const END: i64 = 1_048_576;
+
+/// The halo cells of a rank. Its border cells are 1 and 8.
+const LEFT_HALO: u32 = 0;
+
+const RIGHT_HALO: u32 = 9;
 
 /// The residual that is small enough, and how many iterations there are at most.
-const SMALL: i64 = 1_024;
+const SMALL: i128 = 1_024;
 
 const MOST: u32 = 1_000;
 
 /// How often a call may look that waits.
 const LOOKS: Timeout = Timeout::Looks(1_000_000);
 
-/// A neighbour: its rank, the offsets of the border cell here and of the halo cell there, and the notifications of what is written there
-/// and here.
-#[derive(Clone, Copy)]
-struct Neighbour {
-    rank: u64,
-    border: u64,
-    halo: u64,
-    there: u64,
-    here: u64,
-}
+/// What a rank came to: the number of iterations, by how much a cell of any rank has changed at most in the last one, its cells.
+type Solved = (u32, i128, [i64; 8]);
 
-/// What a rank came to.
-#[derive(Drop)]
-struct Solved {
-    iterations: u32,
-    residual: i64,
-    cells: [i64; CELLS],
-}
-
-/// Why the program failed.
-#[derive(Debug, Drop, Error)]
-enum Failure {
-    #[error("out of memory")]
-    NoMemory,
-    #[error("shape: {0}")]
-    Shape(#[from] ShapeFault),
-    #[error("run: {0}")]
-    Run(#[from] RunFault),
-    #[error("call: {0}")]
-    Call(#[from] Unexpected),
-    #[error("wrong {0}")]
-    Wrong(&'static str),
-    #[error("too many iterations")]
-    Unsolved,
-    #[error("a rank failed")]
-    Rank,
-    #[error("the journal is not legal")]
-    Illegal,
-    #[error("output: {0}")]
-    Output(#[from] io::Error),
-}
-
-impl From<NoMemory> for Failure {
-    fn from(_error: NoMemory) -> Failure {
-        Failure::NoMemory
-    }
-}
-
-/// The neighbour at the left of a rank.
-fn left_of(rank: u32) -> Option<Neighbour> {
-    if rank == 0 {
-        return None;
-    }
-    Some(Neighbour {
-        rank: u64::from(rank - 1),
-        border: 8,
-        halo: 72,
-        there: 1,
-        here: 0,
-    })
-}
-
-/// The neighbour at the right of a rank.
-fn right_of(rank: u32) -> Option<Neighbour> {
-    if rank >= LAST {
-        return None;
-    }
-    Some(Neighbour {
-        rank: u64::from(rank + 1),
-        border: 64,
-        halo: 0,
-        there: 0,
-        here: 1,
-    })
-}
-
-/// The cells in the bytes of a segment, halo cells too.
-fn cells_in(bytes: &[u8]) -> Option<[i64; WITH_HALO]> {
-    if bytes.len() < 80 {
-        return None;
-    }
-    let mut cells = [0; WITH_HALO];
-    for place in 0..WITH_HALO {
-        cells[place] = LittleEndian::read_i64(&bytes[8 * place..]);
-    }
-    Some(cells)
-}
-
-/// The bytes of cells.
-fn bytes_of(cells: &[i64; CELLS]) -> [u8; 64] {
-    let mut bytes = [0; 64];
-    for place in 0..CELLS {
-        LittleEndian::write_i64(&mut bytes[8 * place..], cells[place]);
-    }
-    bytes
-}
-
-/// The new cells of old ones.
-fn new_cells(old: &[i64; WITH_HALO]) -> [i64; CELLS] {
-    let mut new = [0; CELLS];
-    for place in 0..CELLS {
-        new[place] = old[place].midpoint(old[place + 2]);
-    }
-    new
-}
-
-/// By how much a cell has changed at most.
-fn change(old: &[i64; WITH_HALO], new: &[i64; CELLS]) -> i64 {
-    let mut most = 0;
-    for place in 0..CELLS {
-        let by = new[place].saturating_sub(old[place + 1]);
-        most = most.max(by.saturating_abs());
-    }
-    most
-}
-
-/// Puts bytes into the own segment.
-fn store<R: Wait>(
-    rt: &R,
-    alloc: Global,
-    rank: &mut Rank<'_>,
-    offset: u64,
-    bytes: &[u8],
-) -> Result<(), Failure>
-    requires { IsCaller rank.old }
-    ensures { StaysCaller rank.old rank.new }
+/// Writes a border cell into a halo cell of a neighbour, and notifies it.
+fn send<R: Wait>(caller: &mut Caller<'_, R>, to: Option<u64>, cell: u32, halo: u32) -> Result<()>
+    requires { IsCaller caller.old }
+    ensures { StaysCaller caller.old caller.new }
 {
-    let args = Store {
-        seg: 0,
-        offset,
-        bytes: Rows::copied_from(alloc, bytes)?,
-    };
-    done("gaspi_store", rank.gaspi_store(rt, alloc, args))?;
-    Ok(())
-}
-
-/// The cells of the own segment, halo cells too.
-fn load<R: Wait>(rt: &R, alloc: Global, rank: &mut Rank<'_>) -> Result<[i64; WITH_HALO], Failure>
-    requires { IsCaller rank.old }
-    ensures { StaysCaller rank.old rank.new }
-{
-    let args = Load {
-        seg: 0,
-        offset: 0,
-        size: 80,
-    };
-    let bytes = bytes("gaspi_load", rank.gaspi_load(rt, alloc, args))?;
-    cells_in(bytes.as_slice()).ok_or(Failure::Wrong("cells"))
-}
-
-/// Writes the border cell into the halo cell of a neighbour, with the iteration as a notification behind it.
-fn send<R: Wait>(
-    rt: &R,
-    alloc: Global,
-    rank: &mut Rank<'_>,
-    to: Option<Neighbour>,
-    iteration: u32,
-) -> Result<(), Failure>
-    requires { IsCaller rank.old }
-    ensures { StaysCaller rank.old rank.new }
-{
-    let Some(to) = to else {
+    let Some(rank) = to else {
         return Ok(());
     };
-    let args = WriteNotify {
+    caller.write_notify(WriteNotify {
         seg: 0,
-        offset: to.border,
-        rank: to.rank,
+        offset: 8 * u64::from(cell),
+        rank,
         rseg: 0,
-        roffset: to.halo,
+        roffset: 8 * u64::from(halo),
         size: 8,
-        note: to.there,
-        value: iteration,
+        note: u64::from(halo),
+        value: 1,
         queue: 0,
-    };
-    let told = rank.gaspi_write_notify(rt, alloc, args);
-    done("gaspi_write_notify", told)?;
+    })?;
     Ok(())
 }
 
-/// Waits until a neighbour has written its border cell of an iteration into the halo cell here.
-fn receive<R: Wait>(
-    rt: &R,
-    alloc: Global,
-    rank: &mut Rank<'_>,
-    from: Option<Neighbour>,
-    iteration: u32,
-) -> Result<(), Failure>
-    requires { IsCaller rank.old }
-    ensures { StaysCaller rank.old rank.new }
+/// Waits until a neighbour has written into a halo cell.
+fn receive<R: Wait>(caller: &mut Caller<'_, R>, from: Option<u64>, halo: u32) -> Result<()>
+    requires { IsCaller caller.old }
+    ensures { StaysCaller caller.old caller.new }
 {
-    let Some(from) = from else {
-        return Ok(());
-    };
-    let args = Waitsome {
-        seg: 0,
-        begin: from.here,
-        num: 1,
-    };
-    let told = rank.gaspi_notify_waitsome(rt, alloc, args, LOOKS);
-    let note = u64::from(id("gaspi_notify_waitsome", told)?);
-    let told = rank.gaspi_notify_reset(rt, alloc, Reset { seg: 0, note });
-    if value("gaspi_notify_reset", told)? != u64::from(iteration) {
-        return Err(Failure::Wrong("notification"));
-    }
-    Ok(())
-}
-
-/// Waits until what was sent has been read from the border cells: new ones may be stored then.
-fn wait<R: Wait>(rt: &R, alloc: Global, rank: &mut Rank<'_>) -> Result<(), Failure>
-    requires { IsCaller rank.old }
-    ensures { StaysCaller rank.old rank.new }
-{
-    let told = rank.gaspi_wait(rt, alloc, WaitQueue { queue: 0 }, LOOKS);
-    done("gaspi_wait", told)?;
-    Ok(())
-}
-
-/// The greatest change of all ranks. Each has read its halo cells once all have come here, so these may be written again.
-fn greatest<R: Wait>(
-    rt: &R,
-    alloc: Global,
-    rank: &mut Rank<'_>,
-    change: i64,
-) -> Result<i64, Failure>
-    requires { IsCaller rank.old }
-    ensures { StaysCaller rank.old rank.new }
-{
-    let items = Rows::copied_from(alloc, &[i128::from(change)])?;
-    let args = Allreduce {
-        group: 0,
-        op: Op::Max,
-        values: Numbers::new(NumType::Long, items),
-    };
-    let told = rank.gaspi_allreduce(rt, alloc, args, LOOKS);
-    let numbers = numbers("gaspi_allreduce", told)?;
-    match numbers.items() {
-        [number] => i64::try_from(*number).map_err(|_| Failure::Wrong("residual")),
-        _ => Err(Failure::Wrong("residual")),
-    }
-}
-
-/// One iteration of a rank: its new cells, and the residual.
-fn iterate<R: Wait>(
-    rt: &R,
-    alloc: Global,
-    rank: &mut Rank<'_>,
-    own: u32,
-    iteration: u32,
-) -> Result<([i64; CELLS], i64), Failure>
-    requires { IsCaller rank.old }
-    ensures { StaysCaller rank.old rank.new }
-{
-    send(rt, alloc, rank, left_of(own), iteration)?;
-    send(rt, alloc, rank, right_of(own), iteration)?;
-    receive(rt, alloc, rank, left_of(own), iteration)?;
-    receive(rt, alloc, rank, right_of(own), iteration)?;
-    let old = load(rt, alloc, rank)?;
-    let new = new_cells(&old);
-    wait(rt, alloc, rank)?;
-    store(rt, alloc, rank, 8, &bytes_of(&new))?;
-    let residual = greatest(rt, alloc, rank, change(&old, &new))?;
-    Ok((new, residual))
-}
-
-/// Stores what stands beyond the right end, where the rank is the last.
-fn begin<R: Wait>(rt: &R, alloc: Global, rank: &mut Rank<'_>, own: u32) -> Result<(), Failure>
-    requires { IsCaller rank.old }
-    ensures { StaysCaller rank.old rank.new }
-{
-    if own < LAST {
+    if from.is_none() {
         return Ok(());
     }
-    store(rt, alloc, rank, 72, &RIGHT.to_le_bytes())
+    let note = caller.notify_waitsome(0, u64::from(halo), 1, LOOKS)?;
+    caller.notify_reset(0, note)?;
+    Ok(())
+}
+
+/// The cells of the segment, once the neighbours have written into the halo cells.
+fn exchange<R: Wait>(caller: &mut Caller<'_, R>) -> Result<[i64; 10]>
+    requires { IsCaller caller.old }
+    ensures { StaysCaller caller.old caller.new }
+{
+    let own = caller.proc_rank();
+    let left = own.checked_sub(1);
+    let right = (own < LAST).then_some(own + 1);
+    send(caller, left, 1, RIGHT_HALO)?;
+    send(caller, right, 8, LEFT_HALO)?;
+    receive(caller, left, LEFT_HALO)?;
+    receive(caller, right, RIGHT_HALO)?;
+    let bytes = caller.load(0, 0, 80)?;
+    ensure!(bytes.len() == 80, "wrong cells");
+    let mut cells = [0; 10];
+    LittleEndian::read_i64_into(bytes.as_slice(), &mut cells);
+    Ok(cells)
+}
+
+/// The new cells of old ones, and by how much a cell has changed at most.
+fn new_cells(old: &[i64; 10]) -> ([i64; 8], i64) {
+    let mut new = [0; 8];
+    let mut most = 0;
+    for place in 0..8 {
+        new[place] = old[place].midpoint(old[place + 2]);
+        let change = new[place].saturating_sub(old[place + 1]);
+        most = most.max(change.saturating_abs());
+    }
+    (new, most)
+}
+
+/// Stores the new cells, and gives the residual.
+fn settle<R: Wait>(caller: &mut Caller<'_, R>, cells: &[i64; 8], change: i64) -> Result<i128>
+    requires { IsCaller caller.old }
+    ensures { StaysCaller caller.old caller.new }
+{
+    // What was sent has been read then, so the border cells may be written again.
+    caller.wait(0, LOOKS)?;
+    let mut bytes = [0; 64];
+    LittleEndian::write_i64_into(cells, &mut bytes);
+    caller.store(0, 8, &bytes)?;
+    // All ranks have loaded their halo cells then, so these may be written again.
+    let most = caller.allreduce(&[i128::from(change)], Op::Max, NumType::Long, 0, LOOKS)?;
+    match most.items() {
+        [residual] => Ok(*residual),
+        _ => bail!("wrong residual"),
+    }
 }
 
 /// Iterations until the residual is small.
-fn solve<R: Wait>(rt: &R, alloc: Global, rank: &mut Rank<'_>, own: u32) -> Result<Solved, Failure>
-    requires { IsCaller rank.old }
-    ensures { StaysCaller rank.old rank.new }
+fn solve<R: Wait>(caller: &mut Caller<'_, R>) -> Result<Solved>
+    requires { IsCaller caller.old }
+    ensures { StaysCaller caller.old caller.new }
 {
-    for iteration in 1..=MOST {
-        let (cells, residual) = iterate(rt, alloc, rank, own, iteration)?;
+    for iterations in 1..=MOST {
+        let old = exchange(caller)?;
+        let (cells, change) = new_cells(&old);
+        let residual = settle(caller, &cells, change)?;
         if residual <= SMALL {
-            return Ok(Solved {
-                iterations: iteration,
-                residual,
-                cells,
-            });
+            return Ok((iterations, residual, cells));
         }
     }
-    Err(Failure::Unsolved)
+    bail!("too many iterations")
+}
+
+/// Stores what stands beyond the right end, where the rank is the last.
+fn begin<R: Wait>(caller: &mut Caller<'_, R>) -> Result<()>
+    requires { IsCaller caller.old }
+    ensures { StaysCaller caller.old caller.new }
+{
+    if caller.proc_rank() == LAST {
+        caller.store(0, 8 * u64::from(RIGHT_HALO), &END.to_le_bytes())?;
+    }
+    Ok(())
 }
 
 /// What each rank does.
 struct Jacobi;
 
 impl Program for Jacobi {
-    type Outcome = Result<Solved, Failure>;
+    type Outcome = Result<Solved>;
 
-    fn run<R: Wait>(
-        &self,
-        rt: &R,
-        alloc: Global,
-        caller: CallerId,
-        rank: &mut Rank<'_>,
-    ) -> Result<Solved, Failure> {
-        let own = caller.rank.number();
-        begin(rt, alloc, rank, own)?;
-        solve(rt, alloc, rank, own)
+    fn run<R: Wait>(&self, caller: &mut Caller<'_, R>) -> Result<Solved> {
+        begin(caller)?;
+        solve(caller)
     }
 }
 
 /// Four ranks with a segment and a caller each. A rank records some 20 events in an iteration.
-fn line(alloc: Global) -> Result<Shape, ShapeFault> {
-    let mut shape = Shape::new(alloc, 4, 1, 4, 2, 1, 21_000)?;
+fn line(alloc: Global) -> Result<Shape> {
+    let mut shape = Shape::new(alloc, 4, 1, 4, 10, 1, 21_000)?;
     for rank in 0..4 {
         shape.add_segment(rank, 0, 80)?;
         shape.add_caller(rank, 0)?;
@@ -364,32 +172,17 @@ fn line(alloc: Global) -> Result<Shape, ShapeFault> {
     Ok(shape)
 }
 
-fn main(rt: HostRuntime) -> Result<(), Failure> {
+fn main(rt: HostRuntime) -> Result<()> {
     let alloc = rt.alloc();
     let shape = line(alloc)?;
-    let Ran { journal, outcomes } = run_program(&rt, alloc, &shape, &Jacobi, 1)?;
-    let mut failed = false;
-    for (rank, outcome) in outcomes.as_slice().iter().enumerate() {
-        match outcome {
-            Ok(solved) => {
-                println!(rt;
-                    "rank {rank} iterations {} residual {}",
-                    solved.iterations, solved.residual
-                )?;
-                println!(rt; "cells {:?}", solved.cells)?;
-            }
-            Err(failure) => {
-                eprintln!(rt; "rank {rank}: {failure}")?;
-                failed = true;
-            }
-        }
+    let ran = run_program(&rt, alloc, &shape, &Jacobi, 1)?;
+    for (rank, outcome) in ran.outcomes.into_iter().enumerate() {
+        let (iterations, residual, cells) = outcome?;
+        println!(rt; "rank {rank} iterations {iterations} residual {residual}")?;
+        println!(rt; "cells {cells:?}")?;
     }
-    if failed {
-        return Err(Failure::Rank);
-    }
-    if check(alloc, &shape, &journal)? != Verdict::Legal {
-        return Err(Failure::Illegal);
-    }
-    println!(rt; "legal {}", journal.len())?;
+    let verdict = check(alloc, &shape, &ran.journal).map_err(RunFault::from)?;
+    ensure!(verdict == Verdict::Legal, "the journal is not legal");
+    println!(rt; "legal {}", ran.journal.len())?;
     Ok(())
 }

@@ -1,15 +1,18 @@
 //! Ranks that run a program of your own, each caller on a thread, beside workers that make the transfers. (own choice)
 //!
-//! A `Program` says what a caller does by the calls of its rank. `run_program` starts a world, runs the program for each of its
-//! callers, and workers, each on a thread of its own, and closes the world: it gives the journal, and what each caller came to.
-//! `done`, `value` and others read a reply as what the call answers where nothing goes wrong.
+//! A `Program` says what a `Caller` does. Its procedures are methods, which give what the call answers where nothing goes wrong; any
+//! other reply is `Unexpected`. `run_program` starts a world, runs the program for each of its callers, and workers, each on a thread
+//! of its own, and closes the world: it gives the journal, and what each caller came to.
 #![tactic(auto)]
 
+mod callers;
 mod parts;
+mod procedures;
 mod programs;
 mod replies;
 mod running;
 
+pub use callers::Caller;
 pub use programs::Program;
 pub use replies::{Unexpected, bytes, done, id, mask, numbers, value};
 pub use running::{Ran, RunFault, run_program};

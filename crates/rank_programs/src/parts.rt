@@ -6,6 +6,7 @@ ghost use Rattle.gaspi_world.specs.Calling.{MayCall};
 ghost use Rattle.gaspi_world.specs.Callers.{IsWorkers};
 ghost use Rattle.transfer_worker.specs.Turns.{GoesOn, IsDrained};
 
+use crate::callers::Caller;
 use crate::programs::Program;
 use gaspi_types::{Call, Timeout};
 use gaspi_world::{Body, Pass, Rank, World};
@@ -23,20 +24,20 @@ pub(crate) enum Part<'a, P, T> {
 }
 
 /// Runs the program for the caller of a pass, and makes the caller's end.
-fn run_caller<R: Wait, P: Program>(
-    rt: &R,
+fn run_caller<'a, R: Wait, P: Program>(
+    rt: &'a R,
     alloc: Global,
-    world: &World,
-    pass: &mut Pass,
+    world: &'a World,
+    pass: &'a mut Pass,
     program: &P,
 ) -> P::Outcome
     requires { MayCall world.now pass.old }
     ensures { MayCall world.now pass.new }
 {
-    let caller = world.caller_of(pass);
-    let mut rank = Rank { world, pass };
-    let outcome = program.run(rt, alloc, caller, &mut rank);
-    let _ = rank.call(rt, alloc, &Call::End, Timeout::Looks(1));
+    let rank = Rank { world, pass };
+    let mut caller = Caller { rt, alloc, rank };
+    let outcome = program.run(&mut caller);
+    let _ = caller.rank.call(rt, alloc, &Call::End, Timeout::Looks(1));
     outcome
 }
 

@@ -1,27 +1,17 @@
 //! Programs of callers. (own choice)
 
-use gaspi_types::CallerId;
-use gaspi_world::Rank;
-use std::alloc::Global;
+use crate::callers::Caller;
 use std::sync::Wait;
 
 /// What each caller of a world does. (own choice)
 pub trait Program {
-    ghost use Rattle.gaspi_world.specs.Callers.{IsPassOf};
     ghost use Rattle.rank_programs.specs.Callers.{IsCaller, StaysCaller};
 
     /// What a caller comes to.
     type Outcome: Drop;
 
-    /// Makes the calls of a caller, by its rank. The caller's end is made behind it.
-    fn run<R: Wait>(
-        &self,
-        rt: &R,
-        alloc: Global,
-        caller: CallerId,
-        rank: &mut Rank<'_>,
-    ) -> Self::Outcome
-        requires rank { IsCaller rank.old }
-        requires caller { IsPassOf rank.old.world.now.start.shape caller rank.old.pass.now.known }
-        ensures { StaysCaller rank.old rank.new };
+    /// Makes the calls of a caller. Its end is made behind it.
+    fn run<R: Wait>(&self, caller: &mut Caller<'_, R>) -> Self::Outcome
+        requires { IsCaller caller.old }
+        ensures { StaysCaller caller.old caller.new };
 }

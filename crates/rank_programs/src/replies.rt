@@ -1,7 +1,8 @@
 //! Replies, read as what a call answers where nothing goes wrong. (own choice)
 
-ghost use Rattle.std.specs.Prelude.{◌≡◌, ◌↔◌, IsOk, IfErr, Ok};
+ghost use Rattle.std.specs.Prelude.{◌≡◌, ◌↔◌, IsOk, IfErr, Ok, Err};
 ghost use Rattle.gaspi_types.specs.declared.replies.Reply.TheVariants as replies;
+ghost use Rattle.gaspi_world.specs.declared.calling.Stop.TheVariants.{NoMemory};
 
 use gaspi_types::{Bytes, Numbers, Reply};
 use gaspi_world::Stop;
@@ -38,12 +39,12 @@ pub fn value(call: &'static str, told: Result<Reply, Stop>) -> Result<u64, Unexp
 }
 
 /// The number of what it answered: of a notification slot, a group, or the rank that sent a message.
-pub fn id(call: &'static str, told: Result<Reply, Stop>) -> Result<u32, Unexpected>
+pub fn id(call: &'static str, told: Result<Reply, Stop>) -> Result<u64, Unexpected>
     ensures id { (n : _) → (result ≡ Ok n) ↔ (told ≡ Ok (replies.Id n)) }
     ensures other { IfErr result (λ e. e.told ≡ told) }
 {
     match told {
-        Ok(Reply::Id(n)) => Ok(n),
+        Ok(Reply::Id(n)) => Ok(u64::from(n)),
         told => Err(Unexpected { call, told }),
     }
 }
@@ -78,5 +79,15 @@ pub fn numbers(call: &'static str, told: Result<Reply, Stop>) -> Result<Numbers,
     match told {
         Ok(Reply::List(numbers)) => Ok(numbers),
         told => Err(Unexpected { call, told }),
+    }
+}
+
+/// There was no memory for the list of a call, which was not made.
+pub(crate) fn lacks(call: &'static str) -> Unexpected
+    ensures { result.told ≡ Err NoMemory }
+{
+    Unexpected {
+        call,
+        told: Err(Stop::NoMemory),
     }
 }

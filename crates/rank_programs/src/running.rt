@@ -192,7 +192,7 @@ fn closed(alloc: Global, world: World, passes: Passes) -> Result<Journal, RunFau
     }
 }
 
-/// Runs a program for each caller of a world, with so many workers that make its transfers, each on a thread of its own. The journal is
+/// Runs a program for each caller of a world, beside workers that make its transfers, each on a thread of its own. The journal is
 /// a legal history of the world. At its end every caller has ended, and all that was posted has arrived, but for what waits in broken
 /// queues.
 pub fn run_program<R: Threads + Wait + Sync, P: Program + Sync>(

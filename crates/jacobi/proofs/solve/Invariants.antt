@@ -1,5 +1,5 @@
 use Rattle.rank_programs.specs.Callers.{StaysCaller}
 use Rattle.jacobi.proofs.solve.Given as goal
 
-abbrev pub invariant-loop-iteration : goal.invariant-loop-iteration
-invariant-loop-iteration g l = StaysCaller l.fn.rank l.rank
+abbrev pub invariant-loop-iterations : goal.invariant-loop-iterations
+invariant-loop-iterations g l = StaysCaller l.fn.caller l.caller

@@ -1,0 +1,6 @@
+use Rattle.rank_programs.proofs.Answering.{answered-done}
+use Rattle.rank_programs.proofs.callers.Caller.call_done.Goals as goal
+
+pub returns-clause-answers : goal.returns-clause-answers
+returns-clause-answers g c =
+    answered-done c.args.call c.args.timeout c.args.self.now _ c.call-told.result c.done.result (c.call-told.ensures.calls, c.call-told.ensures.ample) c.done.ensures.done c.done.ensures.other

@@ -1,0 +1,7 @@
+use Rattle.gaspi_types.specs.declared.replies.Reply.TheVariants as replies
+use Rattle.rank_programs.proofs.Answering.{answered}
+use Rattle.rank_programs.proofs.callers.Caller.call_mask.Goals as goal
+
+pub returns-clause-answers : goal.returns-clause-answers
+returns-clause-answers g c =
+    answered c.args.call c.args.timeout c.args.self.now _ c.call-told.result replies.Mask c.mask.result (c.call-told.ensures.calls, c.call-told.ensures.ample) c.mask.ensures.mask c.mask.ensures.other

@@ -1,0 +1,146 @@
+//! Callers, and the calls that they make.
+
+ghost use Rattle.gaspi_types.specs.declared.replies.Reply.TheVariants as replies;
+ghost use Rattle.gaspi_types.specs.declared.shapes.CallerId.{CallerId};
+ghost use Rattle.timeout_state.specs.Looks.{looks_of, HasLook};
+ghost use Rattle.std.specs.Prelude.{◌≡◌, ◌<◌};
+ghost use Rattle.gaspi_world.specs.Callers.{IsPassOf};
+ghost use Rattle.rank_programs.specs.Answers.{done, Answers};
+ghost use Rattle.rank_programs.specs.Callers.{IsCaller, StaysCaller};
+
+use crate::replies;
+use crate::replies::Unexpected;
+use gaspi_types::{Bytes, Call, CallerId, Numbers, Timeout};
+use gaspi_world::Rank;
+use std::alloc::Global;
+use std::sync::Wait;
+
+/// A caller in its world, with what its calls are made with: its procedures are methods. (own choice)
+#[derive(Drop)]
+pub struct Caller<'a, R> {
+    pub rt: &'a R,
+    pub alloc: Global,
+    pub rank: Rank<'a>,
+}
+
+impl<'a, R: Wait> Caller<'a, R> {
+    /// Its rank and its thread.
+    pub fn id(&self) -> CallerId
+        requires { IsCaller self.now }
+        ensures { IsPassOf self.now.rank.world.now.start.shape result self.now.rank.pass.now.known }
+    {
+        self.rank.world.caller_of(self.rank.pass)
+    }
+
+    /// The number of its rank. (GASPI: proc_rank)
+    pub fn proc_rank(&self) -> u64
+        requires { IsCaller self.now }
+        ensures rank { (c : CallerId) → IsPassOf self.now.rank.world.now.start.shape c self.now.rank.pass.now.known → result ≡ c.rank }
+        ensures bound { result < 16 }
+    {
+        u64::from(self.rank.world.caller_of(self.rank.pass).rank.number())
+    }
+
+    /// How many ranks there are. (GASPI: proc_num)
+    pub fn proc_num(&self) -> u64
+        ensures { result ≡ self.now.rank.world.now.start.shape.limits.ranks }
+    {
+        u64::from(self.rank.world.shape().ranks())
+    }
+
+    /// Makes a call that is to be done.
+    pub(crate) fn call_done(
+        &mut self,
+        name: &'static str,
+        call: Call,
+        timeout: Timeout,
+    ) -> Result<(), Unexpected>
+        requires caller { IsCaller self.old }
+        requires timeout { HasLook (looks_of timeout) }
+        ensures stays { StaysCaller self.old self.new }
+        ensures answers { Answers done call timeout self.old result self.new }
+    {
+        let told = self.rank.call(self.rt, self.alloc, &call, timeout);
+        replies::done(name, told)
+    }
+
+    /// Makes a call that is to answer a number.
+    pub(crate) fn call_value(
+        &mut self,
+        name: &'static str,
+        call: Call,
+        timeout: Timeout,
+    ) -> Result<u64, Unexpected>
+        requires caller { IsCaller self.old }
+        requires timeout { HasLook (looks_of timeout) }
+        ensures stays { StaysCaller self.old self.new }
+        ensures answers { Answers replies.Value call timeout self.old result self.new }
+    {
+        let told = self.rank.call(self.rt, self.alloc, &call, timeout);
+        replies::value(name, told)
+    }
+
+    /// Makes a call that is to answer the number of something.
+    pub(crate) fn call_id(
+        &mut self,
+        name: &'static str,
+        call: Call,
+        timeout: Timeout,
+    ) -> Result<u64, Unexpected>
+        requires caller { IsCaller self.old }
+        requires timeout { HasLook (looks_of timeout) }
+        ensures stays { StaysCaller self.old self.new }
+        ensures answers { Answers replies.Id call timeout self.old result self.new }
+    {
+        let told = self.rank.call(self.rt, self.alloc, &call, timeout);
+        replies::id(name, told)
+    }
+
+    /// Makes a call that is to answer bytes.
+    pub(crate) fn call_bytes(
+        &mut self,
+        name: &'static str,
+        call: Call,
+        timeout: Timeout,
+    ) -> Result<Bytes, Unexpected>
+        requires caller { IsCaller self.old }
+        requires timeout { HasLook (looks_of timeout) }
+        ensures stays { StaysCaller self.old self.new }
+        ensures answers { Answers replies.Bytes call timeout self.old result self.new }
+    {
+        let told = self.rank.call(self.rt, self.alloc, &call, timeout);
+        replies::bytes(name, told)
+    }
+
+    /// Makes a call that is to answer ranks.
+    pub(crate) fn call_mask(
+        &mut self,
+        name: &'static str,
+        call: Call,
+        timeout: Timeout,
+    ) -> Result<u32, Unexpected>
+        requires caller { IsCaller self.old }
+        requires timeout { HasLook (looks_of timeout) }
+        ensures stays { StaysCaller self.old self.new }
+        ensures answers { Answers replies.Mask call timeout self.old result self.new }
+    {
+        let told = self.rank.call(self.rt, self.alloc, &call, timeout);
+        replies::mask(name, told)
+    }
+
+    /// Makes a call that is to answer numbers.
+    pub(crate) fn call_numbers(
+        &mut self,
+        name: &'static str,
+        call: Call,
+        timeout: Timeout,
+    ) -> Result<Numbers, Unexpected>
+        requires caller { IsCaller self.old }
+        requires timeout { HasLook (looks_of timeout) }
+        ensures stays { StaysCaller self.old self.new }
+        ensures answers { Answers replies.List call timeout self.old result self.new }
+    {
+        let told = self.rank.call(self.rt, self.alloc, &call, timeout);
+        replies::numbers(name, told)
+    }
+}

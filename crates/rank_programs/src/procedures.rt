@@ -1,0 +1,531 @@
+//! The procedures of a caller: each is one call, and gives what it answers where nothing goes wrong. (GASPI: the interface)
+//!
+//! The arguments come in GASPI's order. A procedure without a timeout looks once. One that is given a list copies it: `Unexpected`
+//! tells `Stop::NoMemory` where there is no memory for that, and nothing was called.
+
+ghost use Rattle.std.specs.Prelude.{length};
+ghost use Rattle.gaspi_types.specs.NumberTypes.{AreInType};
+ghost use Rattle.gaspi_types.specs.declared.calls.Call.TheVariants as calls;
+ghost use Rattle.gaspi_types.specs.declared.calls.Timeout.TheVariants.{Looks};
+ghost use Rattle.gaspi_types.specs.declared.replies.Reply.TheVariants as replies;
+ghost use Rattle.timeout_state.specs.Looks.{looks_of, HasLook};
+ghost use Rattle.rank_programs.specs.Answers.{done, Answers, AnswersOrLacks};
+ghost use Rattle.rank_programs.specs.Callers.{IsCaller, StaysCaller};
+
+use crate::callers::Caller;
+use crate::replies::{Unexpected, lacks};
+use gaspi_types::{
+    Alloc, Allreduce, Barrier, Bytes, Call, Commit, CompareSwap, Create, Delete, FetchAdd,
+    GroupAdd, GroupDelete, Item, Load, Notify, NumType, Numbers, Op, PassiveReceive, PassiveSend,
+    Purge, Qsize, Read, ReadList, ReadListNotify, ReadNotify, Register, Reset, Rows, Store,
+    Timeout, Wait as WaitQueue, Waitsome, Write, WriteList, WriteListNotify, WriteNotify,
+};
+use std::sync::Wait;
+
+impl<'a, R: Wait> Caller<'a, R> {
+    /// Makes an own segment. (GASPI: segment_alloc)
+    pub fn segment_alloc(&mut self, seg: u64, size: u64) -> Result<(), Unexpected>
+        requires { IsCaller self.old }
+        ensures stays { StaysCaller self.old self.new }
+        ensures answers { Answers done (calls.Alloc (record { seg = seg; size = size })) (Looks 1) self.old result self.new }
+    {
+        let args = Alloc { seg, size };
+        self.call_done("gaspi_segment_alloc", Call::Alloc(args), Timeout::Looks(1))
+    }
+
+    /// Makes an own segment known to a rank. (GASPI: segment_register)
+    pub fn segment_register(&mut self, seg: u64, rank: u64) -> Result<(), Unexpected>
+        requires { IsCaller self.old }
+        ensures stays { StaysCaller self.old self.new }
+        ensures answers { Answers done (calls.Register (record { seg = seg; rank = rank })) (Looks 1) self.old result self.new }
+    {
+        let args = Register { seg, rank };
+        self.call_done(
+            "gaspi_segment_register",
+            Call::Register(args),
+            Timeout::Looks(1),
+        )
+    }
+
+    /// Makes an own segment, and knows the one of each member of a group: a collective. (GASPI: segment_create)
+    pub fn segment_create(
+        &mut self,
+        seg: u64,
+        size: u64,
+        group: u64,
+        timeout: Timeout,
+    ) -> Result<(), Unexpected>
+        requires caller { IsCaller self.old }
+        requires timeout { HasLook (looks_of timeout) }
+        ensures stays { StaysCaller self.old self.new }
+        ensures answers { Answers done (calls.Create (record { seg = seg; size = size; group = group })) timeout self.old result self.new }
+    {
+        let args = Create { seg, size, group };
+        self.call_done("gaspi_segment_create", Call::Create(args), timeout)
+    }
+
+    /// Deletes an own segment. (GASPI: segment_delete)
+    pub fn segment_delete(&mut self, seg: u64) -> Result<(), Unexpected>
+        requires { IsCaller self.old }
+        ensures stays { StaysCaller self.old self.new }
+        ensures answers { Answers done (calls.Delete (record { seg = seg })) (Looks 1) self.old result self.new }
+    {
+        let args = Delete { seg };
+        self.call_done(
+            "gaspi_segment_delete",
+            Call::Delete(args),
+            Timeout::Looks(1),
+        )
+    }
+
+    /// Stores bytes into an own segment. (own choice)
+    pub fn store(&mut self, seg: u64, offset: u64, bytes: &[u8]) -> Result<(), Unexpected>
+        requires { IsCaller self.old }
+        ensures stays { StaysCaller self.old self.new }
+        ensures answers { AnswersOrLacks done (calls.Store (record { seg = seg; offset = offset; bytes = bytes.now })) (Looks 1) (length bytes.now) self.old result self.new }
+    {
+        let Ok(bytes) = Rows::copied_from(self.alloc, bytes) else {
+            return Err(lacks("gaspi_store"));
+        };
+        let args = Store { seg, offset, bytes };
+        self.call_done("gaspi_store", Call::Store(args), Timeout::Looks(1))
+    }
+
+    /// Loads bytes of an own segment. (own choice)
+    pub fn load(&mut self, seg: u64, offset: u64, size: u64) -> Result<Bytes, Unexpected>
+        requires { IsCaller self.old }
+        ensures stays { StaysCaller self.old self.new }
+        ensures answers { Answers replies.Bytes (calls.Load (record { seg = seg; offset = offset; size = size })) (Looks 1) self.old result self.new }
+    {
+        let args = Load { seg, offset, size };
+        self.call_bytes("gaspi_load", Call::Load(args), Timeout::Looks(1))
+    }
+
+    /// Posts a write into a segment of a rank. (GASPI: write)
+    pub fn write(
+        &mut self,
+        seg: u64,
+        offset: u64,
+        rank: u64,
+        rseg: u64,
+        roffset: u64,
+        size: u64,
+        queue: u64,
+    ) -> Result<(), Unexpected>
+        requires { IsCaller self.old }
+        ensures stays { StaysCaller self.old self.new }
+        ensures answers { Answers done (calls.Write (record { seg = seg; offset = offset; rank = rank; rseg = rseg; roffset = roffset; size = size; queue = queue })) (Looks 1) self.old result self.new }
+    {
+        let args = Write {
+            seg,
+            offset,
+            rank,
+            rseg,
+            roffset,
+            size,
+            queue,
+        };
+        self.call_done("gaspi_write", Call::Write(args), Timeout::Looks(1))
+    }
+
+    /// Posts a read from a segment of a rank. (GASPI: read)
+    pub fn read(
+        &mut self,
+        seg: u64,
+        offset: u64,
+        rank: u64,
+        rseg: u64,
+        roffset: u64,
+        size: u64,
+        queue: u64,
+    ) -> Result<(), Unexpected>
+        requires { IsCaller self.old }
+        ensures stays { StaysCaller self.old self.new }
+        ensures answers { Answers done (calls.Read (record { seg = seg; offset = offset; rank = rank; rseg = rseg; roffset = roffset; size = size; queue = queue })) (Looks 1) self.old result self.new }
+    {
+        let args = Read {
+            seg,
+            offset,
+            rank,
+            rseg,
+            roffset,
+            size,
+            queue,
+        };
+        self.call_done("gaspi_read", Call::Read(args), Timeout::Looks(1))
+    }
+
+    /// Posts a notification of a rank. (GASPI: notify)
+    pub fn notify(
+        &mut self,
+        rseg: u64,
+        rank: u64,
+        note: u64,
+        value: u32,
+        queue: u64,
+    ) -> Result<(), Unexpected>
+        requires { IsCaller self.old }
+        ensures stays { StaysCaller self.old self.new }
+        ensures answers { Answers done (calls.Notify (record { rseg = rseg; rank = rank; note = note; value = value; queue = queue })) (Looks 1) self.old result self.new }
+    {
+        let args = Notify {
+            rseg,
+            rank,
+            note,
+            value,
+            queue,
+        };
+        self.call_done("gaspi_notify", Call::Notify(args), Timeout::Looks(1))
+    }
+
+    /// Posts a write, and a notification behind it. (GASPI: write_notify)
+    pub fn write_notify(&mut self, args: WriteNotify) -> Result<(), Unexpected>
+        requires { IsCaller self.old }
+        ensures stays { StaysCaller self.old self.new }
+        ensures answers { Answers done (calls.WriteNotify args) (Looks 1) self.old result self.new }
+    {
+        self.call_done(
+            "gaspi_write_notify",
+            Call::WriteNotify(args),
+            Timeout::Looks(1),
+        )
+    }
+
+    /// Posts a read, and behind it a notification of an own slot. (GASPI: read_notify)
+    pub fn read_notify(&mut self, args: ReadNotify) -> Result<(), Unexpected>
+        requires { IsCaller self.old }
+        ensures stays { StaysCaller self.old self.new }
+        ensures answers { Answers done (calls.ReadNotify args) (Looks 1) self.old result self.new }
+    {
+        self.call_done(
+            "gaspi_read_notify",
+            Call::ReadNotify(args),
+            Timeout::Looks(1),
+        )
+    }
+
+    /// Posts a write for each item. (GASPI: write_list)
+    pub fn write_list(&mut self, items: &[Item], rank: u64, queue: u64) -> Result<(), Unexpected>
+        requires { IsCaller self.old }
+        ensures stays { StaysCaller self.old self.new }
+        ensures answers { AnswersOrLacks done (calls.WriteList (record { rank = rank; queue = queue; items = items.now })) (Looks 1) (length items.now) self.old result self.new }
+    {
+        let Ok(items) = Rows::copied_from(self.alloc, items) else {
+            return Err(lacks("gaspi_write_list"));
+        };
+        let args = WriteList { rank, queue, items };
+        self.call_done("gaspi_write_list", Call::WriteList(args), Timeout::Looks(1))
+    }
+
+    /// Posts a write for each item, and a notification behind them. (GASPI: write_list_notify)
+    pub fn write_list_notify(
+        &mut self,
+        items: &[Item],
+        rank: u64,
+        nseg: u64,
+        note: u64,
+        value: u32,
+        queue: u64,
+    ) -> Result<(), Unexpected>
+        requires { IsCaller self.old }
+        ensures stays { StaysCaller self.old self.new }
+        ensures answers { AnswersOrLacks done (calls.WriteListNotify (record { rank = rank; queue = queue; nseg = nseg; note = note; value = value; items = items.now })) (Looks 1) (length items.now) self.old result self.new }
+    {
+        let Ok(items) = Rows::copied_from(self.alloc, items) else {
+            return Err(lacks("gaspi_write_list_notify"));
+        };
+        let args = WriteListNotify {
+            rank,
+            queue,
+            nseg,
+            note,
+            value,
+            items,
+        };
+        self.call_done(
+            "gaspi_write_list_notify",
+            Call::WriteListNotify(args),
+            Timeout::Looks(1),
+        )
+    }
+
+    /// Posts a read for each item. (GASPI: read_list)
+    pub fn read_list(&mut self, items: &[Item], rank: u64, queue: u64) -> Result<(), Unexpected>
+        requires { IsCaller self.old }
+        ensures stays { StaysCaller self.old self.new }
+        ensures answers { AnswersOrLacks done (calls.ReadList (record { rank = rank; queue = queue; items = items.now })) (Looks 1) (length items.now) self.old result self.new }
+    {
+        let Ok(items) = Rows::copied_from(self.alloc, items) else {
+            return Err(lacks("gaspi_read_list"));
+        };
+        let args = ReadList { rank, queue, items };
+        self.call_done("gaspi_read_list", Call::ReadList(args), Timeout::Looks(1))
+    }
+
+    /// Posts a read for each item, and behind them a notification of an own slot. (GASPI: read_list_notify)
+    pub fn read_list_notify(
+        &mut self,
+        items: &[Item],
+        rank: u64,
+        nseg: u64,
+        note: u64,
+        queue: u64,
+    ) -> Result<(), Unexpected>
+        requires { IsCaller self.old }
+        ensures stays { StaysCaller self.old self.new }
+        ensures answers { AnswersOrLacks done (calls.ReadListNotify (record { rank = rank; queue = queue; nseg = nseg; note = note; items = items.now })) (Looks 1) (length items.now) self.old result self.new }
+    {
+        let Ok(items) = Rows::copied_from(self.alloc, items) else {
+            return Err(lacks("gaspi_read_list_notify"));
+        };
+        let args = ReadListNotify {
+            rank,
+            queue,
+            nseg,
+            note,
+            items,
+        };
+        self.call_done(
+            "gaspi_read_list_notify",
+            Call::ReadListNotify(args),
+            Timeout::Looks(1),
+        )
+    }
+
+    /// Waits until all that a queue took from own memory, and all that it reads, is done. (GASPI: wait)
+    pub fn wait(&mut self, queue: u64, timeout: Timeout) -> Result<(), Unexpected>
+        requires caller { IsCaller self.old }
+        requires timeout { HasLook (looks_of timeout) }
+        ensures stays { StaysCaller self.old self.new }
+        ensures answers { Answers done (calls.Wait (record { queue = queue })) timeout self.old result self.new }
+    {
+        let args = WaitQueue { queue };
+        self.call_done("gaspi_wait", Call::Wait(args), timeout)
+    }
+
+    /// Drops what a queue still has. (GASPI: queue_purge)
+    pub fn queue_purge(&mut self, queue: u64) -> Result<(), Unexpected>
+        requires { IsCaller self.old }
+        ensures stays { StaysCaller self.old self.new }
+        ensures answers { Answers done (calls.Purge (record { queue = queue })) (Looks 1) self.old result self.new }
+    {
+        let args = Purge { queue };
+        self.call_done("gaspi_queue_purge", Call::Purge(args), Timeout::Looks(1))
+    }
+
+    /// How many entries a queue has open. (GASPI: queue_size)
+    pub fn queue_size(&mut self, queue: u64) -> Result<u64, Unexpected>
+        requires { IsCaller self.old }
+        ensures stays { StaysCaller self.old self.new }
+        ensures answers { Answers replies.Value (calls.Qsize (record { queue = queue })) (Looks 1) self.old result self.new }
+    {
+        let args = Qsize { queue };
+        self.call_value("gaspi_queue_size", Call::Qsize(args), Timeout::Looks(1))
+    }
+
+    /// Waits for a notification in a range of slots: the number of its slot. (GASPI: notify_waitsome)
+    pub fn notify_waitsome(
+        &mut self,
+        seg: u64,
+        begin: u64,
+        num: u64,
+        timeout: Timeout,
+    ) -> Result<u64, Unexpected>
+        requires caller { IsCaller self.old }
+        requires timeout { HasLook (looks_of timeout) }
+        ensures stays { StaysCaller self.old self.new }
+        ensures answers { Answers replies.Id (calls.Waitsome (record { seg = seg; begin = begin; num = num })) timeout self.old result self.new }
+    {
+        let args = Waitsome { seg, begin, num };
+        self.call_id("gaspi_notify_waitsome", Call::Waitsome(args), timeout)
+    }
+
+    /// Reads a slot and sets it to 0. (GASPI: notify_reset)
+    pub fn notify_reset(&mut self, seg: u64, note: u64) -> Result<u64, Unexpected>
+        requires { IsCaller self.old }
+        ensures stays { StaysCaller self.old self.new }
+        ensures answers { Answers replies.Value (calls.Reset (record { seg = seg; note = note })) (Looks 1) self.old result self.new }
+    {
+        let args = Reset { seg, note };
+        self.call_value("gaspi_notify_reset", Call::Reset(args), Timeout::Looks(1))
+    }
+
+    /// Sends a message to a rank. (GASPI: passive_send)
+    pub fn passive_send(
+        &mut self,
+        seg: u64,
+        offset: u64,
+        rank: u64,
+        size: u64,
+        timeout: Timeout,
+    ) -> Result<(), Unexpected>
+        requires caller { IsCaller self.old }
+        requires timeout { HasLook (looks_of timeout) }
+        ensures stays { StaysCaller self.old self.new }
+        ensures answers { Answers done (calls.PassiveSend (record { seg = seg; offset = offset; rank = rank; size = size })) timeout self.old result self.new }
+    {
+        let args = PassiveSend {
+            seg,
+            offset,
+            rank,
+            size,
+        };
+        self.call_done("gaspi_passive_send", Call::PassiveSend(args), timeout)
+    }
+
+    /// Receives a message: the rank that sent it. (GASPI: passive_receive)
+    pub fn passive_receive(
+        &mut self,
+        seg: u64,
+        offset: u64,
+        size: u64,
+        timeout: Timeout,
+    ) -> Result<u64, Unexpected>
+        requires caller { IsCaller self.old }
+        requires timeout { HasLook (looks_of timeout) }
+        ensures stays { StaysCaller self.old self.new }
+        ensures answers { Answers replies.Id (calls.PassiveReceive (record { seg = seg; offset = offset; size = size })) timeout self.old result self.new }
+    {
+        let args = PassiveReceive { seg, offset, size };
+        self.call_id("gaspi_passive_receive", Call::PassiveReceive(args), timeout)
+    }
+
+    /// Adds to a word of a rank, and answers what it was. (GASPI: atomic_fetch_add)
+    pub fn atomic_fetch_add(
+        &mut self,
+        seg: u64,
+        offset: u64,
+        rank: u64,
+        value: u64,
+    ) -> Result<u64, Unexpected>
+        requires { IsCaller self.old }
+        ensures stays { StaysCaller self.old self.new }
+        ensures answers { Answers replies.Value (calls.FetchAdd (record { seg = seg; offset = offset; rank = rank; value = value })) (Looks 1) self.old result self.new }
+    {
+        let args = FetchAdd {
+            seg,
+            offset,
+            rank,
+            value,
+        };
+        self.call_value(
+            "gaspi_atomic_fetch_add",
+            Call::FetchAdd(args),
+            Timeout::Looks(1),
+        )
+    }
+
+    /// Replaces a word of a rank where it is the comparator, and answers what it was. (GASPI: atomic_compare_swap)
+    pub fn atomic_compare_swap(
+        &mut self,
+        seg: u64,
+        offset: u64,
+        rank: u64,
+        comparator: u64,
+        new: u64,
+    ) -> Result<u64, Unexpected>
+        requires { IsCaller self.old }
+        ensures stays { StaysCaller self.old self.new }
+        ensures answers { Answers replies.Value (calls.CompareSwap (record { seg = seg; offset = offset; rank = rank; comparator = comparator; new = new })) (Looks 1) self.old result self.new }
+    {
+        let args = CompareSwap {
+            seg,
+            offset,
+            rank,
+            comparator,
+            new,
+        };
+        self.call_value(
+            "gaspi_atomic_compare_swap",
+            Call::CompareSwap(args),
+            Timeout::Looks(1),
+        )
+    }
+
+    /// Makes a group: its number. (GASPI: group_create)
+    pub fn group_create(&mut self) -> Result<u64, Unexpected>
+        requires { IsCaller self.old }
+        ensures stays { StaysCaller self.old self.new }
+        ensures answers { Answers replies.Id calls.GroupCreate (Looks 1) self.old result self.new }
+    {
+        self.call_id("gaspi_group_create", Call::GroupCreate, Timeout::Looks(1))
+    }
+
+    /// Adds a rank to a group. (GASPI: group_add)
+    pub fn group_add(&mut self, group: u64, rank: u64) -> Result<(), Unexpected>
+        requires { IsCaller self.old }
+        ensures stays { StaysCaller self.old self.new }
+        ensures answers { Answers done (calls.GroupAdd (record { group = group; rank = rank })) (Looks 1) self.old result self.new }
+    {
+        let args = GroupAdd { group, rank };
+        self.call_done("gaspi_group_add", Call::GroupAdd(args), Timeout::Looks(1))
+    }
+
+    /// Deletes a group. (GASPI: group_delete)
+    pub fn group_delete(&mut self, group: u64) -> Result<(), Unexpected>
+        requires { IsCaller self.old }
+        ensures stays { StaysCaller self.old self.new }
+        ensures answers { Answers done (calls.GroupDelete (record { group = group })) (Looks 1) self.old result self.new }
+    {
+        let args = GroupDelete { group };
+        self.call_done(
+            "gaspi_group_delete",
+            Call::GroupDelete(args),
+            Timeout::Looks(1),
+        )
+    }
+
+    /// Commits a group: a collective. (GASPI: group_commit)
+    pub fn group_commit(&mut self, group: u64, timeout: Timeout) -> Result<(), Unexpected>
+        requires caller { IsCaller self.old }
+        requires timeout { HasLook (looks_of timeout) }
+        ensures stays { StaysCaller self.old self.new }
+        ensures answers { Answers done (calls.Commit (record { group = group })) timeout self.old result self.new }
+    {
+        let args = Commit { group };
+        self.call_done("gaspi_group_commit", Call::Commit(args), timeout)
+    }
+
+    /// Meets all members of a group. (GASPI: barrier)
+    pub fn barrier(&mut self, group: u64, timeout: Timeout) -> Result<(), Unexpected>
+        requires caller { IsCaller self.old }
+        requires timeout { HasLook (looks_of timeout) }
+        ensures stays { StaysCaller self.old self.new }
+        ensures answers { Answers done (calls.Barrier (record { group = group })) timeout self.old result self.new }
+    {
+        let args = Barrier { group };
+        self.call_done("gaspi_barrier", Call::Barrier(args), timeout)
+    }
+
+    /// Reduces the numbers of all members of a group, which are in the range of their type. (GASPI: allreduce)
+    pub fn allreduce(
+        &mut self,
+        numbers: &[i128],
+        op: Op,
+        num_type: NumType,
+        group: u64,
+        timeout: Timeout,
+    ) -> Result<Numbers, Unexpected>
+        requires caller { IsCaller self.old }
+        requires timeout { HasLook (looks_of timeout) }
+        requires range { AreInType num_type numbers.now }
+        ensures stays { StaysCaller self.old self.new }
+        ensures answers { AnswersOrLacks replies.List (calls.Allreduce (record { group = group; op = op; values = record { num_type = num_type; items = numbers.now } })) timeout (length numbers.now) self.old result self.new }
+    {
+        let Ok(items) = Rows::copied_from(self.alloc, numbers) else {
+            return Err(lacks("gaspi_allreduce"));
+        };
+        let values = Numbers::new(num_type, items);
+        let args = Allreduce { group, op, values };
+        self.call_numbers("gaspi_allreduce", Call::Allreduce(args), timeout)
+    }
+
+    /// Which ranks are corrupt for the own rank: bit r for rank r. (GASPI: state_vec_get)
+    pub fn state_vec_get(&mut self) -> Result<u32, Unexpected>
+        requires { IsCaller self.old }
+        ensures stays { StaysCaller self.old self.new }
+        ensures answers { Answers replies.Mask calls.State (Looks 1) self.old result self.new }
+    {
+        self.call_mask("gaspi_state_vec_get", Call::State, Timeout::Looks(1))
+    }
+}
