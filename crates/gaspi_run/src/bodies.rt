@@ -1,6 +1,6 @@
 //! Callers as bodies of a world's threads. (own choice)
 
-use crate::running::{end, run_lines};
+use crate::script_runs::{end, run_lines};
 use gaspi_world::{Body, Pass, World, waits_on};
 use rank_script::{Cursor, RunOutcome, Script, runs};
 use std::alloc::Global;

@@ -2,7 +2,7 @@ use Rattle.std.proofs.Common.{refl, subst}
 use Rattle.gaspi_types.specs.World.{IsWorld}
 use Rattle.gaspi_types.specs.declared.calls.Timeout.TheVariants.{Looks}
 use Rattle.gaspi_run.proofs.Ending.{ends-done}
-use Rattle.gaspi_run.proofs.running.end.Goals as goal
+use Rattle.gaspi_run.proofs.script_runs.end.Goals as goal
 
 pub returns-clause-ends : goal.returns-clause-ends
 returns-clause-ends g c = λ caller is active.

@@ -2,7 +2,7 @@ use Rattle.std.proofs.Common.{◌≡◌}
 use Rattle.commit_table.specs.Calls.{HoldsNone}
 use Rattle.gaspi_run.specs.SoFar.{HasComeTo}
 use Rattle.gaspi_run.proofs.GoingOn.{AllLeft, IsUsable, left}
-use Rattle.gaspi_run.proofs.running.run_lines.Given as goal
+use Rattle.gaspi_run.proofs.script_runs.run_lines.Given as goal
 
 abbrev pub invariant-loop-call : goal.invariant-loop-call
 invariant-loop-call g l =

@@ -3,7 +3,7 @@ use Rattle.rank_script.specs.Runs.{Progress}
 use Rattle.gaspi_run.specs.Looks.{bounded}
 use Rattle.gaspi_run.specs.SoFar.{HasComeTo}
 use Rattle.gaspi_run.proofs.GoingOn.{AllLeft, IsUsable, left, comes-first, usable-first, left-smaller, all-left, comes-next}
-use Rattle.gaspi_run.proofs.running.run_lines.Goals as goal
+use Rattle.gaspi_run.proofs.script_runs.run_lines.Goals as goal
 
 pub loop-call-init : goal.loop-call-init
 loop-call-init g c =
